@@ -1,0 +1,8 @@
+pub mod Decimals
+pub mod formers
+pub mod Outside
+pub mod Slots
+pub mod Shelf
+pub mod Pages
+pub mod SinkInMemory
+pub mod InMemory

@@ -1,0 +1,44 @@
+-- What the objects of the outside tell, and what their calls do to it.
+use Rattle.std.specs.Prelude.{◌≡◌, ℕ, ◌<◌, ◌≤◌, Bool, true, false, List, [], ◌∷◌, ◌++◌, length, take, Result, Option, OnOk, OnErr, option_map}
+
+-- A failure has a cause: the count rose in this call. Ok leaves it.
+pub record HasCause {A E : Type 0} (before now : ℕ) (result : Result A E) : Type 0 where
+  pub ok : OnOk result (now ≡ before)
+  pub failed : OnErr result (before < now)
+
+-- a read of n bytes into a buffer, from what is left of the page: none exactly at its end
+pub record ReadsFrom (rest buf : List ℕ) (n : ℕ) : Type 0 where
+  pub within : n ≤ length rest
+  pub bytes : take n buf ≡ take n rest
+  pub end : n ≡ 0 → rest ≡ []
+
+-- a target that was begun
+pub record Begun : Type 0 where
+  pub dir : List ℕ
+  pub name : List ℕ
+  pub bytes : List ℕ
+  pub finished : Bool
+
+-- a target as begin leaves it
+abbrev pub begun : List ℕ → List ℕ → Begun
+begun dir name = record { dir = dir; name = name; bytes = []; finished = false }
+
+-- the last target has taken these bytes too, and the others are the same
+abbrev pub last_grown : List ℕ → List Begun → List Begun
+last_grown piece [] = []
+last_grown piece (t ∷ []) = record t { bytes = t.bytes ++ piece } ∷ []
+last_grown piece (t ∷ u ∷ ts) = t ∷ last_grown piece (u ∷ ts)
+
+-- the last target is finished, and the others are the same
+abbrev pub last_finished : List Begun → List Begun
+last_finished [] = []
+last_finished (t ∷ []) = record t { finished = true } ∷ []
+last_finished (t ∷ u ∷ ts) = t ∷ last_finished (u ∷ ts)
+
+-- the last target gained some front of these bytes
+abbrev pub GainsFront : List ℕ → Option (List Begun) → Option (List Begun) → Type 0
+GainsFront bytes old new = (n : ℕ) × (new ≡ option_map (last_grown (take n bytes)) old)
+
+-- a text gained some front of these bytes
+abbrev pub TextGainsFront : List ℕ → Option (List ℕ) → Option (List ℕ) → Type 0
+TextGainsFront bytes old new = (n : ℕ) × (new ≡ option_map (λ t. t ++ take n bytes) old)

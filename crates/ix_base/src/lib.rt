@@ -1,0 +1,35 @@
+//! What every crate stands on: texts and lists, the content of an instance, rules and places, the outside and objects
+//! in memory that stand in for it.
+#![tactic(auto)]
+
+mod content;
+mod list;
+pub mod memory;
+pub mod outside;
+mod text;
+
+pub use content::{
+    Accuracy, Arc, Content, Context, Dim, Fact, Footnote, Item, Linkbase, Member, NoteLink,
+    OwnName, Period, RoleRef, Tuple, Unit, Value,
+};
+pub use list::List;
+use std::alloc::{AllocError, AllocFailed};
+pub use text::Text;
+use thiserror::Error;
+
+/// Want of memory.
+#[derive(Clone, Copy, Debug, PartialEq, Eq, Error)]
+#[error("no memory is left")]
+pub struct NoMemory;
+
+impl From<AllocError> for NoMemory {
+    fn from(_error: AllocError) -> NoMemory {
+        NoMemory
+    }
+}
+
+impl<T: Drop> From<AllocFailed<T>> for NoMemory {
+    fn from(_error: AllocFailed<T>) -> NoMemory {
+        NoMemory
+    }
+}

@@ -1,0 +1,109 @@
+//! Pages come from a source, and targets and texts go to sinks.
+ghost use Rattle.std.specs.Prelude.{◌≡◌, ◌++◌, ◌∷◌, [], ◌+◌, ◌^◌, ◌<◌, ◌≤◌, ℕ, List, Bool, true, Option, OnOk, OnErr, IfOk, IfSome, IsTrue, is_ok, is_err, length, drop, option_map};
+ghost use Rattle.ix_base.specs.Outside.{HasCause, ReadsFrom, Begun, begun, last_grown, last_finished, GainsFront, TextGainsFront};
+
+use thiserror::Error;
+
+/// A call of the outside failed.
+#[derive(Clone, Copy, Debug, PartialEq, Eq, Error)]
+#[error("a call of the outside failed")]
+pub struct Failed;
+
+pub trait PageSource {
+    /// How often it has failed. It never falls.
+    ghost faults: { Self → ℕ };
+
+    /// The bytes of the page of a name, where it tells them.
+    ghost page: { Self → List ℕ → Option (List ℕ) };
+
+    /// What is left of the started page, where it tells it.
+    ghost left: { Self → Option (List ℕ) };
+
+    /// Whether the last `start` answered Ok.
+    ghost started: { Self → Bool };
+
+    /// The name that the last `start` asked for, where it tells it.
+    ghost asked: { Self → Option (List ℕ) };
+
+    /// Begins a page at its first byte.
+    fn start(&mut self, name: &str) -> Result<(), Failed>
+        requires count { faults self.old + 1 < 2 ^ 64 }
+        requires name { length name.now ≤ 4096 }
+        ensures cause { HasCause (faults self.old) (faults self.new) result }
+        ensures pages { page self.new ≡ page self.old }
+        ensures started { started self.new ≡ is_ok result }
+        ensures asked { IfSome (asked self.new) (λ n. n ≡ name.now) }
+        ensures left { OnOk result (left self.new ≡ page self.old name.now) };
+
+    /// Reads between 1 and `buf.len()` bytes of what is left, or 0 exactly at the page's end.
+    fn read(&mut self, buf: &mut [u8]) -> Result<usize, Failed>
+        requires count { faults self.old + 1 < 2 ^ 64 }
+        requires started { IsTrue (started self.old) }
+        requires room { 0 < length buf.old }
+        ensures cause { HasCause (faults self.old) (faults self.new) result }
+        ensures pages { page self.new ≡ page self.old }
+        ensures started { started self.new ≡ started self.old }
+        ensures asked { asked self.new ≡ asked self.old }
+        ensures within { IfOk result (λ n. n ≤ length buf.old) }
+        ensures bytes { IfOk result (λ n. IfSome (left self.old) (λ rest. ReadsFrom rest buf.new n)) }
+        ensures left { IfOk result (λ n. left self.new ≡ option_map (drop n) (left self.old)) };
+}
+
+pub trait TargetSink {
+    /// How often it has failed. It never falls.
+    ghost faults: { Self → ℕ };
+
+    /// The targets begun, where it tells them, the last one last.
+    ghost targets: { Self → Option (List Begun) };
+
+    /// Whether the target begun last is there and unfinished.
+    ghost is_open: { Self → Bool };
+
+    /// The two words of the last `begin`, where it tells them.
+    ghost asked: { Self → Option (List ℕ × List ℕ) };
+
+    /// Adds a target with no bytes.
+    fn begin(&mut self, dir: &str, target: &str) -> Result<(), Failed>
+        requires { faults self.old + 1 < 2 ^ 64 }
+        ensures cause { HasCause (faults self.old) (faults self.new) result }
+        ensures ok { OnOk result (targets self.new ≡ option_map (λ ts. ts ++ begun dir.now target.now ∷ []) (targets self.old)) }
+        ensures err { OnErr result (targets self.new ≡ targets self.old) }
+        ensures opened { OnOk result (IsTrue (is_open self.new)) }
+        ensures kept { OnErr result (is_open self.new ≡ is_open self.old) }
+        ensures asked { IfSome (asked self.new) (λ words. words ≡ (dir.now, target.now)) };
+
+    /// Gives the target begun last a piece.
+    fn put(&mut self, piece: &[u8]) -> Result<(), Failed>
+        requires count { faults self.old + 1 < 2 ^ 64 }
+        requires opened { IsTrue (is_open self.old) }
+        ensures cause { HasCause (faults self.old) (faults self.new) result }
+        ensures ok { OnOk result (targets self.new ≡ option_map (last_grown piece.now) (targets self.old)) }
+        ensures err { OnErr result (GainsFront piece.now (targets self.old) (targets self.new)) }
+        ensures opened { IsTrue (is_open self.new) }
+        ensures asked { asked self.new ≡ asked self.old };
+
+    /// Finishes the target begun last.
+    fn finish(&mut self) -> Result<(), Failed>
+        requires count { faults self.old + 1 < 2 ^ 64 }
+        requires opened { IsTrue (is_open self.old) }
+        ensures cause { HasCause (faults self.old) (faults self.new) result }
+        ensures ok { OnOk result (targets self.new ≡ option_map last_finished (targets self.old)) }
+        ensures err { OnErr result (targets self.new ≡ targets self.old) }
+        ensures closed { is_open self.new ≡ is_err result }
+        ensures asked { asked self.new ≡ asked self.old };
+}
+
+pub trait TextSink {
+    /// How often it has failed. It never falls.
+    ghost faults: { Self → ℕ };
+
+    /// The bytes taken, where it tells them.
+    ghost taken: { Self → Option (List ℕ) };
+
+    /// Adds a piece.
+    fn put(&mut self, piece: &[u8]) -> Result<(), Failed>
+        requires { faults self.old + 1 < 2 ^ 64 }
+        ensures cause { HasCause (faults self.old) (faults self.new) result }
+        ensures ok { OnOk result (taken self.new ≡ option_map (λ t. t ++ piece.now) (taken self.old)) }
+        ensures err { OnErr result (TextGainsFront piece.now (taken self.old) (taken self.new)) };
+}

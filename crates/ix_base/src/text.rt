@@ -1,0 +1,55 @@
+//! Texts that are owned.
+ghost use Rattle.std.specs.Prelude.{◌≡◌, ◌++◌, OnOk, OnErr, IfOk};
+
+use crate::NoMemory;
+use std::alloc::Global;
+use std::convert::AsStr;
+use std::marker::Model;
+
+/// A text that is owned. Contracts see it as its bytes, in UTF-8.
+#[derive(Debug, Drop)]
+pub struct Text {
+    string: String,
+}
+
+impl Model for Text {
+    ghost use Rattle.std.specs.Prelude.{List, ℕ, string_bytes};
+
+    ghost Value = { List ℕ };
+
+    ghost view = { λ t. string_bytes t.string };
+}
+
+impl AsStr for Text {
+    ghost text = { λ t. t };
+
+    fn as_str(&self) -> &str {
+        self.string.as_str()
+    }
+}
+
+impl Text {
+    /// A copy of `s`.
+    pub fn of(alloc: Global, s: &str) -> Result<Text, NoMemory>
+        ensures { IfOk result (λ t. t ≡ s.now) }
+    {
+        let string = String::from_str(alloc, s)?;
+        Ok(Text { string })
+    }
+
+    /// The text as it stands. It takes no memory.
+    pub fn as_str(&self) -> &str
+        ensures { result.now ≡ self.now }
+    {
+        self.string.as_str()
+    }
+
+    /// Appends `s`. After a refusal the text is as before.
+    pub fn push(&mut self, s: &str) -> Result<(), NoMemory>
+        ensures ok { OnOk result (self.new ≡ self.old ++ s.now) }
+        ensures err { OnErr result (self.new ≡ self.old) }
+    {
+        self.string.push_str(s)?;
+        Ok(())
+    }
+}
