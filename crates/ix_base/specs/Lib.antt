@@ -1,8 +1,12 @@
+pub mod Days
 pub mod Decimals
+pub mod Escapes
+pub mod Facts
 pub mod formers
-pub mod Outside
-pub mod Slots
-pub mod Shelf
-pub mod Pages
-pub mod SinkInMemory
 pub mod InMemory
+pub mod Outside
+pub mod Pages
+pub mod Shelf
+pub mod SinkInMemory
+pub mod Slots
+pub mod Written

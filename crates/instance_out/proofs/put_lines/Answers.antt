@@ -1,0 +1,34 @@
+use Rattle.std.proofs.Common.{◌≡◌, ◌∙◌, sym, refl, add-one, get_or, take, length, ◌<◌, arith}
+use Rattle.std.proofs.lemmas.Result.{err_from_is_err_and}
+use Rattle.std.specs.List.{concat}
+use Rattle.instance_out.proofs.Grown.{grown_none, grown_twice, concat_next, front_grown}
+use Rattle.instance_out.proofs.put_lines.Goals as goal
+
+pub loop-line-init : goal.loop-line-init
+loop-line-init g c = record { faults = refl; is_open = c.requires.opened; targets = sym (grown_none _); asked = refl }
+
+pub returns-in_err-put-clause-err : goal.returns-in_err-put-clause-err
+returns-in_err-put-clause-err g c =
+    let p = err_from_is_err_and c.from_residual.result c.from_residual.ensures.1 in
+    let lines = c.args.lines.now in
+    let i = c.loop-line.line-index in
+    let d = c.line-item.result in
+    let piece : c.as_bytes.result.now ≡ get_or lines i d = c.as_bytes.ensures.value ∙ c.as_str.ensures ∙ c.line-item.is in
+    let below : i < length lines = omega arith in
+    let gains = c.in_err-put.ensures.err in
+    let was = c.loop-line.invariant.targets in
+    rw (p.1)
+    (front_grown lines i d (g.S.TargetSink.targets c.args.sink.now) (g.S.TargetSink.targets c.put.new.self) below (gains.0, gains.1 ∙ rw (piece, was) refl))
+
+pub loop-line-preserved : goal.loop-line-preserved
+loop-line-preserved g c =
+    let lines = c.args.lines.now in
+    let i = c.loop-line.line-index in
+    let d = c.line-item.result in
+    let piece : c.as_bytes.result.now ≡ get_or lines i d = c.as_bytes.ensures.value ∙ c.as_str.ensures ∙ c.line-item.is in
+    let below : i < length lines = omega arith in
+    let next = concat_next lines i d below in
+    let twice = grown_twice (concat (take i lines)) (get_or lines i d) (g.S.TargetSink.targets c.args.sink.now) in
+    let put = c.in_ok-put.ensures in
+    let inv = c.loop-line.invariant in
+    record { faults = put.cause.ok ∙ inv.faults; is_open = put.opened; targets = put.ok ∙ rw (piece, inv.targets, add-one, next) twice; asked = put.asked ∙ inv.asked }

@@ -1,0 +1,4 @@
+pub mod Canonical
+pub mod Moments
+pub mod Prefixes
+pub mod Writable

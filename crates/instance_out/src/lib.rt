@@ -1,0 +1,77 @@
+//! The canonical text of a content, line by line, and its writing.
+#![tactic(auto)]
+
+ghost use Rattle.std.specs.Prelude.{◌≡◌, ◌+◌, ◌^◌, ◌<◌, IsTrue, length, OnOk, OnErr, IfOk, option_map};
+ghost use Rattle.std.specs.List.{concat};
+ghost use Rattle.ix_base.specs.Outside.{HasCause, last_grown, GainsFront};
+ghost use Rattle.instance_out.specs.Canonical.{canon_lines};
+ghost use Rattle.instance_out.specs.Writable.{IsWritable};
+
+use ix_base::outside::{Failed, TargetSink};
+use ix_base::{Content, List, NoMemory, Text};
+use std::alloc::Global;
+use std::marker::Model;
+
+/// The canonical text of a content, ready to be written: its lines, each with its line feed.
+#[derive(Drop)]
+pub struct Prepared {
+    lines: List<Text>,
+    len: u64,
+}
+
+impl Model for Prepared {
+    ghost use Rattle.std.specs.Prelude.{◌≡◌, List as Items, ℕ, length};
+    ghost use Rattle.std.specs.List.{concat};
+
+    ghost Value = { Items (Items ℕ) };
+
+    ghost view = { λ p. p.lines };
+
+    ghost invariant = { λ p. p.len ≡ length (concat p.lines) };
+}
+
+impl Prepared {
+    /// How many bytes the whole text has. It takes no memory.
+    pub fn len(&self) -> u64
+        ensures { result ≡ length (concat self.now) }
+    {
+        self.len
+    }
+}
+
+/// Prepares the canonical text of a content.
+pub fn prepare(alloc: Global, content: &Content) -> Result<Prepared, NoMemory>
+    requires { IsWritable content.now }
+    ensures { IfOk result (λ p. p ≡ canon_lines content.now) }
+{
+    Err(NoMemory)
+}
+
+/// Puts each line into the target begun last, one piece for each line. It takes no memory.
+pub fn write<S: TargetSink>(prepared: &Prepared, sink: &mut S) -> Result<(), Failed>
+    requires count { S.faults sink.old + 1 < 2 ^ 64 }
+    requires opened { IsTrue (S.is_open sink.old) }
+    ensures cause { HasCause (S.faults sink.old) (S.faults sink.new) result }
+    ensures ok { OnOk result (S.targets sink.new ≡ option_map (last_grown (concat prepared.now)) (S.targets sink.old)) }
+    ensures err { OnErr result (GainsFront (concat prepared.now) (S.targets sink.old) (S.targets sink.new)) }
+    ensures opened { IsTrue (S.is_open sink.new) }
+    ensures asked { S.asked sink.new ≡ S.asked sink.old }
+{
+    put_lines(prepared.lines.as_slice(), sink)
+}
+
+/// Puts lines into the target begun last, one piece for each.
+fn put_lines<S: TargetSink>(lines: &[Text], sink: &mut S) -> Result<(), Failed>
+    requires count { S.faults sink.old + 1 < 2 ^ 64 }
+    requires opened { IsTrue (S.is_open sink.old) }
+    ensures cause { HasCause (S.faults sink.old) (S.faults sink.new) result }
+    ensures ok { OnOk result (S.targets sink.new ≡ option_map (last_grown (concat lines.now)) (S.targets sink.old)) }
+    ensures err { OnErr result (GainsFront (concat lines.now) (S.targets sink.old) (S.targets sink.new)) }
+    ensures opened { IsTrue (S.is_open sink.new) }
+    ensures asked { S.asked sink.new ≡ S.asked sink.old }
+{
+    for line in lines {
+        sink.put(line.as_str().as_bytes())?;
+    }
+    Ok(())
+}
