@@ -7,8 +7,7 @@ ghost use Rattle.ix_base.specs.Outside.{HasCause, last_grown, GainsFront};
 ghost use Rattle.instance_out.specs.Canonical.{canon_lines};
 ghost use Rattle.instance_out.specs.Writable.{IsWritable};
 
-use ix_base::outside::{Failed, TargetSink};
-use ix_base::{Content, List, NoMemory, Text};
+use ix_base::{Content, Failed, List, NoMemory, TargetSink, Text};
 use std::alloc::Global;
 use std::marker::Model;
 

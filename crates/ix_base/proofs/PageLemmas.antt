@@ -1,6 +1,6 @@
 -- Look-ups in pages.
 use Rattle.std.proofs.Common.{◌≡◌, ℕ, zero, suc, ◌<◌, List, [], ◌∷◌, length, get_or, drop, Some, true, bytes_eq, refl, arith}
-use Rattle.ix_base.specs.declared.memory.MemPage.{MemPage}
+use Rattle.ix_base.specs.declared.memory.pages.MemPage.{MemPage}
 use Rattle.ix_base.specs.Pages.{page_of, bytes_at}
 
 pub bytes_at_read : (ps : List MemPage) (i : ℕ) (d : MemPage) → i < length ps → bytes_at ps i ≡ (get_or ps i d).bytes

@@ -7,7 +7,7 @@ use Rattle.std.proofs.Math.Seq.{take-length, take-append_seam, drop-append_seam}
 use Rattle.std.specs.List.{list_all, slice_range}
 use Rattle.ix_base.specs.Outside.{Begun, begun, last_grown, last_finished}
 use Rattle.ix_base.specs.Slots.{is_within, target_at, targets_at}
-use Rattle.ix_base.specs.declared.memory.targets.Slot.{Slot}
+use Rattle.ix_base.specs.declared.memory.shelf.Slot.{Slot}
 
 pub record Within (n : ℕ) (s : Slot) : Type 0 where
   pub dir : s.dir ≤ s.name

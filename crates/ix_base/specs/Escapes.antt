@@ -1,6 +1,6 @@
 -- How characters of texts and of attribute values are written (XML 1.0, sections 2.4 and 3.3.3): each by its reference,
 -- where it has one in the table, and else as itself.
-use Rattle.std.specs.Prelude.{ℕ, ◌==◌, List, [], ◌∷◌, ◌++◌, Option, Some, None, if◌then◌else◌, codes}
+use Rattle.std.specs.Prelude.{◌≡◌, ℕ, ◌==◌, List, [], ◌∷◌, ◌++◌, Option, Some, None, if◌then◌else◌, codes, take, encode_utf8}
 
 -- what stands behind `&` in the reference of a character of a text
 abbrev pub te_ref : ℕ → Option (List ℕ)
@@ -20,12 +20,24 @@ abbrev pub put : Option (List ℕ) → ℕ → List ℕ → List ℕ
 put None c more = c ∷ more
 put (Some reference) c more = 38 ∷ (reference ++ more)
 
+-- characters or bytes, each by its reference in a table or as itself
+abbrev pub escaped : (ℕ → Option (List ℕ)) → List ℕ → List ℕ
+escaped table [] = []
+escaped table (c ∷ cs) = put (table c) c (escaped table cs)
+
 -- a text as it is written
 abbrev pub te : List ℕ → List ℕ
-te [] = []
-te (c ∷ cs) = put (te_ref c) c (te cs)
+te = escaped te_ref
 
 -- an attribute's value as it is written
 abbrev pub ae : List ℕ → List ℕ
-ae [] = []
-ae (c ∷ cs) = put (ae_ref c) c (ae cs)
+ae = escaped ae_ref
+
+-- what a character that has this whole reference is written as
+abbrev pub written_as : ℕ → Option (List ℕ) → List ℕ
+written_as c None = encode_utf8 c
+written_as c (Some reference) = reference
+
+-- a text gained a front of these bytes
+abbrev pub GainsFront : List ℕ → List ℕ → List ℕ → Type 0
+GainsFront bytes old new = (n : ℕ) × (new ≡ old ++ take n bytes)

@@ -1,12 +1,15 @@
+pub mod Calls
 pub mod Days
 pub mod Decimals
 pub mod Escapes
 pub mod Facts
 pub mod formers
-pub mod InMemory
+pub mod MemPages
+pub mod MemTargets
+pub mod MemText
 pub mod Outside
 pub mod Pages
+pub mod Rules
 pub mod Shelf
-pub mod SinkInMemory
 pub mod Slots
 pub mod Written

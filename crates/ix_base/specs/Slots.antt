@@ -1,7 +1,7 @@
 -- Targets that lie in one list of bytes.
 use Rattle.std.specs.Prelude.{ℕ, Bool, ◌&&◌, nat_le, List, [], ◌∷◌, ◌++◌, map, slice_range, if◌then◌else◌}
 use Rattle.ix_base.specs.Outside.{Begun}
-use Rattle.ix_base.specs.declared.memory.targets.Slot.{Slot}
+use Rattle.ix_base.specs.declared.memory.shelf.Slot.{Slot}
 
 -- the places rise, up to n
 abbrev pub is_within : ℕ → Slot → Bool

@@ -3,16 +3,24 @@
 #![tactic(auto)]
 
 mod content;
+mod escape;
 mod list;
-pub mod memory;
-pub mod outside;
+mod memory;
+mod outside;
+mod place;
+mod rule;
 mod text;
 
 pub use content::{
     Accuracy, Arc, Content, Context, Dim, Fact, Footnote, Item, Linkbase, Member, NoteLink,
     OwnName, Period, RoleRef, Tuple, Unit, Value,
 };
+pub use escape::{push_ae, push_te};
 pub use list::List;
+pub use memory::{MemPage, MemPages, MemTargets, MemText};
+pub use outside::{Failed, PageSource, TargetSink, TextSink};
+pub use place::Place;
+pub use rule::Rule;
 use std::alloc::{AllocError, AllocFailed};
 pub use text::Text;
 use thiserror::Error;

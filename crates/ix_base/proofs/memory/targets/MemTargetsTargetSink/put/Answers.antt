@@ -1,5 +1,5 @@
 use Rattle.std.proofs.Common.{◌≡◌, ap, sym, Some, [], rules}
-use Rattle.ix_base.specs.SinkInMemory.{put_takes}
+use Rattle.ix_base.specs.MemTargets.{put_takes}
 use Rattle.ix_base.proofs.SlotLemmas.{grown_none}
 use Rattle.ix_base.proofs.memory.targets.MemTargetsTargetSink.put.Goals as goal
 

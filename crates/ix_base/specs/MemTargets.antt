@@ -1,8 +1,9 @@
 -- What targets in memory tell, and exactly where their calls fail.
-use Rattle.std.specs.Prelude.{◌≡◌, ℕ, ◌+◌, ◌-◌, Bool, ◌&&◌, ◌||◌, ◌==◌, not, nat_lt, List, [], length, take, drop, Option, Some, None, if◌then◌else◌}
-use Rattle.ix_base.specs.Outside.{Begun}
+use Rattle.std.specs.Prelude.{◌≡◌, ℕ, ◌+◌, ◌-◌, Bool, ◌&&◌, ◌||◌, ◌==◌, not, false, nat_lt, List, [], length, take, drop, Option, Some, None, option_map, if◌then◌else◌}
+use Rattle.std.specs.Option.{option_map_or}
+use Rattle.ix_base.specs.Calls.{is_listed}
+use Rattle.ix_base.specs.Outside.{Begun, first_named}
 use Rattle.ix_base.specs.Shelf.{shelf_targets}
-use Rattle.ix_base.specs.InMemory.{is_listed}
 use Rattle.ix_base.specs.declared.memory.Calls.{Calls}
 use Rattle.ix_base.specs.declared.memory.targets.MemTargets.{MemTargets}
 
@@ -11,6 +12,14 @@ sink_faults m = m.calls.faults
 
 abbrev pub sink_targets : MemTargets → List Begun
 sink_targets m = shelf_targets m.shelf
+
+-- the bytes of the first target of this name
+abbrev pub sink_taken : MemTargets → List ℕ → Option (List ℕ)
+sink_taken m name = option_map (λ t. t.bytes) (first_named name (sink_targets m))
+
+-- the first target of this name is there and finished
+abbrev pub sink_finished : MemTargets → List ℕ → Bool
+sink_finished m name = option_map_or (λ t. t.finished) (first_named name (sink_targets m)) false
 
 abbrev pub sink_is_open : MemTargets → Bool
 sink_is_open m = m.shelf.any && not m.shelf.last.finished

@@ -1,6 +1,6 @@
 use Rattle.std.proofs.Common.{◌≡◌, length, rules}
 use Rattle.ix_base.proofs.SlotLemmas.{each_grown, last_grown_within, grown_as}
-use Rattle.ix_base.proofs.memory.targets.Shelf.grow.Goals as goal
+use Rattle.ix_base.proofs.memory.shelf.Shelf.grow.Goals as goal
 
 pub invariant_of-self : goal.invariant_of-self
 invariant_of-self c =

@@ -1,6 +1,6 @@
 use Rattle.std.proofs.Common.{◌≡◌, ◌∙◌, ap, length, rules, append_assoc, ◌++◌}
 use Rattle.ix_base.proofs.SlotLemmas.{added_each, added_within, added_as}
-use Rattle.ix_base.proofs.memory.targets.Shelf.add.Goals as goal
+use Rattle.ix_base.proofs.memory.shelf.Shelf.add.Goals as goal
 
 pub invariant_of-self : goal.invariant_of-self
 invariant_of-self c =

@@ -1,6 +1,6 @@
 use Rattle.std.proofs.Common.{◌≡◌, get_or}
 use Rattle.ix_base.proofs.PageLemmas.{bytes_at_read}
-use Rattle.ix_base.proofs.memory.page_bytes.Goals as goal
+use Rattle.ix_base.proofs.memory.pages.page_bytes.Goals as goal
 
 pub returns : goal.returns
 returns c =

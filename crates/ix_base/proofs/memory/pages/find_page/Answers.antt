@@ -1,6 +1,6 @@
 use Rattle.std.proofs.Common.{◌≡◌, ◌∙◌, true, bytes_eq, get_or, rules}
 use Rattle.ix_base.proofs.PageLemmas.{page_found}
-use Rattle.ix_base.proofs.memory.find_page.Goals as goal
+use Rattle.ix_base.proofs.memory.pages.find_page.Goals as goal
 
 pub returns-then-eq : goal.returns-then-eq
 returns-then-eq c =

@@ -1,0 +1,188 @@
+//! Pages in memory.
+ghost use Rattle.std.specs.Prelude.{◌≡◌, ◌+◌, ◌^◌, ◌<◌, ◌≤◌, Some, None, true, false, IsTrue, MatchOption, take, drop, is_ok, OnOk, OnErr, IfOk, IfSome, is_err, option_map, vec_len, length};
+ghost use Rattle.ix_base.specs.Outside.{HasCause, ReadsFrom};
+ghost use Rattle.ix_base.specs.Pages.{page_of, bytes_at};
+
+use super::Calls;
+use crate::outside::{Failed, PageSource};
+use crate::{List, Text};
+
+/// A page in memory.
+#[derive(Drop)]
+pub struct MemPage {
+    pub name: Text,
+    pub bytes: List<u8>,
+}
+
+/// Pages in memory. Of two pages of one name the first counts, and a read gives at most so many bytes.
+#[derive(Drop)]
+pub struct MemPages {
+    calls: Calls,
+    pages: Vec<MemPage>,
+    step: usize,
+    started: bool,
+    index: usize,
+    offset: usize,
+    asked: [u8; 4096],
+    asked_len: usize,
+    ghost steps: { 0 < step },
+    ghost kept: { asked_len ≤ 4096 },
+    ghost there: { started ≡ true → index < vec_len pages },
+    ghost within: { started ≡ true → offset ≤ length (bytes_at pages.items index) },
+}
+
+impl MemPages {
+    ghost use Rattle.ix_base.specs.Calls.{no_calls};
+    ghost use Rattle.ix_base.specs.MemPages.{pages_faults, pages_page, pages_left, pages_started, pages_asked, pages_calls, pages_step};
+
+    /// These pages, of which none is started. The calls of these numbers fail. It takes no memory.
+    pub fn new(pages: Vec<MemPage>, step: usize, fails: Vec<u64>) -> MemPages
+        requires { 0 < step }
+        ensures fresh { pages_faults result ≡ 0 }
+        ensures pages { pages_page result ≡ page_of pages.items }
+        ensures calls { pages_calls result ≡ no_calls fails }
+        ensures step { pages_step result ≡ step }
+        ensures started { pages_started result ≡ false }
+    {
+        MemPages {
+            calls: Calls::new(fails),
+            pages,
+            step,
+            started: false,
+            index: 0,
+            offset: 0,
+            asked: [0; 4096],
+            asked_len: 0,
+        }
+    }
+
+    /// What the trait's words mean for pages in memory.
+    pub fn tells(&self)
+        ensures faults { ⟦<MemPages as PageSource>⟧.faults self.now ≡ pages_faults self.now }
+        ensures page { ⟦<MemPages as PageSource>⟧.page self.now ≡ pages_page self.now }
+        ensures left { ⟦<MemPages as PageSource>⟧.left self.now ≡ pages_left self.now }
+        ensures started { ⟦<MemPages as PageSource>⟧.started self.now ≡ pages_started self.now }
+        ensures asked { ⟦<MemPages as PageSource>⟧.asked self.now ≡ pages_asked self.now }
+    {}
+}
+
+/// The index of the first page of a name.
+fn find_page(pages: &[MemPage], name: &str) -> Option<usize>
+    ensures { MatchOption result (page_of pages.now name.now ≡ None)
+        (λ i. (i < length pages.now) × (page_of pages.now name.now ≡ Some (bytes_at pages.now i))) }
+{
+    for (i, page) in pages.iter().enumerate() {
+        if page.name.as_str() == name {
+            return Some(i);
+        }
+    }
+    None
+}
+
+/// The bytes of a page.
+fn page_bytes(pages: &[MemPage], index: usize) -> &[u8]
+    requires { index < length pages.now }
+    ensures { result.now ≡ bytes_at pages.now index }
+{
+    pages[index].bytes.as_slice()
+}
+
+/// Copies what is left of a page from an offset on, at most `step` bytes.
+fn copy_from(page: &[u8], offset: usize, step: usize, buf: &mut [u8]) -> usize
+    requires offset { offset ≤ length page.now }
+    requires step { 0 < step }
+    requires room { 0 < length buf.old }
+    ensures reads { ReadsFrom (drop offset page.now) buf.new result }
+    ensures within { result ≤ length buf.old }
+    ensures page { offset + result ≤ length page.now }
+    ensures step { result ≤ step }
+{
+    let n = buf.len().min(step).min(page.len() - offset);
+    buf[..n].copy_from_slice(&page[offset..offset + n]);
+    n
+}
+
+/// Keeps a name at the front of a buffer.
+fn keep(asked: &mut [u8; 4096], name: &str)
+    requires { length name.now ≤ 4096 }
+    ensures { take (length name.now) asked.new ≡ name.now }
+{
+    let n = name.len();
+    asked[..n].copy_from_slice(name.as_bytes());
+}
+
+impl PageSource for MemPages {
+    ghost use Rattle.ix_base.specs.Calls.{called};
+    ghost use Rattle.ix_base.specs.MemPages.{pages_faults, pages_page, pages_left, pages_started, pages_asked, start_fails, read_fails, pages_calls, pages_step};
+
+    ghost faults = { pages_faults };
+
+    ghost page = { pages_page };
+
+    ghost left = { pages_left };
+
+    ghost started = { pages_started };
+
+    ghost asked = { pages_asked };
+
+    fn start(&mut self, name: &str) -> Result<(), Failed>
+        requires count { pages_faults self.old + 1 < 2 ^ 64 }
+        requires name { length name.now ≤ 4096 }
+        ensures cause { HasCause (pages_faults self.old) (pages_faults self.new) result }
+        ensures pages { pages_page self.new ≡ pages_page self.old }
+        ensures started { pages_started self.new ≡ is_ok result }
+        ensures asked { pages_asked self.new ≡ Some name.now }
+        ensures left { OnOk result (pages_left self.new ≡ pages_page self.old name.now) }
+        ensures held { OnErr result (pages_left self.new ≡ pages_left self.old) }
+        ensures fails { is_err result ≡ start_fails self.old name.now }
+        ensures calls { pages_calls self.new ≡ called (pages_calls self.old) (is_err result) }
+        ensures step { pages_step self.new ≡ pages_step self.old }
+    {
+        keep(&mut self.asked, name);
+        self.asked_len = name.len();
+        self.started = false;
+        if self.calls.enter() {
+            self.calls.faults += 1;
+            return Err(Failed);
+        }
+        match find_page(&self.pages, name) {
+            Some(index) => {
+                self.index = index;
+                self.offset = 0;
+                self.started = true;
+                Ok(())
+            }
+            None => {
+                self.calls.faults += 1;
+                Err(Failed)
+            }
+        }
+    }
+
+    fn read(&mut self, buf: &mut [u8]) -> Result<usize, Failed>
+        requires count { pages_faults self.old + 1 < 2 ^ 64 }
+        requires started { IsTrue (pages_started self.old) }
+        requires room { 0 < length buf.old }
+        ensures cause { HasCause (pages_faults self.old) (pages_faults self.new) result }
+        ensures pages { pages_page self.new ≡ pages_page self.old }
+        ensures started { pages_started self.new ≡ pages_started self.old }
+        ensures asked { pages_asked self.new ≡ pages_asked self.old }
+        ensures within { IfOk result (λ n. n ≤ length buf.old) }
+        ensures bytes { IfOk result (λ n. IfSome (pages_left self.old) (λ rest. ReadsFrom rest buf.new n)) }
+        ensures left { IfOk result (λ n. pages_left self.new ≡ option_map (drop n) (pages_left self.old)) }
+        ensures fails { is_err result ≡ read_fails self.old }
+        ensures step { IfOk result (λ n. n ≤ pages_step self.old) }
+        ensures held { OnErr result (pages_left self.new ≡ pages_left self.old) }
+        ensures calls { pages_calls self.new ≡ called (pages_calls self.old) (is_err result) }
+        ensures same_step { pages_step self.new ≡ pages_step self.old }
+    {
+        if self.calls.enter() {
+            self.calls.faults += 1;
+            return Err(Failed);
+        }
+        let page = page_bytes(&self.pages, self.index);
+        let n = copy_from(page, self.offset, self.step, buf);
+        self.offset += n;
+        Ok(n)
+    }
+}
