@@ -1,11 +1,11 @@
 -- Targets that lie in one list of bytes, as it grows.
-use Rattle.std.proofs.Common.{◌≡◌, ◌∙◌, ap, sym, ℕ, ◌+◌, ◌-◌, ◌≤◌, Bool, true, false, List, [], ◌∷◌, ◌++◌, length, take, drop, map, refl, append_assoc, arith, length-append, length-drop, if◌then◌else◌, Some, None, IfSome}
+use Rattle.std.proofs.Common.{◌≡◌, ◌∙◌, ap, sym, ℕ, ◌+◌, ◌-◌, ◌≤◌, Bool, true, false, List, [], ◌∷◌, ◌++◌, length, take, drop, map, refl, append_assoc, arith, length-append, length-drop, if◌then◌else◌, Some, None, IfSome, not, ◌&&◌}
 use Rattle.std.proofs.lemmas.List.{take-append-le, drop-append-le, append-nil, map-append}
 use Rattle.std.proofs.lemmas.Bool.{and_parts, and_from, leb-true, le-leb}
 use Rattle.std.proofs.lemmas.List.Folds.{list_all-append}
 use Rattle.std.proofs.Math.Seq.{take-length, take-append_seam, drop-append_seam}
 use Rattle.std.specs.List.{list_all, slice_range}
-use Rattle.ix_base.specs.Outside.{Begun, begun, last_grown, last_finished}
+use Rattle.ix_base.specs.Outside.{Begun, begun, is_last_open, last_grown, last_finished}
 use Rattle.ix_base.specs.Slots.{is_within, target_at, targets_at}
 use Rattle.ix_base.specs.declared.memory.shelf.Slot.{Slot}
 
@@ -174,3 +174,14 @@ pub asked_as : (told : Bool) (asked dir name : List ℕ) → (told ≡ true → 
     → IfSome (if told then Some (take (length dir) asked, drop (length dir) asked) else None) (λ (w : List ℕ × List ℕ). w ≡ (dir, name))
 asked_as false asked dir name h = tt
 asked_as true asked dir name h = rw (h refl, take-append_seam dir name, drop-append_seam dir name) refl
+
+-- whether the last one is open
+is_last_open-append : (ts : List Begun) (t : Begun) → is_last_open (ts ++ t ∷ []) ≡ not t.finished
+is_last_open-append [] t = refl
+is_last_open-append (u ∷ []) t = refl
+is_last_open-append (u ∷ v ∷ ts) t = is_last_open-append (v ∷ ts) t
+
+pub open_at : (held : List ℕ) (ss : List Slot) (any : Bool) (s : Slot) → (any ≡ false → length ss ≡ 0) → any && not s.finished ≡ is_last_open (targets_at held ss any s)
+open_at held ss true s none = sym (is_last_open-append (map (target_at held) ss) (target_at held s))
+open_at held [] false s none = refl
+open_at held (x ∷ ss) false s none = absurd (omega (arith, none refl))

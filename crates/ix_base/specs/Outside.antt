@@ -1,5 +1,5 @@
 -- What the objects of the outside tell, and what their calls do to it.
-use Rattle.std.specs.Prelude.{◌≡◌, ℕ, ◌<◌, ◌≤◌, Bool, true, false, List, [], ◌∷◌, ◌++◌, length, take, Result, Option, OnOk, OnErr, option_map, Some, None, if◌then◌else◌, bytes_eq}
+use Rattle.std.specs.Prelude.{◌≡◌, ℕ, ◌<◌, ◌≤◌, Bool, true, false, not, List, [], ◌∷◌, ◌++◌, length, take, Result, Option, OnOk, OnErr, option_map, Some, None, if◌then◌else◌, bytes_eq}
 
 -- A failure has a cause: the count rose in this call. Ok leaves it.
 pub record HasCause {A E : Type 0} (before now : ℕ) (result : Result A E) : Type 0 where
@@ -27,6 +27,12 @@ begun dir name = record { dir = dir; name = name; bytes = []; finished = false }
 abbrev pub first_named : List ℕ → List Begun → Option Begun
 first_named name [] = None
 first_named name (t ∷ ts) = if bytes_eq t.name name then Some t else first_named name ts
+
+-- the last target is there and unfinished
+abbrev pub is_last_open : List Begun → Bool
+is_last_open [] = false
+is_last_open (t ∷ []) = not t.finished
+is_last_open (t ∷ u ∷ ts) = is_last_open (u ∷ ts)
 
 -- the last target has taken these bytes too, and the others are the same
 abbrev pub last_grown : List ℕ → List Begun → List Begun

@@ -4,11 +4,13 @@ ghost use Rattle.ix_base.specs.Outside.{HasCause, ReadsFrom, Begun, begun, last_
 
 use thiserror::Error;
 
-/// A call of the outside failed.
+/// A call of the outside failed. The object that was called has counted it.
 #[derive(Clone, Copy, Debug, PartialEq, Eq, Error)]
 #[error("a call of the outside failed")]
 pub struct Failed;
 
+/// Where pages come from, each by its name. Each object counts its faults: a call that answers Failed has raised the
+/// count, and one that answers Ok has left it.
 pub trait PageSource {
     /// How often it has failed. It never falls.
     ghost faults: { Self → ℕ };
@@ -25,7 +27,7 @@ pub trait PageSource {
     /// The name that the last `start` asked for, where it tells it.
     ghost asked: { Self → Option (List ℕ) };
 
-    /// Begins a page at its first byte.
+    /// Begins a page at its first byte, and ends the page before it. A page that isn't there is a fault.
     fn start(&mut self, name: &str) -> Result<(), Failed>
         requires count { faults self.old + 1 < 2 ^ 64 }
         requires name { length name.now ≤ 4096 }
@@ -49,6 +51,8 @@ pub trait PageSource {
         ensures left { IfOk result (λ n. left self.new ≡ option_map (drop n) (left self.old)) };
 }
 
+/// Where targets go, one behind another, each under a directory word and its name. It counts its faults as a source of
+/// pages does.
 pub trait TargetSink {
     /// How often it has failed. It never falls.
     ghost faults: { Self → ℕ };
@@ -62,7 +66,7 @@ pub trait TargetSink {
     /// The two words of the last `begin`, where it tells them.
     ghost asked: { Self → Option (List ℕ × List ℕ) };
 
-    /// Adds a target with no bytes.
+    /// Adds an unfinished target with no bytes. One that answers Failed has added none.
     fn begin(&mut self, dir: &str, target: &str) -> Result<(), Failed>
         requires { faults self.old + 1 < 2 ^ 64 }
         ensures cause { HasCause (faults self.old) (faults self.new) result }
@@ -72,7 +76,7 @@ pub trait TargetSink {
         ensures kept { OnErr result (is_open self.new ≡ is_open self.old) }
         ensures asked { IfSome (asked self.new) (λ words. words ≡ (dir.now, target.now)) };
 
-    /// Gives the target begun last a piece.
+    /// Gives the target begun last a piece. One that answers Failed has given it a front of the piece.
     fn put(&mut self, piece: &[u8]) -> Result<(), Failed>
         requires count { faults self.old + 1 < 2 ^ 64 }
         requires opened { IsTrue (is_open self.old) }
@@ -82,7 +86,7 @@ pub trait TargetSink {
         ensures opened { IsTrue (is_open self.new) }
         ensures asked { asked self.new ≡ asked self.old };
 
-    /// Finishes the target begun last.
+    /// Finishes the target begun last. One that answers Failed has left it unfinished.
     fn finish(&mut self) -> Result<(), Failed>
         requires count { faults self.old + 1 < 2 ^ 64 }
         requires opened { IsTrue (is_open self.old) }
@@ -93,6 +97,7 @@ pub trait TargetSink {
         ensures asked { asked self.new ≡ asked self.old };
 }
 
+/// Where a text goes. It counts its faults as a source of pages does.
 pub trait TextSink {
     /// How often it has failed. It never falls.
     ghost faults: { Self → ℕ };
@@ -100,7 +105,7 @@ pub trait TextSink {
     /// The bytes taken, where it tells them.
     ghost taken: { Self → Option (List ℕ) };
 
-    /// Adds a piece.
+    /// Adds a piece. One that answers Failed has added a front of it.
     fn put(&mut self, piece: &[u8]) -> Result<(), Failed>
         requires { faults self.old + 1 < 2 ^ 64 }
         ensures cause { HasCause (faults self.old) (faults self.new) result }

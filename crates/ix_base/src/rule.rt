@@ -203,4 +203,21 @@ impl Rule {
             Rule::V5 => "denominator is zero",
         }
     }
+
+    /// What the codes and texts are, at the first and the last rule of each class.
+    pub fn printed()
+        ensures s1 { (code_of Rule.S1 ≡ codes "S1") × (text_of Rule.S1 ≡ codes "pages together are too long") }
+        ensures s2 { (code_of Rule.S2 ≡ codes "S2") × (text_of Rule.S2 ≡ codes "pages together hold too many tags") }
+        ensures w1 { (code_of Rule.W1 ≡ codes "W1") × (text_of Rule.W1 ≡ codes "not UTF-8") }
+        ensures w12 { (code_of Rule.W12 ≡ codes "W12") × (text_of Rule.W12 ≡ codes "wrong place in the document") }
+        ensures n1 { (code_of Rule.N1 ≡ codes "N1") × (text_of Rule.N1 ≡ codes "unknown ix element") }
+        ensures n22 { (code_of Rule.N22 ≡ codes "N22") × (text_of Rule.N22 ≡ codes "exclude outside text") }
+        ensures u1 { (code_of Rule.U1 ≡ codes "U1") × (text_of Rule.U1 ≡ codes "page isn't in the first form") }
+        ensures u2 { (code_of Rule.U2 ≡ codes "U2") × (text_of Rule.U2 ≡ codes "not built yet") }
+        ensures l1 { (code_of Rule.L1 ≡ codes "L1") × (text_of Rule.L1 ≡ codes "id used more than once") }
+        ensures l17 { (code_of Rule.L17 ≡ codes "L17") × (text_of Rule.L17 ≡ codes "role with two addresses") }
+        ensures v1 { (code_of Rule.V1 ≡ codes "V1") × (text_of Rule.V1 ≡ codes "unknown format") }
+        ensures v5 { (code_of Rule.V5 ≡ codes "V5") × (text_of Rule.V5 ≡ codes "denominator is zero") }
+    {
+    }
 }

@@ -142,8 +142,7 @@ impl PageSource for MemPages {
         self.asked_len = name.len();
         self.started = false;
         if self.calls.enter() {
-            self.calls.faults += 1;
-            return Err(Failed);
+            return Err(self.calls.fail());
         }
         match find_page(&self.pages, name) {
             Some(index) => {
@@ -152,10 +151,7 @@ impl PageSource for MemPages {
                 self.started = true;
                 Ok(())
             }
-            None => {
-                self.calls.faults += 1;
-                Err(Failed)
-            }
+            None => Err(self.calls.fail()),
         }
     }
 
@@ -177,8 +173,7 @@ impl PageSource for MemPages {
         ensures same_step { pages_step self.new ≡ pages_step self.old }
     {
         if self.calls.enter() {
-            self.calls.faults += 1;
-            return Err(Failed);
+            return Err(self.calls.fail());
         }
         let page = page_bytes(&self.pages, self.index);
         let n = copy_from(page, self.offset, self.step, buf);

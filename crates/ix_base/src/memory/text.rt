@@ -71,8 +71,7 @@ impl TextSink for MemText {
         ensures room { text_room self.new ≡ text_room self.old }
     {
         if self.calls.enter() {
-            self.calls.faults += 1;
-            return Err(Failed);
+            return Err(self.calls.fail());
         }
         let left = self.room - self.bytes.len();
         let n = piece.len().min(left);
@@ -81,8 +80,7 @@ impl TextSink for MemText {
             Err(_) => unreachable!(),
         }
         if n < piece.len() {
-            self.calls.faults += 1;
-            return Err(Failed);
+            return Err(self.calls.fail());
         }
         Ok(())
     }
