@@ -9,6 +9,8 @@ mod memory;
 mod outside;
 mod place;
 mod rule;
+#[cfg(test)]
+mod tests;
 mod text;
 
 pub use content::{

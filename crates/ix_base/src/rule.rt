@@ -218,6 +218,5 @@ impl Rule {
         ensures l17 { (code_of Rule.L17 ≡ codes "L17") × (text_of Rule.L17 ≡ codes "role with two addresses") }
         ensures v1 { (code_of Rule.V1 ≡ codes "V1") × (text_of Rule.V1 ≡ codes "unknown format") }
         ensures v5 { (code_of Rule.V5 ≡ codes "V5") × (text_of Rule.V5 ≡ codes "denominator is zero") }
-    {
-    }
+    {}
 }
