@@ -112,11 +112,15 @@ root = codes "xbrli:xbrl"
 abbrev pub children : List (List ℕ) → Content → List Markup
 children spaces c = map schema_markup c.schemas ++ (map context_markup c.contexts ++ each_markup spaces (facts_of c.facts))
 
+-- the root's start tag, in an instance that has these further namespaces
+unfoldable pub root_line : List (List ℕ) → List ℕ
+root_line spaces = start_text root (map declaration (declared_for spaces)) ++ 10 ∷ []
+
 -- the lines, each with its line feed
 unfoldable pub canon_lines : Content → List (List ℕ)
 canon_lines c =
     first_line
-    ∷ (start_text root (map declaration (declared_for (content_spaces c))) ++ 10 ∷ [])
+    ∷ root_line (content_spaces c)
     ∷ (map line (children (content_spaces c) c) ++ (close_text root ++ 10 ∷ []) ∷ [])
 
 -- the canonical text

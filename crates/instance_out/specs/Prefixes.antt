@@ -1,5 +1,5 @@
 -- Prefixes of the namespaces of an instance (Namespaces in XML 1.0, sections 3 to 5).
-use Rattle.std.specs.Prelude.{ℕ, suc, Bool, true, false, ◌||◌, List, [], ◌∷◌, ◌++◌, map, if◌then◌else◌, bytes_eq, codes, decimal}
+use Rattle.std.specs.Prelude.{ℕ, suc, Bool, true, List, [], ◌∷◌, ◌++◌, Option, Some, None, is_some, if◌then◌else◌, bytes_eq, codes, decimal}
 use Rattle.std.specs.Ordering.{is_lt, nat_cmp}
 use Rattle.std.specs.Cmp.Lexicographic.{slice_cmp}
 use Rattle.ix_base.specs.declared.content.OwnName.{OwnName}
@@ -38,20 +38,15 @@ declared_for spaces = fixed ++ numbered 1 spaces
 abbrev pub declaration : Bound → Attribute
 declaration b = record { name = codes "xmlns:" ++ b.prefix; value = b.space }
 
--- whether one of these is bound to the namespace
-abbrev pub is_bound : List Bound → List ℕ → Bool
-is_bound [] space = false
-is_bound (b ∷ bs) space = bytes_eq b.space space || is_bound bs space
-
 -- the first prefix that is bound to the namespace
-abbrev pub prefix_in : List Bound → List ℕ → List ℕ
-prefix_in [] space = []
-prefix_in (b ∷ bs) space = if bytes_eq b.space space then b.prefix else prefix_in bs space
+abbrev pub prefix_in : List Bound → List ℕ → Option (List ℕ)
+prefix_in [] space = None
+prefix_in (b ∷ bs) space = if bytes_eq space b.space then Some b.prefix else prefix_in bs space
 
 -- a namespace that needs no further prefix: none, that of `xml`, or one of the fixed ones
 abbrev pub is_known : List ℕ → Bool
 is_known [] = true
-is_known (c ∷ cs) = is_bound (xml ∷ fixed) (c ∷ cs)
+is_known (c ∷ cs) = is_some (prefix_in (xml ∷ fixed) (c ∷ cs))
 
 -- namespaces in byte order, each once, with one more
 abbrev pub with_space : List ℕ → List (List ℕ) → List (List ℕ)
@@ -65,11 +60,11 @@ abbrev pub spaces_of : List OwnName → List (List ℕ)
 spaces_of [] = []
 spaces_of (n ∷ ns) = if is_known n.ns then spaces_of ns else with_space n.ns (spaces_of ns)
 
--- a local name behind the prefix of its namespace
-abbrev pub qualified : List Bound → List ℕ → List ℕ → List ℕ
-qualified bounds [] local = local
-qualified bounds (c ∷ cs) local = prefix_in bounds (c ∷ cs) ++ 58 ∷ local
+-- a local name behind a prefix, if there is one
+abbrev pub qualified : Option (List ℕ) → List ℕ → List ℕ
+qualified None local = local
+qualified (Some prefix) local = prefix ++ 58 ∷ local
 
--- a name as it is written in an instance that has these further namespaces
+-- a name as it is written in an instance that has these further namespaces: one in no namespace has no prefix
 abbrev pub name_text : List (List ℕ) → OwnName → List ℕ
-name_text spaces n = qualified (xml ∷ declared_for spaces) n.ns n.local
+name_text spaces n = qualified (prefix_in (xml ∷ declared_for spaces) n.ns) n.local

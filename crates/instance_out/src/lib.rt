@@ -11,6 +11,9 @@ use ix_base::{Content, Failed, List, NoMemory, TargetSink, Text};
 use std::alloc::Global;
 use std::marker::Model;
 
+mod day;
+mod part;
+
 /// The canonical text of a content, ready to be written: its lines, each with its line feed.
 #[derive(Drop)]
 pub struct Prepared {

@@ -1,0 +1,23 @@
+use Rattle.std.proofs.Common.{◌≡◌, ◌≢◌, arith, ℤ, pos, ◌+ℤ◌, ◌∙◌, ap, sym, FitsSigned, w64, true, false, true≢false}
+use Rattle.std.proofs.lemmas.Int.{to_z-of_z}
+use Rattle.jiff.specs.Words.{epoch_day, IsEpochDay}
+use Rattle.jiff.proofs.SpanFacts.{signed_arith, date_add-days, can_add-days}
+use Rattle.instance_out.proofs.FirstDay.{first_day_number}
+use Rattle.instance_out.proofs.day.day_after.Goals as goal
+
+pub returns-in-Ok : goal.returns-in-Ok
+returns-in-Ok c =
+    let first = first_day_number c.first_day-first.result c.first_day-first.ensures in
+    let wide : FitsSigned w64 c.args.days = c.ranges.days in
+    let only = simp to_z-of_z at c.days.ensures in
+    c.in-Ok.ensures.value ∙ date_add-days c.first_day-first.result c.args.days c.days.result only
+    ∙ ap (λ z. z +ℤ c.args.days) first
+
+pub returns-in-Err : goal.returns-in-Err
+returns-in-Err c =
+    let first = first_day_number c.first_day-first.result c.first_day-first.ensures in
+    let wide : FitsSigned w64 c.args.days = c.ranges.days in
+    let only = simp to_z-of_z at c.days.ensures in
+    let can = can_add-days c.first_day-first.result c.args.days c.days.result only in
+    let day : IsEpochDay (epoch_day c.first_day-first.result +ℤ c.args.days) = rw first (omega (arith, signed_arith)) in
+    absurd (true≢false (sym (c.in-Err.ensures.succeeds.1 (can.1 day))))
