@@ -1,0 +1,13 @@
+//! What callers may conclude, for all bytes at once.
+
+ghost use Rattle.std.specs.Prelude.{◌≡◌, List, ℕ};
+ghost use Rattle.page_text.specs.Characters.{begun};
+ghost use Rattle.page_text.specs.Reading.{begin, Stands};
+ghost use Rattle.page_text.specs.Cuts.{joined, after_all, due_all};
+
+/// It doesn't matter how a page is cut: pieces that are pushed one after another reach what all their bytes reach.
+pub fn any_pieces()
+    ensures stands { (pieces : List (List ℕ)) → Stands (after_all begin pieces) (joined pieces) }
+    ensures marks { (pieces : List (List ℕ)) → due_all begin pieces ≡ begun (joined pieces) }
+{
+}
