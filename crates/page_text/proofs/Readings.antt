@@ -42,13 +42,14 @@ Fits r = length r.part ≤ r.pushed
 -- a scan that goes on, as a reading sees it
 goes-on : (cr : Bool) (pushed more : ℕ) (s t : Scan) (o : Option TextFault) → s.stop ≡ o
     → (after_on o (record { pushed = pushed; part = s.part; after_cr = ends_in_cr cr s.marks; fault = o }) more t
-        ≡ record { pushed = pushed + more; part = (then_on o s t).part; after_cr = ends_in_cr cr (then_on o s t).marks; fault = (then_on o s t).stop })
+    ≡ record { pushed = pushed + more; part = (then_on o s t).part; after_cr = ends_in_cr cr (then_on o s t).marks; fault = (then_on o s t).stop })
     × (unified cr (then_on o s t).marks ≡ unified cr s.marks ++ due_on o (unified (ends_in_cr cr s.marks) t.marks))
 goes-on cr pushed more s t (Some f) e =
     (ap (λ g. record { pushed = pushed + more; part = s.part; after_cr = ends_in_cr cr s.marks; fault = g }) (sym e), sym (append-nil (unified cr s.marks)))
-goes-on cr pushed more s t None e =
-    (ap (λ b. record { pushed = pushed + more; part = t.part; after_cr = b; fault = t.stop }) (sym (ends_in_cr-append cr s.marks t.marks)),
-    unified-append cr s.marks t.marks)
+goes-on cr pushed more s t None e = (
+  ap (λ b. record { pushed = pushed + more; part = t.part; after_cr = b; fault = t.stop }) (sym (ends_in_cr-append cr s.marks t.marks)),
+  unified-append cr s.marks t.marks,
+)
 
 abbrev Goes : Option TextFault → Reading → List ℕ → List ℕ → Type 0
 Goes o r a b =
@@ -73,11 +74,12 @@ goes None r a b e fits =
     let place : at + length (r.part ++ a) ≡ r.pushed + length a = omega arith in
     let counted : r.pushed + length a + length b ≡ r.pushed + length (a ++ b) = omega arith in
     let whole : seen r (a ++ b) ≡ then_on s.stop s (seen next b) = joined ∙ ap (λ size. then s size b) place in
-    let on = goes-on r.after_cr (r.pushed + length a) (length b) s (seen next b) s.stop refl in
-    (on.0
-    ∙ ap (λ z. record { pushed = r.pushed + length a + length b; part = z.part; after_cr = ends_in_cr r.after_cr z.marks; fault = z.stop }) (sym whole)
-    ∙ ap (λ n. record { pushed = n; part = (seen r (a ++ b)).part; after_cr = ends_in_cr r.after_cr (seen r (a ++ b)).marks; fault = (seen r (a ++ b)).stop }) counted,
-    ap (λ z. unified r.after_cr z.marks) whole ∙ on.1)
+    let on = goes-on r.after_cr (r.pushed + length a) (length b) s (seen next b) s.stop refl in (
+      on.0
+          ∙ ap (λ z. record { pushed = r.pushed + length a + length b; part = z.part; after_cr = ends_in_cr r.after_cr z.marks; fault = z.stop }) (sym whole)
+          ∙ ap (λ n. record { pushed = n; part = (seen r (a ++ b)).part; after_cr = ends_in_cr r.after_cr (seen r (a ++ b)).marks; fault = (seen r (a ++ b)).stop }) counted,
+      ap (λ z. unified r.after_cr z.marks) whole ∙ on.1,
+    )
 
 pub after-append : (r : Reading) (a b : List ℕ) → Fits r → after (after r a) b ≡ after r (a ++ b)
 unfolding after
@@ -177,8 +179,8 @@ whole-size (y ∷ w) x c h e =
     let l = length-append (y ∷ w) (x ∷ []) in
     ⊎_elim (λ long. omega arith)
     (λ short.
-        let same = decoded-less (y ∷ w) (x ∷ []) (omega arith) short in
-        absurd (part-or-all (decoded (y ∷ w)).char (y ∷ w) v c (h (omega arith)) (ap (λ d. front_on d.char v) (sym same) ∙ e)))
+    let same = decoded-less (y ∷ w) (x ∷ []) (omega arith) short in
+    absurd (part-or-all (decoded (y ∷ w)).char (y ∷ w) v c (h (omega arith)) (ap (λ d. front_on d.char v) (sym same) ∙ e)))
     (cases_lt (length (y ∷ w)) (decoded v).size)
 
 -- what a byte does, by what then stands in front
@@ -225,7 +227,7 @@ seen-byte r x at bs f sound p a e =
     let size : length bs ≡ length (r.part ++ x ∷ []) = ap length p in
     rw (a) (ap (λ w. scan false (r.pushed - length r.part) w) (sym p)
     ∙ scan-ends (r.pushed - length r.part) bs f (omega arith) (sym e)
-        (λ c q. subst (λ w. (decoded w).size ≡ length w) (sym p) (whole-size r.part x c sound.1 (ap front (sym p) ∙ sym e ∙ q))))
+    (λ c q. subst (λ w. (decoded w).size ≡ length w) (sym p) (whole-size r.part x c sound.1 (ap front (sym p) ∙ sym e ∙ q))))
 
 pub after-byte : (r : Reading) (x at : ℕ) (bs : List ℕ) (f : Front) → r.fault ≡ None → IsSound r → bs ≡ r.part ++ x ∷ [] → at ≡ r.pushed - length r.part → f ≡ front bs
     → after r (x ∷ []) ≡ taken r at bs f

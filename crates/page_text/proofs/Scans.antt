@@ -78,8 +78,8 @@ not-part v (x ∷ xs) pos same out =
 front-more-on : (o : Option ℕ) (v w : List ℕ) → (front_on o v ≢ Part → is_part v ≡ false → is_part w ≡ false) → front_on o v ≢ Part → front_on o w ≡ front_on o v
 front-more-on (Some c) v w keeps whole = refl
 front-more-on None v w keeps whole = (elim (is_part v) as (λ p. is_part v ≡ p → front_on None w ≡ cond p Part Ill) [
-    | true ↦ λ p. absurd (whole (ap (λ t. cond t Part Ill) p))
-    | false ↦ λ p. ap (λ t. cond t Part Ill) (keeps whole p)
+  | true ↦ λ p. absurd (whole (ap (λ t. cond t Part Ill) p))
+  | false ↦ λ p. ap (λ t. cond t Part Ill) (keeps whole p)
 ]) refl ∙ refl
 
 -- what is more than the first bytes of a character stands at the front of more bytes too

@@ -5,7 +5,7 @@ ghost use Rattle.page_text.specs.Characters.{chars, stop, begun, first_break, sh
 ghost use Rattle.page_text.specs.Reading.{begin, Stands, after, due, answer};
 ghost use Rattle.page_text.specs.Growth.{Gains, GainsFront};
 
-use crate::fronts::{front_of, is_allowed_char, Front};
+use crate::fronts::{Front, front_of, is_allowed_char};
 use crate::{Mark, TextFault};
 use std::alloc::AllocError;
 use std::marker::Model;

@@ -9,5 +9,4 @@ ghost use Rattle.page_text.specs.Cuts.{joined, after_all, due_all};
 pub fn any_pieces()
     ensures stands { (pieces : List (List ℕ)) → Stands (after_all begin pieces) (joined pieces) }
     ensures marks { (pieces : List (List ℕ)) → due_all begin pieces ≡ begun (joined pieces) }
-{
-}
+{}

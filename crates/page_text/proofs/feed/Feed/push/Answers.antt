@@ -33,10 +33,11 @@ pub loop-byte-init : goal.loop-byte-init
 loop-byte-init c =
     let f = c.self.inside in
     let sound : IsSound c.args.self.now =
-    subst IsSound c.self.view_is (held-sound f.pushed f.held f.part f.after_cr f.fault (omega arith) c.self.invariant.1 c.self.invariant.2) in
-    (sound,
-    sym (after-nil c.args.self.now (take 0 c.args.piece.now) refl sound),
-    sym (ap (λ t. c.args.marks.now.items ++ t) (due-nil c.args.self.now (take 0 c.args.piece.now) refl sound) ∙ append-nil c.args.marks.now.items))
+    subst IsSound c.self.view_is (held-sound f.pushed f.held f.part f.after_cr f.fault (omega arith) c.self.invariant.1 c.self.invariant.2) in (
+      sound,
+      sym (after-nil c.args.self.now (take 0 c.args.piece.now) refl sound),
+      sym (ap (λ t. c.args.marks.now.items ++ t) (due-nil c.args.self.now (take 0 c.args.piece.now) refl sound) ∙ append-nil c.args.marks.now.items),
+    )
 
 pub step-mark-requires : goal.step-mark-requires
 step-mark-requires c =
@@ -52,13 +53,14 @@ loop-byte-preserved c =
     let xs = c.args.piece.now in
     let old = c.args.marks.now.items in
     let sound = c.loop-byte.invariant.0 in
-    let kept : c.keep.new.marks.items ≡ c.loop-byte.marks.items ++ option_to_list c.step-mark.result = search rules in
-    (sound,
-    c.step-mark.ensures.state ∙ after-next r c.loop-byte.self xs i sound.0 (omega arith) c.loop-byte.invariant.1,
-    kept ∙ ap (λ t. c.loop-byte.marks.items ++ t) c.step-mark.ensures.given
-        ∙ ap (λ t. t ++ due c.loop-byte.self (get_or xs i 0 ∷ [])) c.loop-byte.invariant.2
-        ∙ append_assoc old (due r (take i xs)) (due c.loop-byte.self (get_or xs i 0 ∷ []))
-        ∙ ap (λ t. old ++ t) (due-next r c.loop-byte.self xs i sound.0 (omega arith) c.loop-byte.invariant.1))
+    let kept : c.keep.new.marks.items ≡ c.loop-byte.marks.items ++ option_to_list c.step-mark.result = search rules in (
+      sound,
+      c.step-mark.ensures.state ∙ after-next r c.loop-byte.self xs i sound.0 (omega arith) c.loop-byte.invariant.1,
+      kept ∙ ap (λ t. c.loop-byte.marks.items ++ t) c.step-mark.ensures.given
+          ∙ ap (λ t. t ++ due c.loop-byte.self (get_or xs i 0 ∷ [])) c.loop-byte.invariant.2
+          ∙ append_assoc old (due r (take i xs)) (due c.loop-byte.self (get_or xs i 0 ∷ []))
+          ∙ ap (λ t. old ++ t) (due-next r c.loop-byte.self xs i sound.0 (omega arith) c.loop-byte.invariant.1),
+    )
 
 -- ---- no memory
 
