@@ -1,5 +1,5 @@
 -- What a piece does to a reading.
-use Rattle.std.proofs.Common.{◌≡◌, ◌≢◌, ℕ, zero, suc, ◌+◌, ◌-◌, ◌<◌, ◌≤◌, ◌==◌, Bool, true, false, cond, nat_lt, List, [], ◌∷◌, ◌++◌, length, take, drop, slice_set, slice_index, get_or, Option, Some, None, is_some, Result, Ok, Err, refl, sym, ap, ◌∙◌, arith, subst, append_assoc, append-nil, length-append, length-take, add-one, add-zero, ⊎_elim}
+use Rattle.std.proofs.Common.{◌≡◌, ℕ, ◌+◌, ◌-◌, ◌<◌, ◌≤◌, ◌==◌, Bool, true, false, cond, List, [], ◌∷◌, ◌++◌, length, take, drop, slice_set, get_or, Option, Some, None, is_some, Ok, Err, refl, sym, ap, ◌∙◌, arith, subst, append_assoc, append-nil, length-append, length-take, add-one, add-zero, ⊎_elim}
 use Rattle.std.proofs.lemmas.Bool.{cases_lt}
 use Rattle.std.proofs.lemmas.List.{take-append-drop, take_more_set}
 use Rattle.std.proofs.Math.Seq.{take-suc, take-append_seam, take-length, drop-length}
@@ -7,7 +7,7 @@ use Rattle.std.proofs.Math.ListN.{length-set}
 use Rattle.bstr.specs.Utf8.{decoded}
 use Rattle.bstr.proofs.lemmas.PieceLemmas.{piece-bounds, value-1}
 use Rattle.page_text.specs.Fronts.{is_allowed, is_part, front, front_on}
-use Rattle.page_text.specs.Characters.{Scan, mark, ends_with, scan_on, scan_from, scan, shown, unified, chars, stop, begun, first_break}
+use Rattle.page_text.specs.Characters.{Scan, mark, no_marks, scan_on, scan_from, scan, shown, unified, chars, stop, begun, first_break}
 use Rattle.page_text.specs.Reading.{Reading, ends_in_cr, begin, reading_of, Stands, seen, after_on, after, due_on, due, answer}
 use Rattle.page_text.specs.Cuts.{joined, after_all, due_all}
 use Rattle.page_text.specs.Growth.{Gains, GainsFront}
@@ -17,7 +17,7 @@ use Rattle.page_text.specs.declared.TextFault.TheVariants.{BadBytes, BadChar}
 use Rattle.page_text.specs.declared.fronts.Front.{Front}
 use Rattle.page_text.specs.declared.fronts.Front.TheVariants.{Allowed, Banned, Part, Ill}
 use Rattle.page_text.proofs.Pieces.{decoded-less}
-use Rattle.page_text.proofs.Scans.{beyond, scan-nil, scan-front, then_on, then, scan-append, part-within, ended_on, ended, scan-ended}
+use Rattle.page_text.proofs.Scans.{beyond, scan-nil, scan-front, then_on, then, scan-append, part-within, ended_on, scan-ended}
 
 -- ---- marks of two scans, one behind the other
 
@@ -132,11 +132,11 @@ due-stuck r piece some = due-stuck-on r.fault _ some
 abbrev pub IsSound : Reading → Type 0
 IsSound r = (length r.part ≤ r.pushed) × (0 < length r.part → front r.part ≡ Part)
 
-scan-part : (at : ℕ) (bs : List ℕ) → (0 < length bs → front bs ≡ Part) → scan false at bs ≡ ends_with None bs
+scan-part : (at : ℕ) (bs : List ℕ) → (0 < length bs → front bs ≡ Part) → scan false at bs ≡ no_marks None bs
 scan-part at [] h = scan-nil false at
 scan-part at (x ∷ bs) h = scan-front false at (x ∷ bs) Part (omega arith) (h (omega arith))
 
-seen-nil : (r : Reading) → IsSound r → seen r [] ≡ ends_with None r.part
+seen-nil : (r : Reading) → IsSound r → seen r [] ≡ no_marks None r.part
 seen-nil r sound = ap (λ bs. scan false (r.pushed - length r.part) bs) (append-nil r.part) ∙ scan-part (r.pushed - length r.part) r.part sound.1
 
 after-on-nil : (o : Option TextFault) (r : Reading) → r.fault ≡ o → IsSound r → after_on o r 0 (seen r []) ≡ r
@@ -197,23 +197,23 @@ given r at Part = []
 given r at Ill = []
 
 -- the scan of a front that ends with its last byte
-scan-ends : (at : ℕ) (bs : List ℕ) (f : Front) → 0 < length bs → front bs ≡ f → ((c : ℕ) → f ≡ Allowed c → (decoded bs).size ≡ length bs) → scan false at bs ≡ scan_on false at bs f (ends_with None [])
+scan-ends : (at : ℕ) (bs : List ℕ) (f : Front) → 0 < length bs → front bs ≡ f → ((c : ℕ) → f ≡ Allowed c → (decoded bs).size ≡ length bs) → scan false at bs ≡ scan_on false at bs f (no_marks None [])
 scan-ends at bs (Allowed c) pos e whole =
     let nothing : drop (decoded bs).size bs ≡ [] = ap (λ k. drop k bs) (whole c refl) ∙ drop-length bs in
-    let rest : beyond false at bs ≡ ends_with None [] = ap (λ d. scan false (at + (decoded bs).size) d) nothing ∙ scan-nil false (at + (decoded bs).size) in
+    let rest : beyond false at bs ≡ no_marks None [] = ap (λ d. scan false (at + (decoded bs).size) d) nothing ∙ scan-nil false (at + (decoded bs).size) in
     scan-front false at bs (Allowed c) pos e ∙ ap {A = Scan} (λ s. record s { marks = mark c at ∷ s.marks }) rest
 scan-ends at bs Banned pos e whole = scan-front false at bs Banned pos e
 scan-ends at bs Part pos e whole = scan-front false at bs Part pos e
 scan-ends at bs Ill pos e whole = scan-front false at bs Ill pos e
 
-taken-is : (r : Reading) (at : ℕ) (bs : List ℕ) (f : Front) → r.fault ≡ None → after_on None r 1 (scan_on false at bs f (ends_with None [])) ≡ taken r at bs f
+taken-is : (r : Reading) (at : ℕ) (bs : List ℕ) (f : Front) → r.fault ≡ None → after_on None r 1 (scan_on false at bs f (no_marks None [])) ≡ taken r at bs f
 unfolding ends_in_cr
 taken-is r at bs (Allowed c) n = ap (λ o. record { pushed = r.pushed + 1; part = []; after_cr = c == 0xD; fault = o }) (sym n)
 taken-is r at bs Banned n = refl
 taken-is r at bs Part n = ap (λ o. record { pushed = r.pushed + 1; part = bs; after_cr = r.after_cr; fault = o }) (sym n)
 taken-is r at bs Ill n = refl
 
-given-is : (r : Reading) (at : ℕ) (bs : List ℕ) (f : Front) → unified r.after_cr (scan_on false at bs f (ends_with None [])).marks ≡ given r at f
+given-is : (r : Reading) (at : ℕ) (bs : List ℕ) (f : Front) → unified r.after_cr (scan_on false at bs f (no_marks None [])).marks ≡ given r at f
 unfolding unified
 given-is r at bs (Allowed c) = append-nil (shown r.after_cr c at)
 given-is r at bs Banned = refl
@@ -221,7 +221,7 @@ given-is r at bs Part = refl
 given-is r at bs Ill = refl
 
 seen-byte : (r : Reading) (x at : ℕ) (bs : List ℕ) (f : Front) → IsSound r → bs ≡ r.part ++ x ∷ [] → at ≡ r.pushed - length r.part → f ≡ front bs
-    → seen r (x ∷ []) ≡ scan_on false at bs f (ends_with None [])
+    → seen r (x ∷ []) ≡ scan_on false at bs f (no_marks None [])
 seen-byte r x at bs f sound p a e =
     let long = length-append r.part (x ∷ []) in
     let size : length bs ≡ length (r.part ++ x ∷ []) = ap length p in

@@ -1,11 +1,11 @@
 -- The scan of some bytes, and of more.
-use Rattle.std.proofs.Common.{◌≡◌, ◌≢◌, ℕ, zero, suc, ◌+◌, ◌-◌, ◌<◌, ◌≤◌, ◌==◌, ◌&&◌, Bool, true, false, cond, nat_lt, nat_le, List, [], ◌∷◌, ◌++◌, length, drop, slice_index, Option, Some, None, refl, sym, ap, ◌∙◌, arith, subst, append_assoc, append-nil, length-append, length-drop}
+use Rattle.std.proofs.Common.{◌≡◌, ◌≢◌, ℕ, zero, suc, ◌+◌, ◌-◌, ◌<◌, ◌≤◌, ◌==◌, ◌&&◌, Bool, true, false, cond, nat_lt, nat_le, List, [], ◌∷◌, ◌++◌, length, drop, slice_index, Option, Some, None, refl, sym, ap, ◌∙◌, arith, subst, append-nil, length-append, length-drop}
 use Rattle.std.proofs.lemmas.Bool.Decides.{nat_tests}
 use Rattle.std.proofs.lemmas.List.{drop-append-le}
 use Rattle.bstr.specs.Utf8.{decoded}
 use Rattle.bstr.proofs.lemmas.PieceLemmas.{piece-bounds}
-use Rattle.page_text.specs.Fronts.{is_allowed, is_part, front, front_on}
-use Rattle.page_text.specs.Characters.{Scan, mark, ends_with, scan_on, scan_from, scan, shown, unified}
+use Rattle.page_text.specs.Fronts.{is_part, front, front_on}
+use Rattle.page_text.specs.Characters.{Scan, mark, no_marks, scan_on, scan_from, scan}
 use Rattle.page_text.specs.declared.Mark.{Mark}
 use Rattle.page_text.specs.declared.TextFault.{TextFault}
 use Rattle.page_text.specs.declared.TextFault.TheVariants.{BadBytes, BadChar}
@@ -15,7 +15,7 @@ use Rattle.page_text.proofs.Pieces.{decoded-more}
 
 -- ---- one step of a scan
 
-scan_from-nil : (n : ℕ) (w : Bool) (at : ℕ) → scan_from n w at [] ≡ ends_with None []
+scan_from-nil : (n : ℕ) (w : Bool) (at : ℕ) → scan_from n w at [] ≡ no_marks None []
 unfolding scan_from
 scan_from-nil zero w at = refl
 scan_from-nil (suc n) w at = refl
@@ -34,7 +34,7 @@ scan_from-same (suc n) (suc m) w at (x ∷ xs) a b =
     let left = length-drop s (x ∷ xs) in
     ap (λ rest. scan_on w at (x ∷ xs) (front (x ∷ xs)) rest) (scan_from-same n m w (at + s) (drop s (x ∷ xs)) (omega arith) (omega arith))
 
-pub scan-nil : (w : Bool) (at : ℕ) → scan w at [] ≡ ends_with None []
+pub scan-nil : (w : Bool) (at : ℕ) → scan w at [] ≡ no_marks None []
 scan-nil w at = scan_from-nil 0 w at
 
 -- what is read behind the front
@@ -109,16 +109,16 @@ Joins at v b = scan false at (v ++ b) ≡ then (scan false at v) (at + length v)
 joins-nil : (at : ℕ) (b : List ℕ) → Joins at [] b
 joins-nil at b =
     let start : at + 0 - 0 ≡ at = omega arith in
-    ap (λ k. then_on None (ends_with None []) (scan false k b)) (sym start) ∙ ap (λ s. then s (at + 0) b) (sym (scan-nil false at))
+    ap (λ k. then_on None (no_marks None []) (scan false k b)) (sym start) ∙ ap (λ s. then s (at + 0) b) (sym (scan-nil false at))
 
 joins-part : (at : ℕ) (v b : List ℕ) → 0 < length v → front v ≡ Part → Joins at v b
 joins-part at v b pos e =
     let start : at + length v - length v ≡ at = omega arith in
-    ap (λ k. then_on None (ends_with None v) (scan false k (v ++ b))) (sym start)
+    ap (λ k. then_on None (no_marks None v) (scan false k (v ++ b))) (sym start)
     ∙ ap (λ s. then s (at + length v) b) (sym (scan-front false at v Part pos e))
 
 joins-stop : (at : ℕ) (v b : List ℕ) (f : Front) (fault : TextFault) → 0 < length v → front v ≡ f → f ≢ Part
-    → ((bs : List ℕ) (rest : Scan) → scan_on false at bs f rest ≡ ends_with (Some fault) []) → Joins at v b
+    → ((bs : List ℕ) (rest : Scan) → scan_on false at bs f rest ≡ no_marks (Some fault) []) → Joins at v b
 joins-stop at v b f fault pos e whole stops =
     let same = front-more v b pos (λ p. whole (sym e ∙ p)) in
     let long = length-append v b in
@@ -189,7 +189,7 @@ abbrev pub Ends : ℕ → List ℕ → Type 0
 Ends at bs = scan true at bs ≡ ended (scan false at bs) (at + length bs)
 
 ends-stop : (at : ℕ) (v : List ℕ) (f : Front) (fault : TextFault) → 0 < length v → front v ≡ f
-    → ((w : Bool) (rest : Scan) → scan_on w at v f rest ≡ ends_with (Some fault) []) → Ends at v
+    → ((w : Bool) (rest : Scan) → scan_on w at v f rest ≡ no_marks (Some fault) []) → Ends at v
 ends-stop at v f fault pos e stops =
     scan-front true at v f pos e ∙ stops true (beyond true at v)
     ∙ ap (λ s. ended s (at + length v)) (sym (scan-front false at v f pos e ∙ stops false (beyond false at v)))
@@ -213,7 +213,7 @@ scan-ended (suc n) at (x ∷ bs) m =
       | Banned ↦ λ e. ends-stop at w Banned (BadChar at) pos e (λ q rest. refl)
       | Part ↦ λ e.
           let start : at + length w - length w ≡ at = omega arith in
-          scan-front true at w Part pos e ∙ ap (λ k. ends_with (Some (BadBytes k)) []) (sym start)
+          scan-front true at w Part pos e ∙ ap (λ k. no_marks (Some (BadBytes k)) []) (sym start)
           ∙ ap (λ s. ended s (at + length w)) (sym (scan-front false at w Part pos e))
       | Ill ↦ λ e. ends-stop at w Ill (BadBytes at) pos e (λ q rest. refl)
     ]) refl

@@ -18,20 +18,22 @@ pub record Scan : Type 0 where
   pub stop : Option TextFault
   pub part : List ℕ
 
-abbrev pub ends_with : Option TextFault → List ℕ → Scan
-ends_with stop part = record { marks = []; stop = stop; part = part }
+-- a scan that gives no character
+abbrev pub no_marks : Option TextFault → List ℕ → Scan
+no_marks stop part = record { marks = []; stop = stop; part = part }
 
+-- what stands at the front of these bytes, which begin at this offset, and the scan of what is beyond it:
 -- where the page is whole, a character that isn't is a break
 abbrev pub scan_on : Bool → ℕ → List ℕ → Front → Scan → Scan
 scan_on is_whole at bs (Allowed c) rest = record rest { marks = mark c at ∷ rest.marks }
-scan_on is_whole at bs Banned rest = ends_with (Some (BadChar at)) []
-scan_on is_whole at bs Part rest = if is_whole then ends_with (Some (BadBytes at)) [] else ends_with None bs
-scan_on is_whole at bs Ill rest = ends_with (Some (BadBytes at)) []
+scan_on is_whole at bs Banned rest = no_marks (Some (BadChar at)) []
+scan_on is_whole at bs Part rest = if is_whole then no_marks (Some (BadBytes at)) [] else no_marks None bs
+scan_on is_whole at bs Ill rest = no_marks (Some (BadBytes at)) []
 
--- the bytes from this offset on: the first number is at least how many there are
+-- the scan of these bytes, which begin at this offset: the first number is at least how many there are
 unfoldable pub scan_from : ℕ → Bool → ℕ → List ℕ → Scan
-scan_from zero is_whole at bs = ends_with None []
-scan_from (suc n) is_whole at [] = ends_with None []
+scan_from zero is_whole at bs = no_marks None []
+scan_from (suc n) is_whole at [] = no_marks None []
 scan_from (suc n) is_whole at (b ∷ bs) =
     scan_on is_whole at (b ∷ bs) (front (b ∷ bs)) (scan_from n is_whole (at + (decoded (b ∷ bs)).size) (drop (decoded (b ∷ bs)).size (b ∷ bs)))
 

@@ -150,25 +150,28 @@ impl Feed {
     /// So is want of memory; `marks` then has a front of what was to be appended.
     pub fn push(&mut self, piece: &[u8], marks: &mut Vec<Mark>) -> Result<(), TextFault>
         requires { self.old.pushed + length piece.now < 2 ^ 64 }
-        // Of the bytes of all pieces.
+        // A feed that stands for some bytes stands for those and the piece, and its answer and the marks are theirs.
         ensures stands { (b : List ℕ) → Stands self.old b → result ≢ Err TextFault.NoMemory → Stands self.new (b ++ piece.now) }
-        ensures exact { (b : List ℕ) → Stands self.old b → result ≢ Err TextFault.NoMemory → result ≡ answer (first_break (b ++ piece.now)) }
+        ensures exact { (b : List ℕ) → Stands self.old b → result ≢ Err TextFault.NoMemory
+            → result ≡ answer (first_break (b ++ piece.now)) }
         ensures marks { (b : List ℕ) → Stands self.old b → result ≢ Err TextFault.NoMemory
             → Gains marks.old.items marks.new.items (begun b) (begun (b ++ piece.now)) }
         ensures marks_front { (b : List ℕ) → Stands self.old b → result ≡ Err TextFault.NoMemory
             → GainsFront marks.old.items marks.new.items (begun b) (begun (b ++ piece.now)) }
 
-        // Of any feed.
+        // The same of any feed, by what is to be known of the bytes before.
         ensures state { result ≢ Err TextFault.NoMemory → self.new ≡ after self.old piece.now }
         ensures gained { result ≢ Err TextFault.NoMemory → marks.new.items ≡ marks.old.items ++ due self.old piece.now }
-        ensures front { result ≡ Err TextFault.NoMemory → (n : ℕ) × (marks.new.items ≡ marks.old.items ++ take n (due self.old piece.now)) }
+        ensures front { result ≡ Err TextFault.NoMemory
+            → (n : ℕ) × (marks.new.items ≡ marks.old.items ++ take n (due self.old piece.now)) }
         ensures answer { result ≡ answer self.new.fault }
 
         // A caller can push again.
         ensures counts { (self.old.pushed ≤ self.new.pushed) × (self.new.pushed ≤ self.old.pushed + length piece.now) }
 
         // A fault stays.
-        ensures kept { (f : _) → self.old.fault ≡ Some f → (result ≡ Err f) × (self.new.fault ≡ Some f) × (marks.new.items ≡ marks.old.items) }
+        ensures kept { (f : _) → self.old.fault ≡ Some f
+            → (result ≡ Err f) × (self.new.fault ≡ Some f) × (marks.new.items ≡ marks.old.items) }
     {
         if let Some(fault) = self.fault {
             self.pushed += piece.len() as u64;

@@ -1,5 +1,4 @@
-use Rattle.std.proofs.Common.{refl, sym, ap, ◌≡◌, ◌∙◌, ◌∷◌, [], Some, is_some, Option, None, true, rules}
-use Rattle.page_text.specs.declared.TextFault.{TextFault}
+use Rattle.std.proofs.Common.{sym, ◌∙◌, ◌∷◌, []}
 use Rattle.page_text.proofs.Readings.{after-stuck, due-stuck}
 use Rattle.page_text.proofs.feed.Feed.step.Goals as goal
 

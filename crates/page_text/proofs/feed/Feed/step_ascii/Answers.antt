@@ -1,4 +1,4 @@
-use Rattle.std.proofs.Common.{◌≡◌, ap, sym, ◌∙◌}
+use Rattle.std.proofs.Common.{ap, sym, ◌∙◌}
 use Rattle.page_text.proofs.Readings.{after-allowed, after-banned, due-allowed, due-banned}
 use Rattle.page_text.proofs.feed.Feed.step_ascii.Goals as goal
 

@@ -1,4 +1,4 @@
-use Rattle.std.proofs.Common.{◌≡◌, sym, arith, rules, None, ◌∙◌}
+use Rattle.std.proofs.Common.{sym, arith, rules, ◌∙◌}
 use Rattle.page_text.specs.declared.fronts.Front.TheVariants.{Allowed, Banned, Part, Ill}
 use Rattle.page_text.proofs.Readings.{after-held, due-held}
 use Rattle.page_text.proofs.feed.Feed.step_behind_part.Goals as goal
