@@ -1,0 +1,5 @@
+pub mod Fronts
+pub mod Characters
+pub mod Reading
+pub mod Growth
+pub mod Cuts

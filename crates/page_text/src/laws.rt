@@ -1,0 +1,19 @@
+//! What callers may conclude, for all bytes at once.
+
+ghost use Rattle.std.specs.Prelude.{◌≡◌, List, ℕ};
+ghost use Rattle.page_text.specs.Characters.{begun, chars};
+ghost use Rattle.page_text.specs.Reading.{begin, Stands};
+ghost use Rattle.page_text.specs.Cuts.{joined, after_all, due_all};
+
+/// It doesn't matter how a page is cut: pieces that are pushed one after another reach what all their bytes reach.
+pub fn any_pieces()
+    ensures stands { (pieces : List (List ℕ)) → Stands (after_all begin pieces) (joined pieces) }
+    ensures marks { (pieces : List (List ℕ)) → due_all begin pieces ≡ begun (joined pieces) }
+    ensures same { (ps qs : List (List ℕ)) → joined ps ≡ joined qs → after_all begin ps ≡ after_all begin qs }
+    ensures same_marks { (ps qs : List (List ℕ)) → joined ps ≡ joined qs → due_all begin ps ≡ due_all begin qs }
+{}
+
+/// No character waits for the end of its page.
+pub fn none_waits()
+    ensures { (b : List ℕ) → chars b ≡ begun b }
+{}
