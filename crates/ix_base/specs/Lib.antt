@@ -6,3 +6,9 @@ pub mod Shelf
 pub mod Pages
 pub mod SinkInMemory
 pub mod InMemory
+pub mod Trees
+pub mod TreeCodes
+pub mod Attributes
+pub mod NcName
+pub mod Scope
+pub mod Sound

@@ -6,7 +6,9 @@ mod content;
 mod list;
 pub mod memory;
 pub mod outside;
+mod place;
 mod text;
+mod tree;
 
 pub use content::{
     Accuracy, Arc, Content, Context, Dim, Fact, Footnote, Item, Linkbase, Member, NoteLink,
@@ -14,7 +16,9 @@ pub use content::{
 };
 pub use list::List;
 use std::alloc::{AllocError, AllocFailed};
+pub use place::Place;
 pub use text::Text;
+pub use tree::{Attr, Binding, Element, Name, Node, Spot};
 use thiserror::Error;
 
 /// Want of memory.
