@@ -7,6 +7,7 @@ mod list;
 pub mod memory;
 pub mod outside;
 mod place;
+mod rule;
 mod text;
 mod tree;
 
@@ -17,6 +18,7 @@ pub use content::{
 pub use list::List;
 use std::alloc::{AllocError, AllocFailed};
 pub use place::Place;
+pub use rule::Rule;
 pub use text::Text;
 pub use tree::{Attr, Binding, Element, Name, Node, Spot};
 use thiserror::Error;

@@ -1,0 +1,7 @@
+#[derive(Clone, Copy, Debug, PartialEq, Eq)]
+pub enum Front {
+    Allowed(char),
+    Banned,
+    Part,
+    Ill,
+}

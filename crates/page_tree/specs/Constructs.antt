@@ -1,0 +1,154 @@
+-- The constructs of a page (XML 1.0 sections 2.4 to 2.8, 3.1 and 4.1): each is decided by its first characters, and ends
+-- where the table of its kind says. A page's text is a list of bytes in UTF-8, with the line ends unified.
+use Rattle.std.specs.Prelude.{ℕ, zero, suc, ◌+◌, ◌==◌, Bool, true, false, ◌&&◌, ◌||◌, not, List, [], ◌∷◌, ◌++◌, map, length, take, drop, Option, Some, None, option_map, is_none, if◌then◌else◌, codes, encode_utf8}
+use Rattle.ix_base.specs.NcName.{is_white}
+use Rattle.page_text.specs.Characters.{chars, stop}
+use Rattle.page_text.specs.declared.Mark.{Mark}
+use Rattle.page_text.specs.declared.TextFault.{TextFault}
+use Rattle.page_text.specs.declared.TextFault.TheVariants as fault
+use Rattle.page_tree.specs.declared.kind.Kind.{Kind}
+use Rattle.page_tree.specs.declared.kind.Kind.TheVariants.{Declaration, Instruction, Comment, Cdata, Doctype, Unknown, EndTag, StartTag, Reference, Text}
+
+-- the bytes begin so
+abbrev pub starts : List ℕ → List ℕ → Bool
+starts [] cs = true
+starts (p ∷ ps) [] = false
+starts (p ∷ ps) (c ∷ cs) = c == p && starts ps cs
+
+-- how many bytes end with the first of these
+abbrev pub after : List ℕ → List ℕ → Option ℕ
+after ends [] = None
+after ends (c ∷ cs) = if starts ends (c ∷ cs) then Some (length ends) else option_map suc (after ends cs)
+
+-- how many bytes end with the first `>` outside quotes, inside an open quote where there is one
+abbrev pub after_tag : Option ℕ → List ℕ → Option ℕ
+after_tag quote [] = None
+after_tag (Some q) (c ∷ cs) = option_map suc (if c == q then after_tag None cs else after_tag (Some q) cs)
+after_tag None (c ∷ cs) =
+    if c == 62 then Some 1 else option_map suc (if c == 34 || c == 39 then after_tag (Some c) cs else after_tag None cs)
+
+-- how many bytes a text goes on: up to the next `<` or `&`
+abbrev pub text_size : List ℕ → Option ℕ
+text_size [] = None
+text_size (c ∷ cs) = if c == 60 || c == 38 then Some 0 else option_map suc (text_size cs)
+
+-- how many bytes a reference goes on behind its `&`: through the first `;`, or up to white space, `<` or `&`
+abbrev pub reference_size : List ℕ → Option ℕ
+reference_size [] = None
+reference_size (c ∷ cs) =
+    if c == 59 then Some 1 else (if is_white c || c == 60 || c == 38 then Some 0 else option_map suc (reference_size cs))
+
+-- how many bytes a construct goes on behind its `<`
+unfoldable pub markup_size : List ℕ → Option ℕ
+markup_size cs =
+    if starts (codes "?") cs then after (codes "?>") cs
+    else (if starts (codes "!--") cs then option_map (λ k. k + 3) (after (codes "-->") (drop 3 cs))
+    else (if starts (codes "![CDATA[") cs then after (codes "]]>") cs
+    else (if starts (codes "!DOCTYPE") cs then after_tag None cs
+    else (if starts (codes "!") cs then after (codes ">") cs
+    else (if starts (codes "/") cs then after (codes ">") cs
+    else after_tag None cs)))))
+
+-- how many bytes the first construct takes, where it ends whatever follows
+unfoldable pub size : List ℕ → Option ℕ
+size [] = None
+size (c ∷ cs) =
+    option_map suc (if c == 60 then markup_size cs else (if c == 38 then reference_size cs else text_size cs))
+
+-- a text or a reference
+abbrev pub is_run : List ℕ → Bool
+is_run [] = false
+is_run (c ∷ cs) = not (c == 60)
+
+abbrev pub settled_or : Option ℕ → Bool → ℕ → Option ℕ
+settled_or (Some k) rest n = Some k
+settled_or None rest n = if rest then Some n else None
+
+-- how many bytes the first construct takes; at the page's good end a text or a reference is whole as it stands
+abbrev pub whole_size : Bool → List ℕ → Option ℕ
+whole_size ended cs = settled_or (size cs) (ended && is_run cs) (length cs)
+
+abbrev pub starts_white : List ℕ → Bool
+starts_white [] = false
+starts_white (c ∷ cs) = is_white c
+
+-- what a construct is, at the page's start or not
+unfoldable pub kind_of : Bool → List ℕ → Kind
+kind_of first cs =
+    if first && starts (codes "<?xml") cs && starts_white (drop 5 cs) then Declaration
+    else (if starts (codes "<?") cs then Instruction
+    else (if starts (codes "<!--") cs then Comment
+    else (if starts (codes "<![CDATA[") cs then Cdata
+    else (if starts (codes "<!DOCTYPE") cs then Doctype
+    else (if starts (codes "<!") cs then Unknown
+    else (if starts (codes "</") cs then EndTag
+    else (if starts (codes "<") cs then StartTag
+    else (if starts (codes "&") cs then Reference
+    else Text))))))))
+
+-- a byte of a page's text, and the offset at which it stands in the page
+pub record Byte : Type 0 where
+  pub value : ℕ
+  pub at : ℕ
+
+abbrev pub counted : ℕ → List ℕ → List Byte
+counted at [] = []
+counted at (x ∷ xs) = record { value = x; at = at } ∷ counted (at + 1) xs
+
+-- the bytes of some characters
+abbrev pub spread : List Mark → List Byte
+spread [] = []
+spread (m ∷ ms) = counted m.offset (encode_utf8 m.ch) ++ spread ms
+
+abbrev pub values : List Byte → List ℕ
+values us = map (λ u. u.value) us
+
+-- where the first byte stands, or else the end of all
+abbrev pub offset_of : ℕ → List Byte → ℕ
+offset_of end [] = end
+offset_of end (u ∷ us) = u.at
+
+-- a construct: what it is, the offsets where it starts and where it ends, and its text
+pub record Construct : Type 0 where
+  pub kind : Kind
+  pub start : ℕ
+  pub end : ℕ
+  pub text : List ℕ
+
+-- the first bytes as a construct, before the rest and the end of all
+abbrev pub construct : Bool → ℕ → List Byte → List Byte → Construct
+construct first end piece rest =
+    record { kind = kind_of first (values piece); start = offset_of end piece; end = offset_of end rest; text = values piece }
+
+-- some bytes as whole constructs, and the bytes behind the last
+pub record Cut : Type 0 where
+  pub constructs : List Construct
+  pub rest : List Byte
+
+abbrev pub cut_at : Option ℕ → Bool → ℕ → List Byte → (List Byte → Cut) → Cut
+cut_at None first end us more = record { constructs = []; rest = us }
+cut_at (Some k) first end us more = record {
+  constructs = construct first end (take k us) (drop k us) ∷ (more (drop k us)).constructs;
+  rest = (more (drop k us)).rest;
+}
+
+-- at most n constructs from the front of these bytes: do they end well, are they the page's first, and where do they end
+unfoldable pub cut_from : ℕ → Bool → Bool → ℕ → List Byte → Cut
+cut_from zero ended first end us = record { constructs = []; rest = us }
+cut_from (suc n) ended first end us =
+    cut_at (whole_size ended (values us)) first end us (cut_from n ended false end)
+
+-- the offset of a break, or else the page's length
+abbrev pub end_at : ℕ → Option TextFault → ℕ
+end_at size None = size
+end_at size (Some (fault.BadBytes at)) = at
+end_at size (Some (fault.BadChar at)) = at
+end_at size (Some fault.NoMemory) = size
+
+-- the bytes of a page's characters
+abbrev pub text_of : List ℕ → List Byte
+text_of b = spread (chars b)
+
+-- the whole constructs of a page from the front, and what stands behind them
+abbrev pub cut : List ℕ → Cut
+cut b = cut_from (length (text_of b)) (is_none (stop b)) true (end_at (length b) (stop b)) (text_of b)
