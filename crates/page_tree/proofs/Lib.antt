@@ -1,1 +1,4 @@
 mod Rows
+pub mod TagLaws
+pub mod Spelled
+pub mod Building

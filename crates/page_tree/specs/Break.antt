@@ -29,8 +29,13 @@ pub record Outline : Type 0 where
 abbrev pub blank : Outline
 blank = record { open_elements = []; rooted = false; doctyped = false }
 
+abbrev pub is_empty : List Opened → Bool
+is_empty [] = true
+is_empty (e ∷ es) = false
+
+-- no element is open
 abbrev pub is_outside : Outline → Bool
-is_outside o = length o.open_elements == 0
+is_outside o = is_empty o.open_elements
 
 abbrev pub inner_scope : List Opened → List Bound
 inner_scope [] = outermost

@@ -6,3 +6,4 @@ pub mod Meanings
 pub mod Tags
 pub mod Page
 pub mod Break
+pub mod Machine
