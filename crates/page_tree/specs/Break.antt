@@ -110,10 +110,11 @@ abbrev pub ended : ℕ → Outline → Option Fault
 ended size o =
     if not (is_outside o) then Some (fault size W6) else (if not o.rooted then Some (fault size W12) else None)
 
+-- what is broken behind the constructs; the break of a text is never want of memory
 abbrev pub behind_constructs : ℕ → Option TextFault → List Byte → Outline → Option Fault
 behind_constructs size (Some (BadBytes at)) rest o = Some (fault at W1)
 behind_constructs size (Some (BadChar at)) rest o = Some (fault at W2)
-behind_constructs size (Some NoMemory) rest o = None
+behind_constructs size (Some NoMemory) rest o = Some (fault size W1)
 behind_constructs size None (u ∷ us) o = Some (fault u.at W3)
 behind_constructs size None [] o = ended size o
 
