@@ -2,7 +2,7 @@
 -- productions 4 and 7). Texts are lists of bytes in UTF-8.
 use Rattle.std.specs.Prelude.{ℕ, ◌==◌, nat_le, Bool, false, ◌&&◌, ◌||◌, List, [], ◌∷◌}
 use Rattle.std.specs.List.{list_all}
-use Rattle.std.specs.Str.{chars}
+use Rattle.std.specs.Str.{chars, is_utf8}
 
 abbrev pub lies : ℕ → ℕ → ℕ → Bool
 lies low high c = nat_le low c && nat_le c high
@@ -34,8 +34,8 @@ is_name_of (c ∷ cs) = is_name_start c && list_all is_name_char cs
 
 -- a name without a colon
 unfoldable pub is_ncname : List ℕ → Bool
-is_ncname text = is_name_of (chars text)
+is_ncname text = is_utf8 text && is_name_of (chars text)
 
 -- all characters of the text are allowed ones
 unfoldable pub are_allowed : List ℕ → Bool
-are_allowed text = list_all is_allowed (chars text)
+are_allowed text = is_utf8 text && list_all is_allowed (chars text)

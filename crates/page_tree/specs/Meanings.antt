@@ -23,10 +23,12 @@ given false = None
 
 -- what stands before the first byte that passes a test, and what stands from it on
 abbrev pub before : (ℕ → Bool) → List ℕ → List ℕ
-before stops text = take (position_or_len stops text) text
+before stops [] = []
+before stops (c ∷ cs) = if stops c then [] else c ∷ before stops cs
 
 abbrev pub from : (ℕ → Bool) → List ℕ → List ℕ
-from stops text = drop (position_or_len stops text) text
+from stops [] = []
+from stops (c ∷ cs) = if stops c then c ∷ cs else from stops cs
 
 abbrev pub is_dark : ℕ → Bool
 is_dark c = not (is_white c)
@@ -53,9 +55,12 @@ equalled text = do
   value ← behind (codes "=") (behind_white text)
   quoted (behind_white value)
 
--- the end of a name
+-- what ends the name of an attribute, and what ends that of a tag
 abbrev pub ends_name : ℕ → Bool
 ends_name c = is_white c || c == 61
+
+abbrev pub ends_tag_name : ℕ → Bool
+ends_tag_name c = is_white c || c == 47
 
 -- an attribute at the front, and what is behind it
 abbrev pub attribute_at : List ℕ → Option (Attribute × List ℕ)
@@ -65,34 +70,35 @@ attribute_at text = do
   closed ← given (not (has 60 value.0))
   Some (record { name = before ends_name text; value = value_of value.0 }, value.1)
 
--- attributes, each behind white space: the number is at least that of the bytes
-unfoldable pub attributes_in : ℕ → List ℕ → Option (List Attribute)
-attributes_in zero text = if is_white_text text then Some [] else None
+abbrev pub slash : List ℕ
+slash = 47 ∷ []
+
+-- attributes, each behind white space, and whether a `/` ends them: the number is above that of the bytes
+unfoldable pub attributes_in : ℕ → List ℕ → Option (List Attribute × Bool)
+attributes_in zero text = None
 attributes_in (suc n) text =
-    if is_white_text text then Some []
+    if is_white_text text then Some ([], false)
+    else (if bytes_eq (behind_white text) slash then Some ([], true)
     else (do
       apart ← given (nat_lt (length (behind_white text)) (length text))
       first ← attribute_at (behind_white text)
       more ← attributes_in n first.1
-      Some (first.0 ∷ more))
+      Some (first.0 ∷ more.0, more.1)))
+
+abbrev pub tag : Bool → Tag → Token
+tag true t = empty t
+tag false t = start t
 
 -- what stands in a tag
-abbrev pub tag_in : ℕ → List ℕ → Option Tag
-tag_in at text = do
-  named ← given (is_qname (before is_white text))
-  attrs ← attributes_in (length text) (from is_white text)
-  Some (record { offset = at; name = before is_white text; attrs = attrs })
+abbrev pub start_tag : ℕ → List ℕ → Option Token
+start_tag at inner = do
+  named ← given (is_qname (before ends_tag_name inner))
+  attrs ← attributes_in (length inner + 1) (from ends_tag_name inner)
+  Some (tag attrs.1 (record { offset = at; name = before ends_tag_name inner; attrs = attrs.0 }))
 
--- what stands between these texts
+-- what stands between a front and a back of these lengths
 abbrev pub inside : ℕ → ℕ → List ℕ → List ℕ
 inside front back text = take (length text - front - back) (drop front text)
-
-abbrev pub ends_empty : List ℕ → Bool
-ends_empty text = bytes_eq (drop (length text - 2) text) (codes "/>")
-
-abbrev pub start_tag : ℕ → List ℕ → Option Token
-start_tag at text =
-    if ends_empty text then option_map empty (tag_in at (inside 1 2 text)) else option_map start (tag_in at (inside 1 1 text))
 
 abbrev pub end_tag : List ℕ → Option Token
 end_tag inner = do
@@ -146,7 +152,7 @@ meant_by Cdata at text = Some (section (inside 9 3 text))
 meant_by Doctype at text = doctyped (inside 9 1 text)
 meant_by Unknown at text = None
 meant_by EndTag at text = end_tag (inside 2 1 text)
-meant_by StartTag at text = start_tag at text
+meant_by StartTag at text = start_tag at (inside 1 1 text)
 meant_by Reference at text = Some (refer (referred_by text))
 meant_by Text at text = if holds (codes "]]>") text then None else Some (words text)
 
