@@ -3,3 +3,5 @@ pub mod TagLaws
 pub mod Spelled
 pub mod Building
 pub mod Walking
+pub mod SpanLaws
+pub mod NameBytes
