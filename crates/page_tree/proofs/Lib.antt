@@ -5,3 +5,5 @@ pub mod Building
 pub mod Walking
 pub mod SpanLaws
 pub mod NameBytes
+pub mod TagForms
+pub mod FormLaws

@@ -64,7 +64,7 @@ ncname-bytes t h =
     let p = and_parts (is_utf8 t) (is_name_of (chars t)) h in
     subst (λ x. list_all is_name_byte x ≡ true) (encodes-chars t (IsUtf8-from_is_utf8 t p.0)) (encodes-bytes (chars t) (name-chars (chars t) p.1))
 
-ncname-some : (t : List ℕ) → is_ncname t ≡ true → t ≢ []
+pub ncname-some : (t : List ℕ) → is_ncname t ≡ true → t ≢ []
 unfolding is_ncname chars
 ncname-some t h e =
     let p = and_parts (is_utf8 t) (is_name_of (chars t)) h in
