@@ -7,3 +7,4 @@ pub mod SpanLaws
 pub mod NameBytes
 pub mod TagForms
 pub mod FormLaws
+pub mod CutLaws

@@ -4,8 +4,6 @@ use Rattle.std.specs.Prelude.{ℕ, zero, suc, ◌+◌, ◌==◌, Bool, true, fal
 use Rattle.ix_base.specs.NcName.{is_white}
 use Rattle.page_text.specs.Characters.{chars, stop}
 use Rattle.page_text.specs.declared.Mark.{Mark}
-use Rattle.page_text.specs.declared.TextFault.{TextFault}
-use Rattle.page_text.specs.declared.TextFault.TheVariants as fault
 use Rattle.page_tree.specs.declared.kind.Kind.{Kind}
 use Rattle.page_tree.specs.declared.kind.Kind.TheVariants.{Declaration, Instruction, Comment, Cdata, Doctype, Unknown, EndTag, StartTag, Reference, Text}
 
@@ -38,22 +36,44 @@ reference_size [] = None
 reference_size (c ∷ cs) =
     if c == 59 then Some 1 else (if is_white c || c == 60 || c == 38 then Some 0 else option_map suc (reference_size cs))
 
--- how many bytes a construct goes on behind its `<`
-unfoldable pub markup_size : List ℕ → Option ℕ
-markup_size cs =
-    if starts (codes "?") cs then after (codes "?>") cs
-    else (if starts (codes "!--") cs then option_map (λ k. k + 3) (after (codes "-->") (drop 3 cs))
-    else (if starts (codes "![CDATA[") cs then after (codes "]]>") cs
-    else (if starts (codes "!DOCTYPE") cs then after_tag None cs
-    else (if starts (codes "!") cs then after (codes ">") cs
-    else (if starts (codes "/") cs then after (codes ">") cs
-    else after_tag None cs)))))
+abbrev pub starts_white : List ℕ → Bool
+starts_white [] = false
+starts_white (c ∷ cs) = is_white c
+
+-- what the first construct is, by its first characters, at the page's start or not
+unfoldable pub kind_of : Bool → List ℕ → Kind
+kind_of first cs =
+    if starts (codes "<?") cs
+    then (if first && starts (codes "<?xml") cs && starts_white (drop 5 cs) then Declaration else Instruction)
+    else (if starts (codes "<!--") cs then Comment
+    else (if starts (codes "<![CDATA[") cs then Cdata
+    else (if starts (codes "<!DOCTYPE") cs then Doctype
+    else (if starts (codes "<!") cs then Unknown
+    else (if starts (codes "</") cs then EndTag
+    else (if starts (codes "<") cs then StartTag
+    else (if starts (codes "&") cs then Reference
+    else Text)))))))
+
+-- so many more bytes
+abbrev pub behind : ℕ → Option ℕ → Option ℕ
+behind n size = option_map (λ k. k + n) size
+
+-- how many bytes a construct of a kind takes, where it ends whatever follows; the `?` of `<?` may be that of its `?>`
+unfoldable pub size_by : Kind → List ℕ → Option ℕ
+size_by Declaration cs = behind 1 (after (codes "?>") (drop 1 cs))
+size_by Instruction cs = behind 1 (after (codes "?>") (drop 1 cs))
+size_by Comment cs = behind 4 (after (codes "-->") (drop 4 cs))
+size_by Cdata cs = behind 9 (after (codes "]]>") (drop 9 cs))
+size_by Doctype cs = behind 9 (after_tag None (drop 9 cs))
+size_by Unknown cs = behind 2 (after (codes ">") (drop 2 cs))
+size_by EndTag cs = behind 2 (after (codes ">") (drop 2 cs))
+size_by StartTag cs = behind 1 (after_tag None (drop 1 cs))
+size_by Reference cs = behind 1 (reference_size (drop 1 cs))
+size_by Text cs = behind 1 (text_size (drop 1 cs))
 
 -- how many bytes the first construct takes, where it ends whatever follows
-unfoldable pub size : List ℕ → Option ℕ
-size [] = None
-size (c ∷ cs) =
-    option_map suc (if c == 60 then markup_size cs else (if c == 38 then reference_size cs else text_size cs))
+abbrev pub size : Bool → List ℕ → Option ℕ
+size first cs = size_by (kind_of first cs) cs
 
 -- a text or a reference
 abbrev pub is_run : List ℕ → Bool
@@ -65,26 +85,8 @@ settled_or (Some k) rest n = Some k
 settled_or None rest n = if rest then Some n else None
 
 -- how many bytes the first construct takes; at the page's good end a text or a reference is whole as it stands
-abbrev pub whole_size : Bool → List ℕ → Option ℕ
-whole_size ended cs = settled_or (size cs) (ended && is_run cs) (length cs)
-
-abbrev pub starts_white : List ℕ → Bool
-starts_white [] = false
-starts_white (c ∷ cs) = is_white c
-
--- what a construct is, at the page's start or not
-unfoldable pub kind_of : Bool → List ℕ → Kind
-kind_of first cs =
-    if first && starts (codes "<?xml") cs && starts_white (drop 5 cs) then Declaration
-    else (if starts (codes "<?") cs then Instruction
-    else (if starts (codes "<!--") cs then Comment
-    else (if starts (codes "<![CDATA[") cs then Cdata
-    else (if starts (codes "<!DOCTYPE") cs then Doctype
-    else (if starts (codes "<!") cs then Unknown
-    else (if starts (codes "</") cs then EndTag
-    else (if starts (codes "<") cs then StartTag
-    else (if starts (codes "&") cs then Reference
-    else Text))))))))
+abbrev pub whole_size : Bool → Bool → List ℕ → Option ℕ
+whole_size ended first cs = settled_or (size first cs) (ended && is_run cs) (length cs)
 
 -- a byte of a page's text, and the offset at which it stands in the page
 pub record Byte : Type 0 where
@@ -103,47 +105,36 @@ spread (m ∷ ms) = counted m.offset (encode_utf8 m.ch) ++ spread ms
 abbrev pub values : List Byte → List ℕ
 values us = map (λ u. u.value) us
 
--- where the first byte stands, or else the end of all
-abbrev pub offset_of : ℕ → List Byte → ℕ
-offset_of end [] = end
-offset_of end (u ∷ us) = u.at
+-- where the first byte stands
+abbrev pub offset_of : List Byte → ℕ
+offset_of [] = 0
+offset_of (u ∷ us) = u.at
 
--- a construct: what it is, the offsets where it starts and where it ends, and its text
+-- A construct: what it is, the offset where it starts, and its text. It ends where the next one starts, or else where the
+-- characters end.
 pub record Construct : Type 0 where
   pub kind : Kind
   pub start : ℕ
-  pub end : ℕ
   pub text : List ℕ
 
--- the first bytes as a construct, before the rest and the end of all
-abbrev pub construct : Bool → ℕ → List Byte → List Byte → Construct
-construct first end piece rest =
-    record { kind = kind_of first (values piece); start = offset_of end piece; end = offset_of end rest; text = values piece }
+-- the first k bytes as a construct: are they the page's first
+abbrev pub construct : Bool → ℕ → List Byte → Construct
+construct first k us = record { kind = kind_of first (values us); start = offset_of us; text = values (take k us) }
 
 -- some bytes as whole constructs, and the bytes behind the last
 pub record Cut : Type 0 where
   pub constructs : List Construct
   pub rest : List Byte
 
-abbrev pub cut_at : Option ℕ → Bool → ℕ → List Byte → (List Byte → Cut) → Cut
-cut_at None first end us more = record { constructs = []; rest = us }
-cut_at (Some k) first end us more = record {
-  constructs = construct first end (take k us) (drop k us) ∷ (more (drop k us)).constructs;
-  rest = (more (drop k us)).rest;
-}
+abbrev pub cut_at : Option ℕ → Bool → List Byte → (List Byte → Cut) → Cut
+cut_at None first us more = record { constructs = []; rest = us }
+cut_at (Some k) first us more =
+    record { constructs = construct first k us ∷ (more (drop k us)).constructs; rest = (more (drop k us)).rest }
 
--- at most n constructs from the front of these bytes: do they end well, are they the page's first, and where do they end
-unfoldable pub cut_from : ℕ → Bool → Bool → ℕ → List Byte → Cut
-cut_from zero ended first end us = record { constructs = []; rest = us }
-cut_from (suc n) ended first end us =
-    cut_at (whole_size ended (values us)) first end us (cut_from n ended false end)
-
--- the offset of a break, or else the page's length
-abbrev pub end_at : ℕ → Option TextFault → ℕ
-end_at size None = size
-end_at size (Some (fault.BadBytes at)) = at
-end_at size (Some (fault.BadChar at)) = at
-end_at size (Some fault.NoMemory) = size
+-- at most n constructs from the front of these bytes: do they end well, and are they the page's first
+unfoldable pub cut_from : ℕ → Bool → Bool → List Byte → Cut
+cut_from zero ended first us = record { constructs = []; rest = us }
+cut_from (suc n) ended first us = cut_at (whole_size ended first (values us)) first us (cut_from n ended false)
 
 -- the bytes of a page's characters
 abbrev pub text_of : List ℕ → List Byte
@@ -151,4 +142,4 @@ text_of b = spread (chars b)
 
 -- the whole constructs of a page from the front, and what stands behind them
 abbrev pub cut : List ℕ → Cut
-cut b = cut_from (length (text_of b)) (is_none (stop b)) true (end_at (length b) (stop b)) (text_of b)
+cut b = cut_from (length (text_of b)) (is_none (stop b)) true (text_of b)
