@@ -8,3 +8,5 @@ pub mod NameBytes
 pub mod TagForms
 pub mod FormLaws
 pub mod CutLaws
+pub mod EndLaws
+pub mod PageLaws
