@@ -10,3 +10,4 @@ pub mod FormLaws
 pub mod CutLaws
 pub mod EndLaws
 pub mod PageLaws
+pub mod PieceLaws

@@ -143,3 +143,22 @@ text_of b = spread (chars b)
 -- the whole constructs of a page from the front, and what stands behind them
 abbrev pub cut : List ℕ → Cut
 cut b = cut_from (length (text_of b)) (is_none (stop b)) true (text_of b)
+
+-- the constructs of some bytes that end whatever follows, and what stands behind them
+abbrev pub settled : Bool → List Byte → Cut
+settled first us = cut_from (length us) false first us
+
+-- the constructs of some bytes that no others follow: do they end well
+abbrev pub finished : Bool → Bool → List Byte → Cut
+finished ended first us = cut_from (length us) ended first us
+
+abbrev pub is_first : Bool → List Construct → Bool
+is_first first [] = first
+is_first first (c ∷ cs) = false
+
+-- the constructs of a cut, and then those of its rest and of what follows it
+abbrev pub continued : Bool → Bool → Cut → List Byte → Cut
+continued ended first c more = record {
+  constructs = c.constructs ++ (finished ended (is_first first c.constructs) (c.rest ++ more)).constructs;
+  rest = (finished ended (is_first first c.constructs) (c.rest ++ more)).rest;
+}
