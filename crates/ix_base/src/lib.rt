@@ -12,6 +12,7 @@ mod rule;
 #[cfg(test)]
 mod tests;
 mod text;
+mod tree;
 
 pub use content::{
     Accuracy, Arc, Content, Context, Dim, Fact, Footnote, Item, Linkbase, Member, NoteLink,
@@ -23,8 +24,10 @@ pub use memory::{MemPage, MemPages, MemTargets, MemText};
 pub use outside::{Failed, PageSource, TargetSink, TextSink};
 pub use place::Place;
 pub use rule::Rule;
-use std::alloc::{AllocError, AllocFailed};
 pub use text::Text;
+pub use tree::{Attr, Binding, Element, Name, Node, Spot};
+
+use std::alloc::{AllocError, AllocFailed};
 use thiserror::Error;
 
 /// Want of memory.

@@ -1,0 +1,72 @@
+-- A page's tree without where it lies in memory.
+use Rattle.std.specs.Prelude.{ℕ, List, [], ◌∷◌, map}
+use Rattle.ix_base.specs.declared.tree.Attr.{Attr}
+use Rattle.ix_base.specs.declared.tree.Binding.{Binding}
+use Rattle.ix_base.specs.declared.tree.Name.{Name}
+use Rattle.ix_base.specs.declared.tree.Node.{Node}
+use Rattle.ix_base.specs.declared.tree.Element.{Element}
+use Rattle.ix_base.specs.declared.tree.Node.TheOpen.{Node-F, Element-F}
+use Rattle.ix_base.specs.declared.tree.Node.TheFolds.{fold-Node, fold-Element}
+
+pub record Named : Type 0 where
+  pub ns : List ℕ
+  pub local : List ℕ
+
+pub record Valued : Type 0 where
+  pub name : Named
+  pub value : List ℕ
+
+pub record Bound : Type 0 where
+  pub prefix : List ℕ
+  pub ns : List ℕ
+
+-- what an element says of itself
+pub record Head : Type 0 where
+  pub offset : ℕ
+  pub name : Named
+  pub attrs : List Valued
+  pub scope : List Bound
+
+-- some nodes in order: a text and the nodes after it, or an element's head, its children and the nodes after it
+pub data Nodes : Type 0 where
+  none : Nodes
+  chars : (text : List ℕ) → (rest : Nodes) → Nodes
+  elem : (head : Head) → (children : Nodes) → (rest : Nodes) → Nodes
+
+pub record Tree : Type 0 where
+  pub head : Head
+  pub children : Nodes
+
+abbrev pub named : Name → Named
+named n = record { ns = n.ns.now; local = n.local.now }
+
+abbrev pub valued : Attr → Valued
+valued a = record { name = named a.name; value = a.value.now }
+
+abbrev pub bound : Binding → Bound
+bound b = record { prefix = b.prefix.now; ns = b.ns.now }
+
+abbrev pub head_of : {X Y : Type 0} → Element-F X Y → Head
+head_of e = record { offset = e.place.offset; name = named e.name; attrs = map valued e.attrs.now; scope = map bound e.scope.now }
+
+-- each node put before those after it
+abbrev pub joined : List (Nodes → Nodes) → Nodes
+joined [] = none
+joined (f ∷ fs) = f (joined fs)
+
+abbrev pub node_step : Node-F (Nodes → Nodes) Tree → Nodes → Nodes
+node_step (Node-F.Elem e) = λ rest. elem e.now.head e.now.children rest
+node_step (Node-F.Chars s) = λ rest. chars s.now rest
+
+abbrev pub element_step : Element-F (Nodes → Nodes) Tree → Tree
+element_step e = record { head = head_of e; children = joined e.children.now }
+
+-- the node, before the nodes after it
+abbrev pub before : Node → Nodes → Nodes
+before = fold-Node (Nodes → Nodes) Tree node_step element_step
+
+abbrev pub tree_of : Element → Tree
+tree_of = fold-Element (Nodes → Nodes) Tree node_step element_step
+
+abbrev pub nodes_of : List Node → Nodes
+nodes_of ns = joined (map before ns)

@@ -1,0 +1,51 @@
+//! Trees of pages. They lie in an arena, and borrow their texts from it.
+
+use crate::place::Place;
+
+/// An expanded name: the text of its namespace, empty where it has none, and its local name.
+#[derive(Clone, Copy, Debug)]
+pub struct Name<'a> {
+    pub ns: &'a str,
+    pub local: &'a str,
+}
+
+/// An attribute. Namespace declarations aren't among the attributes of an element.
+#[derive(Clone, Copy, Debug)]
+pub struct Attr<'a> {
+    pub name: Name<'a>,
+    pub value: &'a str,
+}
+
+/// A prefix that is bound to a namespace. The empty prefix is the default namespace.
+#[derive(Clone, Copy, Debug)]
+pub struct Binding<'a> {
+    pub prefix: &'a str,
+    pub ns: &'a str,
+}
+
+/// A child of an element: an element or a text.
+#[derive(Clone, Copy)]
+#[cycle(tree)]
+pub enum Node<'a> {
+    Elem(&'a Element<'a>),
+    Chars(&'a str),
+}
+
+/// An element. Its place is that of the `<` of its tag; its scope lists the bindings that hold in it, each prefix once,
+/// in byte order of the prefixes.
+#[derive(Clone, Copy)]
+#[cycle(tree)]
+pub struct Element<'a> {
+    pub place: Place,
+    pub name: Name<'a>,
+    pub attrs: &'a [Attr<'a>],
+    pub scope: &'a [Binding<'a>],
+    pub children: &'a [Node<'a>],
+}
+
+/// An element with the spot of its parent. At the root there is none.
+#[derive(Clone, Copy)]
+pub struct Spot<'a> {
+    pub element: &'a Element<'a>,
+    pub up: Option<&'a Spot<'a>>,
+}

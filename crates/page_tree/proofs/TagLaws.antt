@@ -1,0 +1,74 @@
+-- When a tag breaks nothing.
+use Rattle.std.proofs.Common.{◌≡◌, ℕ, ◌<◌, nat_lt, Bool, true, false, ◌&&◌, ◌||◌, not, if◌then◌else◌, List, [], ◌∷◌, length, map, Option, Some, None, refl, sym, ap, ◌∙◌, bytes_eq}
+use Rattle.std.proofs.lemmas.Bool.{lt-ltb, ltb-true}
+use Rattle.std.proofs.lemmas.Slice.Eq.{bytes_eq-Decides}
+use Rattle.ix_base.specs.Trees.{Bound, Head}
+use Rattle.ix_base.specs.declared.rule.Rule.{Rule}
+use Rattle.page_tree.specs.Break.{Outline, inner_scope, is_outside, broken_or, broken_by_tag}
+use Rattle.page_tree.specs.Tags.{repeats, misrefers, misnames, scope_of, is_fair, head_of, opened}
+use Rattle.page_tree.specs.Tokens.{Tag}
+
+pub and_left : (a b : Bool) → (a && b) ≡ true → a ≡ true
+and_left true b h = refl
+and_left false b h = absurd (cc)
+
+pub and_right : (a b : Bool) → (a && b) ≡ true → b ≡ true
+and_right true b h = h
+and_right false b h = absurd (cc)
+
+pub not_true : (a : Bool) → not a ≡ true → a ≡ false
+not_true true h = absurd (cc)
+not_true false h = refl
+
+pub not_false : (a : Bool) → not a ≡ false → a ≡ true
+not_false true h = refl
+not_false false h = absurd (cc)
+
+-- a rule that isn't broken, before others that aren't
+pub or_none : (b : Bool) (r : Rule) (next : Option Rule) → broken_or b r next ≡ None → (b ≡ false) × (next ≡ None)
+or_none true r next h = absurd (cc)
+or_none false r next h = (refl, h)
+
+pub record IsKept (n : ℕ) (o : Outline) (t : Tag) : Type 0 where
+  pub fair : is_fair (inner_scope o.open_elements) t ≡ true
+  pub room : length o.open_elements < n
+  pub first : (is_outside o && o.rooted) ≡ false
+
+pub tag_kept : (n : ℕ) (o : Outline) (t : Tag) → broken_by_tag n o t ≡ None → IsKept n o t
+tag_kept n o t h =
+    let a = or_none (repeats (scope_of (inner_scope o.open_elements) t) t.attrs) _ _ h in
+    let b = or_none (misrefers t.attrs) _ _ a.1 in
+    let c = or_none (misnames (scope_of (inner_scope o.open_elements) t) t) _ _ b.1 in
+    let d = or_none (not (nat_lt (length o.open_elements) n)) _ _ c.1 in
+    let e = or_none (is_outside o && o.rooted) _ _ d.1 in
+    record {
+      fair = rw (a.0, b.0, c.0) refl;
+      room = ltb-true (length o.open_elements) n (not_false (nat_lt (length o.open_elements) n) d.0);
+      first = e.0;
+    }
+
+pub kept_tag : (n : ℕ) (o : Outline) (t : Tag) → IsKept n o t → broken_by_tag n o t ≡ None
+kept_tag n o t k =
+    let all = k.fair in
+    let two = and_left (not (repeats (scope_of (inner_scope o.open_elements) t) t.attrs) && not (misrefers t.attrs)) _ all in
+    let a = not_true _ (and_left (not (repeats (scope_of (inner_scope o.open_elements) t) t.attrs)) (not (misrefers t.attrs)) two) in
+    let b = not_true _ (and_right (not (repeats (scope_of (inner_scope o.open_elements) t) t.attrs)) (not (misrefers t.attrs)) two) in
+    let c = not_true _ (and_right (not (repeats (scope_of (inner_scope o.open_elements) t) t.attrs) && not (misrefers t.attrs)) (not (misnames (scope_of (inner_scope o.open_elements) t) t)) all) in
+    rw (a, b, c, lt-ltb (length o.open_elements) n k.room, k.first) refl
+
+pub opened-fair : (scope : List Bound) (t : Tag) (h : Head) → opened scope t ≡ Some h → (is_fair scope t ≡ true) × (head_of scope t ≡ h)
+unfolding opened
+opened-fair scope t h = elim (is_fair scope t) as (λ b. is_fair scope t ≡ b → (if b then Some (head_of scope t) else None) ≡ Some h → (is_fair scope t ≡ true) × (head_of scope t ≡ h)) [
+    | true ↦ λ f. λ e. (f, cc)
+    | false ↦ λ f. λ e. absurd (cc)
+  ] refl
+
+pub fair-opened : (scope : List Bound) (t : Tag) → is_fair scope t ≡ true → opened scope t ≡ Some (head_of scope t)
+unfolding opened
+fair-opened scope t f = rw f refl
+
+pub same_name : (m : List ℕ) → bytes_eq m m ≡ true
+same_name m = (bytes_eq-Decides m m).1 refl
+
+pub one_name : (m n : List ℕ) → bytes_eq m n ≡ true → m ≡ n
+one_name m n e = (bytes_eq-Decides m n).0 e
