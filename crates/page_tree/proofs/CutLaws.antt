@@ -26,7 +26,7 @@ starts-append [] cs more h = refl
 starts-append (p ∷ ps) [] more h = absurd (omega arith)
 starts-append (p ∷ ps) (c ∷ cs) more h = ap (λ b. c == p && b) (starts-append ps cs more (omega arith))
 
-starts-length : (p cs : List ℕ) → starts p cs ≡ true → length p ≤ length cs
+pub starts-length : (p cs : List ℕ) → starts p cs ≡ true → length p ≤ length cs
 starts-length [] cs h = omega arith
 starts-length (p ∷ ps) [] h = absurd (cc)
 starts-length (p ∷ ps) (c ∷ cs) h = let l = starts-length ps cs (and_parts (c == p) (starts ps cs) h).1 in omega arith

@@ -11,3 +11,4 @@ pub mod CutLaws
 pub mod EndLaws
 pub mod PageLaws
 pub mod PieceLaws
+pub mod SizeLaws

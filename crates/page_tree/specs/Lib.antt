@@ -7,3 +7,4 @@ pub mod Tags
 pub mod Page
 pub mod Break
 pub mod Machine
+pub mod Views

@@ -2,6 +2,8 @@
 #![tactic(auto)]
 
 mod kind;
+mod size;
+mod token;
 pub mod laws;
 
 pub use kind::Kind;

@@ -1,0 +1,25 @@
+-- What the code's tokens stand for.
+use Rattle.std.specs.Prelude.{List, map, option_map, encode_utf8}
+use Rattle.page_tree.specs.Tokens.{start, empty, close, words, refer, section, declaration, doctype, silent}
+use Rattle.page_tree.specs.Tokens as spec
+use Rattle.page_tree.specs.declared.token.Attribute.{Attribute}
+use Rattle.page_tree.specs.declared.token.Tag.{Tag}
+use Rattle.page_tree.specs.declared.token.Token.{Token}
+use Rattle.page_tree.specs.declared.token.Token.TheVariants.{Start, Empty, Close, Words, Refer, Section, Declaration, Doctype, Silent}
+
+abbrev pub attribute_of : Attribute → spec.Attribute
+attribute_of a = record { name = a.name.now; value = option_map (λ v. v.now) a.value }
+
+abbrev pub tag_of : Tag → spec.Tag
+tag_of t = record { offset = t.offset; name = t.name.now; attrs = map attribute_of t.attrs.now }
+
+abbrev pub token_of : Token → spec.Token
+token_of (Start t) = start (tag_of t)
+token_of (Empty t) = empty (tag_of t)
+token_of (Close name) = close name.now
+token_of (Words text) = words text.now
+token_of (Refer char) = refer (option_map encode_utf8 char)
+token_of (Section text) = section text.now
+token_of (Declaration version encoding) = declaration version.now (option_map (λ v. v.now) encoding)
+token_of (Doctype has_subset) = doctype has_subset
+token_of Silent = silent
