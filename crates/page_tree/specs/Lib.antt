@@ -8,3 +8,4 @@ pub mod Page
 pub mod Break
 pub mod Machine
 pub mod Views
+pub mod Names

@@ -4,6 +4,8 @@ use Rattle.std.specs.Prelude.{ℕ, Bool, true, false, ◌&&◌, ◌||◌, not, L
 use Rattle.std.specs.List.{list_any, filter_map}
 use Rattle.ix_base.specs.Trees.{Bound, Named, Valued, Head}
 use Rattle.ix_base.specs.Scope.{xml_namespace, xmlns_namespace, has_prefix, prefix_of, local_of, namespace_of, scope_under, element_name, attribute_name}
+use Rattle.ix_base.specs.declared.rule.Rule.{Rule}
+use Rattle.ix_base.specs.declared.rule.Rule.TheVariants.{W7, W8, W9}
 use Rattle.page_tree.specs.Tokens.{Attribute, Tag}
 
 -- a declaration is an attribute named xmlns, or one with that prefix
@@ -54,19 +56,17 @@ repeats scope (a ∷ more) = list_any (is_same scope a) more || repeats scope mo
 abbrev pub misrefers : List Attribute → Bool
 misrefers attrs = list_any (λ a. is_none a.value) attrs
 
-abbrev pub same_truth : Bool → Bool → Bool
-same_truth true b = b
-same_truth false b = not b
+-- a prefix that may not be bound to this namespace: xmlns to any, any to the empty text, xml to another than its own, and
+-- another than xml to that
+abbrev pub is_misbound : List ℕ → List ℕ → Bool
+is_misbound prefix ns =
+    bytes_eq prefix (codes "xmlns") || bytes_eq ns []
+    || (if bytes_eq prefix (codes "xml") then not (bytes_eq ns xml_namespace) else bytes_eq ns xml_namespace)
 
--- A binding that none may make: of the prefix xmlns, of xml to another namespace or of its namespace to another prefix, of
--- the namespace of declarations, or of a prefix to the empty text. A default declaration breaks this only by naming the
--- namespace of declarations.
+-- A binding that none may make: of the namespace of declarations, or of such a prefix. A default declaration breaks this
+-- only by naming the namespace of declarations.
 abbrev pub is_bad : Bound → Bool
-is_bad b =
-    bytes_eq b.ns xmlns_namespace
-    || (not (bytes_eq b.prefix [])
-    && (bytes_eq b.prefix (codes "xmlns") || bytes_eq b.ns []
-    || not (same_truth (bytes_eq b.prefix (codes "xml")) (bytes_eq b.ns xml_namespace))))
+is_bad b = bytes_eq b.ns xmlns_namespace || (not (bytes_eq b.prefix []) && is_misbound b.prefix b.ns)
 
 -- a prefix that isn't bound
 abbrev pub is_unbound : List Bound → List ℕ → Bool
@@ -76,6 +76,11 @@ is_unbound scope name = has_prefix name && not (is_bound scope name)
 abbrev pub misnames : List Bound → Tag → Bool
 misnames scope t =
     is_unbound scope t.name || list_any (λ a. not (declares a) && is_unbound scope a.name) t.attrs || list_any is_bad (bindings t)
+
+-- the lowest of these rules that a tag breaks in its own scope
+abbrev pub tag_break : List Bound → Tag → Option Rule
+tag_break scope t =
+    if repeats scope t.attrs then Some W7 else (if misrefers t.attrs then Some W8 else (if misnames scope t then Some W9 else None))
 
 -- an attribute that is no declaration, with its expanded name
 abbrev pub valued : List Bound → Attribute → Option Valued

@@ -2,6 +2,7 @@
 #![tactic(auto)]
 
 mod kind;
+mod names;
 mod size;
 mod token;
 pub mod laws;
