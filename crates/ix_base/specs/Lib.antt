@@ -1,7 +1,9 @@
+pub mod Address
 pub mod Attributes
 pub mod Calls
 pub mod Days
 pub mod Decimals
+pub mod Elements
 pub mod Escapes
 pub mod Facts
 pub mod MemPages
@@ -15,6 +17,7 @@ pub mod Scope
 pub mod Shelf
 pub mod Slots
 pub mod Sound
+pub mod Token
 pub mod TreeCodes
 pub mod Trees
 pub mod Written

@@ -2,6 +2,7 @@
 //! in memory that stand in for it.
 #![tactic(auto)]
 
+mod attribute;
 mod content;
 mod escape;
 mod list;
@@ -13,7 +14,9 @@ mod rule;
 mod tests;
 mod text;
 mod tree;
+mod white;
 
+pub use attribute::attr_of;
 pub use content::{
     Accuracy, Arc, Content, Context, Dim, Fact, Footnote, Item, Linkbase, Member, NoteLink,
     OwnName, Period, RoleRef, Tuple, Unit, Value,
@@ -24,11 +27,11 @@ pub use memory::{MemPage, MemPages, MemTargets, MemText};
 pub use outside::{Failed, PageSource, TargetSink, TextSink};
 pub use place::Place;
 pub use rule::Rule;
-pub use text::Text;
-pub use tree::{Attr, Binding, Element, Name, Node, Spot};
-
 use std::alloc::{AllocError, AllocFailed};
+pub use text::Text;
 use thiserror::Error;
+pub use tree::{Attr, Binding, Element, Name, Node, Spot};
+pub use white::token;
 
 /// Want of memory.
 #[derive(Clone, Copy, Debug, PartialEq, Eq, Error)]

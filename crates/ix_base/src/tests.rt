@@ -3,8 +3,8 @@ ghost use Rattle.ix_base.specs.MemPages.{pages_faults};
 ghost use Rattle.ix_base.specs.MemTargets.{sink_faults};
 
 use crate::{
-    Failed, List, MemPage, MemPages, MemTargets, MemText, PageSource, Rule, TargetSink, Text,
-    TextSink, push_ae, push_te,
+    Attr, Element, Failed, List, MemPage, MemPages, MemTargets, MemText, Name, PageSource, Place,
+    Rule, TargetSink, Text, TextSink, attr_of, push_ae, push_te, token,
 };
 use std::alloc::Global;
 use std::test::Fail;
@@ -50,6 +50,40 @@ fn texts_and_values_are_escaped(rt: HostRuntime) -> Result<(), Fail> {
         assert_eq!(rt; out.as_str(), due.as_str());
     }
     Ok(())
+}
+
+#[test]
+fn a_token_keeps_all_but_four_characters(rt: HostRuntime) {
+    let rows = [
+        ("", ""),
+        (" \t\r\n", ""),
+        ("\n a\t b\r ", "a\t b"),
+        ("\u{c}a\u{a0} ", "\u{c}a\u{a0}"),
+        ("\u{2003}é\u{b}", "\u{2003}é\u{b}"),
+    ];
+    for (text, due) in rows {
+        assert_eq!(rt; token(text), due);
+    }
+}
+
+#[test]
+fn an_attribute_is_found_by_namespace_and_local_name(rt: HostRuntime) {
+    let attr = |ns, local, value| Attr {
+        name: Name { ns, local },
+        value,
+    };
+    let attrs = [attr("", "base", "plain"), attr("n", "base", "named")];
+    let element = Element {
+        place: Place { page: 0, offset: 0 },
+        name: Name { ns: "", local: "p" },
+        attrs: &attrs,
+        scope: &[],
+        children: &[],
+    };
+    assert_eq!(rt; attr_of(&element, "n", "base"), Some("named"));
+    assert_eq!(rt; attr_of(&element, "", "base"), Some("plain"));
+    assert_eq!(rt; attr_of(&element, "m", "base"), None);
+    assert_eq!(rt; attr_of(&element, "n", "Base"), None);
 }
 
 #[test]
