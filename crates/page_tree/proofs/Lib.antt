@@ -14,3 +14,5 @@ pub mod PieceLaws
 pub mod SizeLaws
 pub mod CodeNames
 pub mod ScopeLaws
+pub mod Children
+pub mod StackLaws

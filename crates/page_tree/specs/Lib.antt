@@ -8,4 +8,5 @@ pub mod Page
 pub mod Break
 pub mod Machine
 pub mod Views
+pub mod Stacks
 pub mod Names

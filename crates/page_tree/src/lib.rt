@@ -4,6 +4,7 @@
 mod kind;
 mod names;
 mod size;
+mod stack;
 mod token;
 pub mod laws;
 

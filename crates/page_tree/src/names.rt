@@ -131,7 +131,7 @@ fn is_bad(binding: &Binding<'_>) -> bool
 }
 
 /// The expanded name of an element.
-fn element_name<'a>(scope: &[Binding<'a>], name: &'a str) -> Name<'a>
+pub(crate) fn element_name<'a>(scope: &[Binding<'a>], name: &'a str) -> Name<'a>
     ensures { named result ≡ element_name_in (map bound scope.now) name.entry.now }
 {
     let ns = match namespace_of(scope, prefix(name)) {
@@ -353,7 +353,7 @@ pub(crate) fn scope_of<'a>(
 }
 
 /// The attributes that are no declarations, with their expanded names.
-fn attributes_of<'a>(
+pub(crate) fn attributes_of<'a>(
     arena: &'a Bump,
     scope: &[Binding<'a>],
     attrs: &[Attribute<'a>],

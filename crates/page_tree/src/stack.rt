@@ -1,0 +1,160 @@
+//! The open elements of a page, and what is built of them.
+ghost use Rattle.std.specs.Prelude.{◌≡◌, ◌++◌, ◌∷◌, [], ℕ, List, Bool, Some, None, OnOk, IfOk, IfSome, IsTrue, IsFalse, is_some, string_bytes, option_map, map};
+ghost use Rattle.ix_base.specs.Trees.{none, tree_of, nodes_of, named, valued, bound};
+ghost use Rattle.page_tree.specs.Machine.{flush, flushed, scope_in, closed, running, Frame};
+ghost use Rattle.page_tree.specs.Tags.{head_of, scope_of as scope_under_tag};
+ghost use Rattle.page_tree.specs.Views.{tag_of};
+ghost use Rattle.page_tree.specs.Stacks.{frame, frames_of};
+
+use crate::names::{attributes_of, element_name};
+use crate::token::Tag;
+use bumpalo::Bump;
+use ix_base::{Attr, Binding, Element, Name, NoMemory, Node, Place};
+use std::alloc::Global;
+
+/// An open element.
+#[derive(Drop)]
+pub(crate) struct Open<'a> {
+    pub written: &'a str,
+    pub place: Place,
+    pub name: Name<'a>,
+    pub attrs: &'a [Attr<'a>],
+    pub scope: &'a [Binding<'a>],
+    pub children: Vec<Node<'a>>,
+}
+
+/// The pending text becomes a child.
+fn flush_text<'a>(
+    arena: &'a Bump,
+    text: &mut String,
+    children: &mut Vec<Node<'a>>,
+) -> Result<(), NoMemory>
+    ensures nodes { OnOk result (nodes_of children.new.items ≡ flush (nodes_of children.old.items) (string_bytes text.old)) }
+    ensures text { OnOk result (string_bytes text.new ≡ []) }
+{
+    if text.is_empty() {
+        return Ok(());
+    }
+    let Ok(chars) = arena.try_alloc_str(text.as_str()) else {
+        return Err(NoMemory);
+    };
+    if children.push(Node::Chars(chars)).is_err() {
+        return Err(NoMemory);
+    }
+    text.clear();
+    Ok(())
+}
+
+impl<'a> Open<'a> {
+    /// The pending text becomes a child.
+    pub(crate) fn flush(&mut self, arena: &'a Bump, text: &mut String) -> Result<(), NoMemory>
+        ensures frame { OnOk result (frame self.new ≡ record (frame self.old) { done = flush (frame self.old).done (string_bytes text.old) }) }
+        ensures text { OnOk result (string_bytes text.new ≡ []) }
+    {
+        flush_text(arena, text, &mut self.children)
+    }
+}
+
+/// The pending text becomes a child of the innermost open element.
+pub(crate) fn flush_innermost<'a>(
+    arena: &'a Bump,
+    open: &mut Vec<Open<'a>>,
+    text: &mut String,
+) -> Result<(), NoMemory>
+    ensures { OnOk result (frames_of open.new.items ≡ flushed (frames_of open.old.items) (string_bytes text.old)) }
+{
+    let Some(mut parent) = open.pop() else {
+        return Ok(());
+    };
+    parent.flush(arena, text)?;
+    if open.push(parent).is_err() {
+        return Err(NoMemory);
+    }
+    Ok(())
+}
+
+/// The scope in the innermost open element, or that above the root.
+pub(crate) fn innermost_scope<'a>(
+    open: &[Open<'a>],
+    outer: &'a [Binding<'a>],
+) -> &'a [Binding<'a>]
+    requires { map bound outer.now ≡ outermost }
+    ensures { map bound result.now ≡ scope_in (frames_of open.now) }
+{
+    let Some(parent) = open.last() else {
+        return outer;
+    };
+    parent.scope
+}
+
+ghost use Rattle.ix_base.specs.Scope.{outermost, scope_under};
+
+/// An element that begins with this tag, in a scope of its own.
+pub(crate) fn open_element<'a>(
+    alloc: Global,
+    arena: &'a Bump,
+    page: u32,
+    scope: &'a [Binding<'a>],
+    tag: &Tag<'a>,
+) -> Result<Open<'a>, NoMemory>
+    ensures { IfOk result (λ o. (outer : _) → map bound scope.now ≡ scope_under_tag outer (tag_of tag.now)
+        → frame o ≡ record { written = tag.now.name.now; head = head_of outer (tag_of tag.now); done = none }) }
+{
+    let attrs = attributes_of(arena, scope, tag.attrs)?;
+    Ok(Open {
+        written: tag.name,
+        place: Place {
+            page,
+            offset: tag.offset,
+        },
+        name: element_name(scope, tag.name),
+        attrs,
+        scope,
+        children: Vec::new(alloc),
+    })
+}
+
+/// The element, once it has ended.
+pub(crate) fn close_element<'a>(
+    arena: &'a Bump,
+    own: Open<'a>,
+) -> Result<&'a Element<'a>, NoMemory>
+    ensures { IfOk result (λ e. tree_of e.now ≡ record { head = (frame own.entry).head; children = (frame own.entry).done }) }
+{
+    let Ok(children) = arena.try_alloc_slice_copy(own.children.as_slice()) else {
+        return Err(NoMemory);
+    };
+    let element = Element {
+        place: own.place,
+        name: own.name,
+        attrs: own.attrs,
+        scope: own.scope,
+        children,
+    };
+    match arena.try_alloc(element) {
+        Ok(e) => Ok(e),
+        Err(_) => Err(NoMemory),
+    }
+}
+
+/// A whole element goes to the one that it stands in, or is the root.
+pub(crate) fn put<'a>(
+    open: &mut Vec<Open<'a>>,
+    root: &mut Option<&'a Element<'a>>,
+    element: &'a Element<'a>,
+) -> Result<(), NoMemory>
+    ensures { OnOk result ((d : Bool) → closed (frames_of open.old.items) (tree_of element.now).head (tree_of element.now).children (option_map (λ e. tree_of e.now) root.old) d
+        ≡ record { frames = frames_of open.new.items; text = []; root = option_map (λ e. tree_of e.now) root.new; doctyped = d }) }
+{
+    let Some(mut parent) = open.pop() else {
+        *root = Some(element);
+        return Ok(());
+    };
+    if parent.children.push(Node::Elem(element)).is_err() {
+        return Err(NoMemory);
+    }
+    if open.push(parent).is_err() {
+        return Err(NoMemory);
+    }
+    Ok(())
+}
