@@ -1,5 +1,5 @@
 -- A text has one value at most in a format.
-use Rattle.std.proofs.Common.{◌≡◌, ℕ, Bool, true, false, List, [], Option, Some, None, refl, sym, ap, subst, ◌∙◌}
+use Rattle.std.proofs.Common.{◌≡◌, ℕ, true, false, List, [], Some, None, refl, sym, ap, subst, ◌∙◌}
 use Rattle.std.proofs.lemmas.Option.{same_Some}
 use Rattle.tr4_dates.specs.declared.format.DateFormat.{DateFormat}
 use Rattle.tr4_dates.specs.declared.format.Layout.{Layout}

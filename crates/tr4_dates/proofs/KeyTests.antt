@@ -43,13 +43,13 @@ key_spread (c ∷ d ∷ ds) spread =
     elim (cases_Bool (ltb c 128)) [
       | inl ascii ↦ key_at c (d ∷ ds) (ltb-true _ _ ascii) ∙ ap (λ t. to_ascii_lowercase c ∷ t) next ∙ sym (cond-true _ _ _ ascii)
       | inr wide ↦
-        elim (or_cases (ltb c 128) (ltb d 128) parts.0) [
-          | inl ascii ↦ absurd (false≢true (sym wide ∙ ascii))
-          | inr ascii ↦
-            key_parted (c ∷ []) d ds (ltb-true _ _ ascii)
-            ∙ ap (λ t. canonical_key (c ∷ []) ++ t) (sym (key_at d ds (ltb-true _ _ ascii)) ∙ next)
-            ∙ sym (cond-false _ _ _ wide)
-        ]
+          elim (or_cases (ltb c 128) (ltb d 128) parts.0) [
+            | inl ascii ↦ absurd (false≢true (sym wide ∙ ascii))
+            | inr ascii ↦
+                key_parted (c ∷ []) d ds (ltb-true _ _ ascii)
+                ∙ ap (λ t. canonical_key (c ∷ []) ++ t) (sym (key_at d ds (ltb-true _ _ ascii)) ∙ next)
+                ∙ sym (cond-false _ _ _ wide)
+          ]
     ]
 
 -- ---- tests of a key

@@ -1,15 +1,14 @@
 -- An ASCII character of a text stands, in lower case, at its place in the text's key.
-use Rattle.std.proofs.Common.{◌≡◌, ℕ, ◌<◌, List, [], ◌∷◌, ◌++◌, length, take, drop, get_or, map, chars, IsUtf8, IsCharBoundary, Bool, true, false, ◌≤◌, ◌+◌, subst, refl, sym, ap, ◌∙◌, arith}
+use Rattle.std.proofs.Common.{◌≡◌, ℕ, ◌<◌, List, [], ◌∷◌, ◌++◌, length, take, drop, get_or, map, chars, IsUtf8, true, ◌≤◌, ◌+◌, subst, refl, sym, ap, ◌∙◌, arith}
 use Rattle.std.proofs.lemmas.Bool.Decides.{nat_tests}
 use Rattle.std.proofs.lemmas.Str.{chars-append, IsUtf8-take, IsUtf8-drop, IsCharBoundary-before_ascii, IsCharBoundary-after_ascii, chars-nil, chars_past_char, encode_ascii}
 use Rattle.std.specs.Char.{to_ascii_lowercase}
-use Rattle.std.proofs.Common.{add-one, suc, zero}
+use Rattle.std.proofs.Common.{add-one, suc}
 use Rattle.std.proofs.Math.Seq.{drop-append_seam}
-use Rattle.std.proofs.lemmas.Bool.{and_parts, ltb-true}
-use Rattle.tr4_dates.specs.Runs.{Class, class_of, digits, letters, alphanumerics, all_in}
+use Rattle.std.proofs.lemmas.Bool.{and_parts}
+use Rattle.tr4_dates.specs.Runs.{class_of, alphanumerics, all_in}
 use Rattle.unicode_normalization.proofs.FormsLemmas.{normalize-nil}
 use Rattle.caseless.proofs.CaselessLemmas.{default_case_fold-nil}
-use Rattle.ucd_case.specs.CaseFolding.{full_fold}
 use Rattle.ucd_case.proofs.CaseFoldingLemmas.{full_fold-ascii}
 use Rattle.unicode_normalization.specs.Forms.{Nfd, nfd}
 use Rattle.unicode_normalization.proofs.FormsLemmas.{normalize-Nfd, normalize-ascii_boundary, decomposed-passing, is_final-Nfd, quick_check-ascii, class-latin}

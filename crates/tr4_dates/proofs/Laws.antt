@@ -1,5 +1,5 @@
 -- Reading gives what the parts join to, and nothing where nothing is joined.
-use Rattle.std.proofs.Common.{◌≡◌, ℕ, suc, ◌<◌, ◌≤◌, Bool, true, false, cond, not, ◌&&◌, ◌||◌, ◌==◌, List, [], ◌∷◌, ◌++◌, length, drop, map, codes, bytes_eq, Option, Some, None, refl, sym, ap, ap₂, subst, ◌∙◌, arith, rules, inl, inr, ◌⊎◌, append_assoc, append-nil}
+use Rattle.std.proofs.Common.{◌≡◌, ℕ, ◌≤◌, Bool, true, false, cond, not, ◌&&◌, List, [], ◌∷◌, ◌++◌, length, drop, map, bytes_eq, Option, Some, None, refl, sym, ap, subst, ◌∙◌, arith, inl, inr, ◌⊎◌, append-nil}
 use Rattle.std.specs.Prelude.{option_map, option_and_then, nat_le, chars}
 use Rattle.std.specs.Char.{to_ascii_lowercase}
 use Rattle.std.specs.Str.{is_utf8}
@@ -15,14 +15,14 @@ use Rattle.tr4_dates.specs.declared.part.Part.{Part}
 use Rattle.tr4_dates.specs.declared.part.Part.TheVariants.{Day, Month, Year, Gap, Tail, Signs, Edge, Ordinal, Name}
 use Rattle.tr4_dates.specs.Languages.{names, ordinals, has_links}
 use Rattle.tr4_dates.specs.Runs.{Class, Digit, Letter, Sign, class_of, is_nil, digits, letters, others, signs, alphanumerics, all_in, begins_in, ends_in, run, after, number}
-use Rattle.tr4_dates.specs.Parts.{IsIn, IsSmall, IsYear, IsWhole, IsName, IsSigns, IsLinked, IsSeparator, Joins, put, nothing, year_of, is_year_size, is_ordinal, is_listed, is_link}
+use Rattle.tr4_dates.specs.Parts.{IsIn, IsSmall, IsYear, IsName, IsSeparator, Joins, put, year_of, is_year_size, is_ordinal, is_listed, is_link}
 use Rattle.tr4_dates.specs.Reading.{read, says, piece_at, small, when, month_of, month_in, is_number, is_linked, closes, separator, name_at}
-use Rattle.tr4_dates.proofs.RunLemmas.{run_after, all_in-run, begins_in-after, run-append, run-whole, after-whole, ends_in-tail}
+use Rattle.tr4_dates.proofs.RunLemmas.{run_after, all_in-run, begins_in-after, run-append, run-whole}
 use Rattle.tr4_dates.proofs.KeyTests.{bytes_eq-true}
 use Rattle.tr4_dates.proofs.MonthKeys.{month_found, named_from}
 use Rattle.tr4_dates.proofs.Rows.{set_of, may_be_empty, may_begin, is_apart, may_end, is_row, is_told, is_value_next, is_number_next, is_name_end}
-use Rattle.tr4_dates.proofs.PlainNames.{IsPlainName, plain_name, link_letters, letters_from_low, all_low}
-use Rattle.tr4_dates.proofs.Pieces.{IsNameText, name_whole, name_parted, separator_whole, separator_is, separator_parted, closes_before, closes_before_end, behind_separator, no_first, sign_first}
+use Rattle.tr4_dates.proofs.PlainNames.{plain_name, link_letters, letters_from_low, all_low}
+use Rattle.tr4_dates.proofs.Pieces.{IsNameText, name_whole, name_parted, separator_whole, separator_is, separator_parted, closes_before, closes_before_end, behind_separator, sign_first}
 
 apart_at : (f g : Class → Bool) (c : Class) → is_apart f g ≡ true → g c ≡ true → f c ≡ false
 apart_at f g Digit apart at = grind arith
@@ -211,7 +211,7 @@ number_next l [] before behind ns next j = absurd (cc)
 number_next l (p ∷ ps) before behind ns next j =
     let first : begins_in digits j.0 ≡ true = number_first l p before j.0 j.1 j.2 next j.6 in
     subst (λ t. Follows l t × (begins_in letters t ≡ false)) (sym j.4)
-        (after_number l j.0 j.1 first, other_class digits letters (j.0 ++ j.1) digit_no_letter (begins_whole digits j.0 j.1 first))
+    (after_number l j.0 j.1 first, other_class digits letters (j.0 ++ j.1) digit_no_letter (begins_whole digits j.0 j.1 first))
 
 edge_first : (t : List ℕ) → all_in signs t ≡ true → begins_in letters t ≡ false
 unfolding all_in
@@ -370,8 +370,7 @@ small_from limit piece own all said =
     let c = cond_some ((nat_le 1 (length piece) && nat_le (length piece) 2) && (nat_le 1 (number piece) && nat_le (number piece) limit)) (Some (number piece)) own said in
     let parts = and_parts (nat_le 1 (length piece) && nat_le (length piece) 2) _ c.0 in
     let size = and_parts (nat_le 1 (length piece)) _ parts.0 in
-    let value = and_parts (nat_le 1 (number piece)) _ parts.1 in
-    (
+    let value = and_parts (nat_le 1 (number piece)) _ parts.1 in (
       number piece,
       sym c.1,
       record {
@@ -406,19 +405,18 @@ name_from l piece own said =
     elim (cases_Bool (is_utf8 piece && (begins_in letters piece && ends_in letters piece))) [
       | inr bad ↦ absurd (none_some own (sym (cond-false _ _ _ bad) ∙ said))
       | inl good ↦
-        let parts = and_parts (is_utf8 piece) _ good in
-        let ends = and_parts (begins_in letters piece) _ parts.1 in
-        let m = mapped (λ m. Some m) (month_in (names l) (canonical_key (chars piece))) own (sym (cond-true _ _ _ good) ∙ said) in
-        (
-          m.0,
-          sym m.2,
-          record {
-            text = IsUtf8-from_is_utf8 piece parts.0;
-            first = ends.0;
-            last = ends.1;
-            named = named_from (names l) piece m.0 m.1;
-          },
-        )
+          let parts = and_parts (is_utf8 piece) _ good in
+          let ends = and_parts (begins_in letters piece) _ parts.1 in
+          let m = mapped (λ m. Some m) (month_in (names l) (canonical_key (chars piece))) own (sym (cond-true _ _ _ good) ∙ said) in (
+            m.0,
+            sym m.2,
+            record {
+              text = IsUtf8-from_is_utf8 piece parts.0;
+              first = ends.0;
+              last = ends.1;
+              named = named_from (names l) piece m.0 m.1;
+            },
+          )
     ]
 
 -- a separator begins with a sign only where the text does
@@ -505,12 +503,12 @@ next_front l b p before piece behind ns i front no_end =
     elim (cases_Bool (is_number p)) [
       | inl yes_n ↦ absurd (true≢false (sym (cond-true (is_number p) true _ yes_n) ∙ no_end))
       | inr no_n ↦
-        let rest = sym (cond-false (is_number p) true (cond (may_be_empty p) b false) no_n) ∙ no_end in
-        let all = no_digit_of l p before piece behind ns no_n i in
-        elim (cases_Bool (may_be_empty p)) [
-          | inl empty ↦ ends_in-append digits others before piece other_no_digit all (inl (front (sym (cond-true (may_be_empty p) b false empty) ∙ rest)))
-          | inr full ↦ ends_in-append digits others before piece other_no_digit all (inr (some_of l p before piece behind ns i full))
-        ]
+          let rest = sym (cond-false (is_number p) true (cond (may_be_empty p) b false) no_n) ∙ no_end in
+          let all = no_digit_of l p before piece behind ns no_n i in
+          elim (cases_Bool (may_be_empty p)) [
+            | inl empty ↦ ends_in-append digits others before piece other_no_digit all (inl (front (sym (cond-true (may_be_empty p) b false empty) ∙ rest)))
+            | inr full ↦ ends_in-append digits others before piece other_no_digit all (inr (some_of l p before piece behind ns i full))
+          ]
     ]
 
 -- a digit stands before a number in no row
@@ -528,8 +526,7 @@ sound l (p ∷ ps) b before text ns row front r =
     let behind = drop (length piece) text in
     let said = chained (λ own. option_map (λ more. put p own more) (read l ps behind)) (says l p piece) ns r in
     let next = mapped (λ more. put p said.0 more) (read l ps behind) ns said.2 in
-    let here = in_from l p before text said.0 said.1 (λ n. front (is_open p b parts.0 n)) in
-    (
+    let here = in_from l p before text said.0 said.1 (λ n. front (is_open p b parts.0 n)) in (
       piece,
       behind,
       said.0,

@@ -1,5 +1,5 @@
 -- A text that is a month's name has the key of a name in the table, and says one month.
-use Rattle.std.proofs.Common.{◌≡◌, ℕ, Bool, true, false, cond, not, ◌&&◌, ◌||◌, List, [], ◌∷◌, map, chars, refl, sym, ap, ◌∙◌, bytes_eq, Option, Some, None, inl, inr, ◌⊎◌, eqb}
+use Rattle.std.proofs.Common.{◌≡◌, ℕ, true, false, not, ◌||◌, List, [], ◌∷◌, chars, sym, ap, ◌∙◌, bytes_eq, Some, inl, inr, eqb}
 use Rattle.std.specs.Str.{chars}
 use Rattle.std.proofs.lemmas.Bool.{and_parts, cases_Bool, cond-true, cond-false, false≢true, or_cases, eqb-true}
 use Rattle.std.proofs.lemmas.Option.{same_Some}

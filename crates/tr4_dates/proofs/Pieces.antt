@@ -1,14 +1,14 @@
 -- The pieces that a separator and a name take from the front of a text.
-use Rattle.std.proofs.Common.{◌≡◌, ℕ, ◌<◌, ◌≤◌, ◌+◌, Bool, true, false, cond, not, ◌&&◌, ◌||◌, List, [], ◌∷◌, ◌++◌, length, drop, if◌then◌else◌, refl, sym, ap, subst, ◌∙◌, arith, inl, inr, ◌⊎◌, append_assoc, append-nil}
+use Rattle.std.proofs.Common.{◌≡◌, ℕ, ◌≤◌, Bool, true, false, not, ◌&&◌, List, [], ◌∷◌, ◌++◌, length, drop, if◌then◌else◌, refl, sym, ap, ◌∙◌, arith, inl, inr, ◌⊎◌, append_assoc, append-nil}
 use Rattle.std.proofs.Math.Seq.{drop-append_seam}
-use Rattle.std.proofs.lemmas.Bool.{and_parts, and_from, and_left, and_right, cases_Bool, cond-true, cond-false, false≢true, true≢false, not_from_true, not_from_false}
+use Rattle.std.proofs.lemmas.Bool.{and_parts, and_from, and_right, cases_Bool, cond-true, cond-false, true≢false}
 use Rattle.tr4_dates.specs.declared.format.Language.{Language}
 use Rattle.tr4_dates.specs.Runs.{Class, Digit, Letter, Sign, class_of, letters, others, signs, alphanumerics, all_in, begins_in, ends_in, run, after}
 use Rattle.tr4_dates.specs.Languages.{has_links}
 use Rattle.tr4_dates.specs.Parts.{IsSigns, IsLinked, IsSeparator, is_link}
 use Rattle.tr4_dates.specs.Reading.{is_linked, link_and_signs, separator, closes, name_at}
 use Rattle.tr4_dates.proofs.RunLemmas.{run_after, all_in-run, begins_in-after, run-append, after-append, run-all, after-all, run-whole, after-whole, run-stops, ends_in-tail, all_in-tail}
-use Rattle.tr4_dates.proofs.PlainNames.{IsPlainName, link_letters, link_some}
+use Rattle.tr4_dates.proofs.PlainNames.{link_letters, link_some}
 
 -- what follows the separator at the front
 abbrev pub behind_separator : Language → List ℕ → List ℕ
@@ -23,8 +23,8 @@ separator_parted l text =
     let last = run_after signs (after letters (after signs text)) in
     elim (cases_Bool (has_links l && is_linked (after signs text))) [
       | inl linked ↦
-        rw (linked) (first ∙ ap (λ t. run signs text ++ t) (word ∙ ap (λ t. run letters (after signs text) ++ t) last ∙ sym (append_assoc (run letters (after signs text)) _ _))
-        ∙ sym (append_assoc (run signs text) _ _))
+          rw (linked) (first ∙ ap (λ t. run signs text ++ t) (word ∙ ap (λ t. run letters (after signs text) ++ t) last ∙ sym (append_assoc (run letters (after signs text)) _ _))
+          ∙ sym (append_assoc (run signs text) _ _))
       | inr plain ↦ rw (plain) first
     ]
 
@@ -116,17 +116,20 @@ unfolding separator
 separator_is l text first =
     elim (cases_Bool (has_links l && is_linked (after signs text))) [
       | inl both ↦
-        let links = and_parts (has_links l) _ both in
-        let parts = and_parts (is_link (run letters (after signs text))) _ links.1 in
-        rw (both) (inr (links.0, record {
-          front = run signs text;
-          link = run letters (after signs text);
-          back = run signs (after letters (after signs text));
-          joined = refl;
-          front_signs = signs_run text (some_run text first);
-          is_de = parts.0;
-          back_signs = signs_run _ (some_run _ parts.1);
-        }))
+          let links = and_parts (has_links l) _ both in
+          let parts = and_parts (is_link (run letters (after signs text))) _ links.1 in
+          rw (both) (inr (
+            links.0,
+            record {
+              front = run signs text;
+              link = run letters (after signs text);
+              back = run signs (after letters (after signs text));
+              joined = refl;
+              front_signs = signs_run text (some_run text first);
+              is_de = parts.0;
+              back_signs = signs_run _ (some_run _ parts.1);
+            },
+          ))
       | inr plain ↦ rw (plain) (inl (signs_run text (some_run text first)))
     ]
 
@@ -169,20 +172,20 @@ inside l v t h stop =
     elim (cases_Bool (has_links l && is_linked (after signs (v ++ t)))) [
       | inr plain ↦ ap (begins_in letters) (cond-false _ _ _ plain) ∙ past_signs v t h.no_digit h.last
       | inl both ↦
-        let parts = and_parts (has_links l) _ both in
-        let linked : is_linked (rest ++ t) ≡ true = sym (ap is_linked stops.1) ∙ parts.1 in
-        let link : is_link (run letters rest) ≡ true = sym (ap is_link word) ∙ (and_parts (is_link (run letters (rest ++ t))) _ linked).0 in
-        elim (cases_nil later) [
-          | inl none ↦
-            let whole : rest ≡ run letters rest = run_after letters rest ∙ ap (λ x. run letters rest ++ x) none ∙ append-nil _ in
-            let not_link = h.no_back_link parts.0 (run signs v) (run letters rest) (run_after signs v ∙ ap (λ x. run signs v ++ x) whole) in
-            absurd (true≢false (sym link ∙ not_link))
-          | inr some ↦
-            let later_ends : ends_in letters later ≡ true = sym (ends_in-tail letters (run letters rest) later some) ∙ sym (ap (ends_in letters) (run_after letters rest)) ∙ stops.2 in
-            let later_all : all_in others later ≡ true = all_in-tail others (run letters rest) later (sym (ap (all_in others) (run_after letters rest)) ∙ rest_all) in
-            ap (begins_in letters) (cond-true _ _ _ both ∙ ap (λ x. after signs (after letters x)) stops.1 ∙ ap (after signs) past)
-            ∙ past_signs later t later_all later_ends
-        ]
+          let parts = and_parts (has_links l) _ both in
+          let linked : is_linked (rest ++ t) ≡ true = sym (ap is_linked stops.1) ∙ parts.1 in
+          let link : is_link (run letters rest) ≡ true = sym (ap is_link word) ∙ (and_parts (is_link (run letters (rest ++ t))) _ linked).0 in
+          elim (cases_nil later) [
+            | inl none ↦
+                let whole : rest ≡ run letters rest = run_after letters rest ∙ ap (λ x. run letters rest ++ x) none ∙ append-nil _ in
+                let not_link = h.no_back_link parts.0 (run signs v) (run letters rest) (run_after signs v ∙ ap (λ x. run signs v ++ x) whole) in
+                absurd (true≢false (sym link ∙ not_link))
+            | inr some ↦
+                let later_ends : ends_in letters later ≡ true = sym (ends_in-tail letters (run letters rest) later some) ∙ sym (ap (ends_in letters) (run_after letters rest)) ∙ stops.2 in
+                let later_all : all_in others later ≡ true = all_in-tail others (run letters rest) later (sym (ap (all_in others) (run_after letters rest)) ∙ rest_all) in
+                ap (begins_in letters) (cond-true _ _ _ both ∙ ap (λ x. after signs (after letters x)) stops.1 ∙ ap (after signs) past)
+                ∙ past_signs later t later_all later_ends
+          ]
     ]
 
 closed_nowhere : (l : Language) (v t : List ℕ) → IsNameText l v → begins_in letters t ≡ false → closes l (v ++ t) ≡ false

@@ -1,12 +1,12 @@
 -- What a month's name has not, whatever characters it is written with.
-use Rattle.std.proofs.Common.{◌≡◌, ℕ, ◌<◌, ◌≤◌, ◌+◌, Bool, true, false, cond, not, ◌&&◌, ◌||◌, List, [], ◌∷◌, ◌++◌, length, map, take, chars, codes, IsUtf8, bytes_eq, refl, sym, ap, subst, ◌∙◌, arith, inl, inr, ◌⊎◌, append_assoc, append-nil}
+use Rattle.std.proofs.Common.{◌≡◌, ℕ, ◌≤◌, Bool, true, false, not, ◌&&◌, List, [], ◌∷◌, ◌++◌, length, map, take, chars, codes, IsUtf8, bytes_eq, refl, sym, ap, subst, ◌∙◌, arith, inl, inr, ◌⊎◌, append_assoc, append-nil}
 use Rattle.std.specs.Char.{to_ascii_lowercase, is_ascii_digit, is_ascii_lowercase}
-use Rattle.std.proofs.lemmas.Bool.{and_parts, and_from, cases_Bool, false≢true, true≢false, or_cases, false_from_ne_true, not-true}
+use Rattle.std.proofs.lemmas.Bool.{and_parts, and_from, cases_Bool, false≢true, true≢false, or_cases, false_from_ne_true}
 use Rattle.std.proofs.lemmas.Bool.Decides.{nat_tests}
 use Rattle.std.proofs.lemmas.Str.{chars-nil}
 use Rattle.caseless.specs.Caseless.{canonical_key}
 use Rattle.tr4_dates.specs.declared.format.Language.{Language}
-use Rattle.tr4_dates.specs.Runs.{Class, Digit, Letter, Sign, class_of, letters, others, alphanumerics, all_in, begins_in, ends_in, run, after}
+use Rattle.tr4_dates.specs.Runs.{Class, Digit, Letter, Sign, class_of, letters, others, alphanumerics, all_in, run, after}
 use Rattle.tr4_dates.specs.Parts.{IsName, is_link}
 use Rattle.tr4_dates.specs.Languages.{has_links}
 use Rattle.tr4_dates.proofs.RunLemmas.{run_after, all_in-run}
@@ -117,10 +117,10 @@ module _ (l : Language) (piece : List ℕ) (month : ℕ) (name : IsName l piece 
       elim (cases_Bool (others (class_of b))) [
         | inl other ↦ and_from (others (class_of b)) _ other later
         | inr digit ↦
-          let d = digit_at b digit in
-          let k = key_at_word u (b ∷ []) bs e (omega arith) (and_from (alphanumerics (class_of b)) true d.0 refl) in
-          let no = no_digits-at (canonical_key (chars u)) (to_ascii_lowercase b) (canonical_key (chars bs)) (sym (ap no_digits k) ∙ digitless) in
-          absurd (true≢false (sym d.1 ∙ no))
+            let d = digit_at b digit in
+            let k = key_at_word u (b ∷ []) bs e (omega arith) (and_from (alphanumerics (class_of b)) true d.0 refl) in
+            let no = no_digits-at (canonical_key (chars u)) (to_ascii_lowercase b) (canonical_key (chars bs)) (sym (ap no_digits k) ∙ digitless) in
+            absurd (true≢false (sym d.1 ∙ no))
       ]
 
   front_link : has_links l ≡ true → is_link (run letters piece) ≡ true → ⊥
@@ -131,10 +131,10 @@ module _ (l : Language) (piece : List ℕ) (month : ℕ) (name : IsName l piece 
       let key = k ∙ ap (λ t. t ++ (map to_ascii_lowercase w ++ canonical_key (chars (after letters piece)))) empty_key in
       let no = (and_parts (not (bytes_eq (take 2 (canonical_key (chars piece))) (codes "de"))) _ (linkless links)).0 in
       let two : take 2 (canonical_key (chars piece)) ≡ codes "de" =
-          elim (link_words w h) [
-            | inl de ↦ ap (take 2) (key ∙ ap (λ t. t ++ canonical_key (chars (after letters piece))) de)
-            | inr del ↦ ap (take 2) (key ∙ ap (λ t. t ++ canonical_key (chars (after letters piece))) del)
-          ] in
+      elim (link_words w h) [
+        | inl de ↦ ap (take 2) (key ∙ ap (λ t. t ++ canonical_key (chars (after letters piece))) de)
+        | inr del ↦ ap (take 2) (key ∙ ap (λ t. t ++ canonical_key (chars (after letters piece))) del)
+      ] in
       absurd (false≢true (sym (ap not (bytes_eq-same _ _ two)) ∙ no))
 
   back_link : has_links l ≡ true → (u w : List ℕ) → piece ≡ u ++ w → is_link w ≡ true → ⊥

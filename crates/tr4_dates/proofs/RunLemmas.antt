@@ -1,7 +1,7 @@
 -- Runs of bytes at the front of a text.
-use Rattle.std.proofs.Common.{◌≡◌, ℕ, ◌<◌, ◌≤◌, Bool, true, false, cond, not, ◌&&◌, ◌||◌, List, [], ◌∷◌, ◌++◌, length, refl, sym, ap, ◌∙◌, arith, rules, inl, inr, ◌⊎◌}
-use Rattle.std.proofs.lemmas.Bool.{and_parts, and_from, cases_Bool, cond-true, cond-false, true≢false}
-use Rattle.tr4_dates.specs.Runs.{Class, class_of, digits, all_in, begins_in, ends_in, run, after}
+use Rattle.std.proofs.Common.{◌≡◌, ℕ, ◌≤◌, Bool, true, false, List, [], ◌∷◌, ◌++◌, length, refl, ap, ◌∙◌, arith, inl, inr}
+use Rattle.std.proofs.lemmas.Bool.{and_parts, and_from, cases_Bool, cond-true, cond-false}
+use Rattle.tr4_dates.specs.Runs.{Class, class_of, all_in, begins_in, ends_in, run, after}
 
 pub run_after : (set : Class → Bool) (t : List ℕ) → t ≡ run set t ++ after set t
 unfolding run after

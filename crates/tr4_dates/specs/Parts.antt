@@ -1,7 +1,7 @@
 -- The parts of a date's text: which texts are in each part's set, and what they say. Texts are bytes: each cut between
 -- two parts has an ASCII letter or digit on one side, so the pieces of a UTF-8 text are UTF-8, and a byte from 128 on is
 -- one of a character that is no ASCII letter and no ASCII digit.
-use Rattle.std.specs.Prelude.{ℕ, ◌≡◌, ◌<◌, ◌≤◌, ◌+◌, ◌⊎◌, Bool, true, false, ◌&&◌, ◌||◌, ◌==◌, nat_le, List, [], ◌∷◌, ◌++◌, length, map, chars, codes, bytes_eq, IsUtf8, Option, Some, None, if◌then◌else◌}
+use Rattle.std.specs.Prelude.{ℕ, ◌≡◌, ◌≤◌, ◌+◌, ◌⊎◌, Bool, true, false, ◌||◌, ◌==◌, nat_le, List, [], ◌∷◌, ◌++◌, length, map, chars, codes, bytes_eq, IsUtf8, Option, Some, None, if◌then◌else◌}
 use Rattle.std.specs.Char.{to_ascii_lowercase}
 use Rattle.caseless.specs.Caseless.{IsCanonicalMatch}
 use Rattle.tr4_dates.specs.Languages.{Row, names, ordinals, has_links}

@@ -1,5 +1,5 @@
 -- How the code reads a text from the front, part by part. No public contract cites it: the laws join it to the parts.
-use Rattle.std.specs.Prelude.{ℕ, ◌≡◌, ◌+◌, Bool, true, false, not, ◌&&◌, ◌||◌, ◌==◌, nat_le, List, [], ◌∷◌, ◌++◌, length, drop, map, chars, bytes_eq, if◌then◌else◌, Option, Some, None, option_map, option_and_then}
+use Rattle.std.specs.Prelude.{ℕ, Bool, true, false, not, ◌&&◌, nat_le, List, [], ◌∷◌, ◌++◌, length, drop, map, chars, bytes_eq, if◌then◌else◌, Option, Some, None, option_map, option_and_then}
 use Rattle.std.specs.Char.{to_ascii_lowercase}
 use Rattle.std.specs.Str.{is_utf8}
 use Rattle.caseless.specs.Caseless.{canonical_key}
@@ -7,7 +7,7 @@ use Rattle.tr4_dates.specs.declared.format.Language.{Language}
 use Rattle.tr4_dates.specs.declared.part.Part.{Part}
 use Rattle.tr4_dates.specs.declared.part.Part.TheVariants.{Day, Month, Year, Gap, Tail, Signs, Edge, Ordinal, Name}
 use Rattle.tr4_dates.specs.Languages.{Row, names, has_links}
-use Rattle.tr4_dates.specs.Runs.{Class, Digit, Letter, Sign, class_of, digits, letters, others, signs, alphanumerics, all_in, begins_in, ends_in, number, run, after}
+use Rattle.tr4_dates.specs.Runs.{class_of, digits, letters, others, signs, alphanumerics, begins_in, ends_in, number, run, after}
 use Rattle.tr4_dates.specs.Parts.{is_year_size, year_of, is_ordinal, is_link, nothing, put}
 use Rattle.tr4_dates.specs.declared.part.Fields.{Fields}
 
@@ -76,8 +76,8 @@ read l [] [] = Some nothing
 read l [] (b ∷ bs) = None
 read l (p ∷ ps) text =
     option_and_then
-        (λ own. option_map (λ more. put p own more) (read l ps (drop (length (piece_at l p text)) text)))
-        (says l p (piece_at l p text))
+    (λ own. option_map (λ more. put p own more) (read l ps (drop (length (piece_at l p text)) text)))
+    (says l p (piece_at l p text))
 
 -- the part takes digits
 abbrev pub is_number : Part → Bool

@@ -149,9 +149,24 @@ pub fn layout_in(format: DateFormat) -> Layout
         DateFormat::YearMonthDay => Layout::YearMonthDay,
         DateFormat::MonthYear => Layout::MonthYear,
         DateFormat::YearMonth => Layout::YearMonth,
-        DateFormat::DayMonthNameEn | DateFormat::DayMonthNameDe | DateFormat::DayMonthNameFr | DateFormat::DayMonthNameEs | DateFormat::DayMonthNameIt | DateFormat::DayMonthNameNl => Layout::DayMonthName,
-        DateFormat::DayMonthNameYearEn | DateFormat::DayMonthNameYearDe | DateFormat::DayMonthNameYearFr | DateFormat::DayMonthNameYearEs | DateFormat::DayMonthNameYearIt | DateFormat::DayMonthNameYearNl => Layout::DayMonthNameYear,
-        DateFormat::MonthNameYearEn | DateFormat::MonthNameYearDe | DateFormat::MonthNameYearFr | DateFormat::MonthNameYearEs | DateFormat::MonthNameYearIt | DateFormat::MonthNameYearNl => Layout::MonthNameYear,
+        DateFormat::DayMonthNameEn
+        | DateFormat::DayMonthNameDe
+        | DateFormat::DayMonthNameFr
+        | DateFormat::DayMonthNameEs
+        | DateFormat::DayMonthNameIt
+        | DateFormat::DayMonthNameNl => Layout::DayMonthName,
+        DateFormat::DayMonthNameYearEn
+        | DateFormat::DayMonthNameYearDe
+        | DateFormat::DayMonthNameYearFr
+        | DateFormat::DayMonthNameYearEs
+        | DateFormat::DayMonthNameYearIt
+        | DateFormat::DayMonthNameYearNl => Layout::DayMonthNameYear,
+        DateFormat::MonthNameYearEn
+        | DateFormat::MonthNameYearDe
+        | DateFormat::MonthNameYearFr
+        | DateFormat::MonthNameYearEs
+        | DateFormat::MonthNameYearIt
+        | DateFormat::MonthNameYearNl => Layout::MonthNameYear,
         DateFormat::MonthNameDayEn => Layout::MonthNameDay,
         DateFormat::MonthNameDayYearEn => Layout::MonthNameDayYear,
         DateFormat::YearMonthNameEn => Layout::YearMonthName,
@@ -163,11 +178,16 @@ pub fn language_in(format: DateFormat) -> Language
     ensures { result ≡ language_of format }
 {
     match format {
-        DateFormat::DayMonthNameDe | DateFormat::DayMonthNameYearDe | DateFormat::MonthNameYearDe => Language::De,
-        DateFormat::DayMonthNameFr | DateFormat::DayMonthNameYearFr | DateFormat::MonthNameYearFr => Language::Fr,
-        DateFormat::DayMonthNameEs | DateFormat::DayMonthNameYearEs | DateFormat::MonthNameYearEs => Language::Es,
-        DateFormat::DayMonthNameIt | DateFormat::DayMonthNameYearIt | DateFormat::MonthNameYearIt => Language::It,
-        DateFormat::DayMonthNameNl | DateFormat::DayMonthNameYearNl | DateFormat::MonthNameYearNl => Language::Nl,
+        DateFormat::DayMonthNameDe | DateFormat::DayMonthNameYearDe | DateFormat::MonthNameYearDe =>
+            Language::De,
+        DateFormat::DayMonthNameFr | DateFormat::DayMonthNameYearFr | DateFormat::MonthNameYearFr =>
+            Language::Fr,
+        DateFormat::DayMonthNameEs | DateFormat::DayMonthNameYearEs | DateFormat::MonthNameYearEs =>
+            Language::Es,
+        DateFormat::DayMonthNameIt | DateFormat::DayMonthNameYearIt | DateFormat::MonthNameYearIt =>
+            Language::It,
+        DateFormat::DayMonthNameNl | DateFormat::DayMonthNameYearNl | DateFormat::MonthNameYearNl =>
+            Language::Nl,
         _ => Language::En,
     }
 }

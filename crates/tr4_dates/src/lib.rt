@@ -17,7 +17,6 @@ mod month;
 mod part;
 mod read;
 mod run;
-mod tests;
 mod value;
 
 use crate::format::{language_in, layout_in, parts_in};
@@ -57,7 +56,12 @@ pub fn apply(alloc: Global, format: DateFormat, text: &str) -> Result<Text, TrFa
     ensures only { (v : List ℕ) → Tr format text.now v → IfOk result (λ r. r ≡ v) }
     ensures refused { IsErrOf result fault.NotInGrammar → (v : List ℕ) → Tr format text.now v → ⊥ }
 {
-    match fields_in(alloc, language_in(format), parts_in(layout_in(format)), text.as_bytes())? {
+    match fields_in(
+        alloc,
+        language_in(format),
+        parts_in(layout_in(format)),
+        text.as_bytes(),
+    )? {
         None => Err(TrFault::NotInGrammar),
         Some(said) => {
             if !is_real(said) {
@@ -71,11 +75,12 @@ pub fn apply(alloc: Global, format: DateFormat, text: &str) -> Result<Text, TrFa
 /// A text has one value at most in a format.
 pub fn one_value(format: DateFormat)
     ensures { (text a b : List ℕ) → Tr format text a → Tr format text b → a ≡ b }
-{
-}
+{}
 
 /// No text matches names of two months of one language.
 pub fn one_month()
     ensures { (l : Language) → (text : List ℕ) → (m n : ℕ) → IsNameIn (names l) text m → IsNameIn (names l) text n → m ≡ n }
-{
-}
+{}
+
+#[cfg(test)]
+mod tests;

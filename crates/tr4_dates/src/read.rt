@@ -59,7 +59,9 @@ fn is_letter_next(language: Language, text: &[u8]) -> bool
 fn ends_name(language: Language, byte: u8, behind: &[u8]) -> bool
     ensures { result ≡ (letters (class_of byte) && closes language behind.now) }
 {
-    has(Set::Letters, byte) && !begins(Set::Alphanumerics, behind) && !is_letter_next(language, behind)
+    has(Set::Letters, byte)
+        && !begins(Set::Alphanumerics, behind)
+        && !is_letter_next(language, behind)
 }
 
 /// The length of the name at the front.
@@ -102,7 +104,12 @@ fn number_of(piece: &[u8]) -> Option<u16>
     match piece {
         [a] => Some((*a - b'0') as u16),
         [a, b] => Some((*a - b'0') as u16 * 10 + (*b - b'0') as u16),
-        [a, b, c, d] => Some((*a - b'0') as u16 * 1000 + (*b - b'0') as u16 * 100 + (*c - b'0') as u16 * 10 + (*d - b'0') as u16),
+        [a, b, c, d] => Some(
+            (*a - b'0') as u16 * 1000
+                + (*b - b'0') as u16 * 100
+                + (*c - b'0') as u16 * 10
+                + (*d - b'0') as u16,
+        ),
         _ => None,
     }
 }
@@ -127,7 +134,11 @@ fn year_in(piece: &[u8]) -> Option<Option<u16>>
     ensures { result ≡ when (is_year_size (length piece.now) && nat_le 1 (year_of piece.now)) (Some (year_of piece.now)) }
 {
     let number = number_of(piece)?;
-    let year = if piece.len() <= 2 { 2000 + number } else { number };
+    let year = if piece.len() <= 2 {
+        2000 + number
+    } else {
+        number
+    };
     if year == 0 {
         return None;
     }
@@ -149,7 +160,11 @@ fn is_ordinal_word(language: Language, word: &[u8]) -> bool
 {
     match language {
         Language::En => {
-            word.is_empty() || is_word(word, b"st") || is_word(word, b"nd") || is_word(word, b"rd") || is_word(word, b"th")
+            word.is_empty()
+                || is_word(word, b"st")
+                || is_word(word, b"nd")
+                || is_word(word, b"rd")
+                || is_word(word, b"th")
         }
         Language::Fr => word.is_empty() || is_word(word, b"er"),
         Language::De | Language::Es | Language::It | Language::Nl => word.is_empty(),
@@ -165,7 +180,12 @@ fn filled(holds: bool) -> Option<Option<u16>>
 
 /// What the piece says; none where it isn't in the part's set.
 #[tactic(auto, unfolding(crate::specs::Reading::says))]
-fn said(alloc: Global, language: Language, part: Part, piece: &[u8]) -> Result<Option<Option<u16>>, NoMemory>
+fn said(
+    alloc: Global,
+    language: Language,
+    part: Part,
+    piece: &[u8],
+) -> Result<Option<Option<u16>>, NoMemory>
     requires { is_number part ≡ true → all_in digits piece.now ≡ true }
     ensures { IfOk result (λ r. r ≡ says language part piece.now) }
 {
@@ -183,13 +203,22 @@ fn said(alloc: Global, language: Language, part: Part, piece: &[u8]) -> Result<O
 
 /// The numbers that the text says; none where the parts don't join to it.
 #[tactic(auto, using(crate::proofs::CodeLemmas::piece_fits, crate::proofs::CodeLemmas::piece_digits, crate::proofs::CodeLemmas::piece_taken, crate::proofs::CodeLemmas::read_nil, crate::proofs::CodeLemmas::read_more, crate::proofs::CodeLemmas::read_refused, crate::proofs::CodeLemmas::read_lost, crate::proofs::CodeLemmas::read_found))]
-pub fn fields_in(alloc: Global, language: Language, parts: &[Part], text: &[u8]) -> Result<Option<Fields>, NoMemory>
+pub fn fields_in(
+    alloc: Global,
+    language: Language,
+    parts: &[Part],
+    text: &[u8],
+) -> Result<Option<Fields>, NoMemory>
     ensures { IfOk result (λ r. r ≡ read language parts.now text.now) }
 {
     match parts.split_first() {
         None => {
             if text.is_empty() {
-                Ok(Some(Fields { year: None, month: None, day: None }))
+                Ok(Some(Fields {
+                    year: None,
+                    month: None,
+                    day: None,
+                }))
             } else {
                 Ok(None)
             }

@@ -1,4 +1,4 @@
-use Rattle.std.proofs.Common.{◌≡◌, sym, ◌∙◌, arith, chars, length, true, false, true≢false}
+use Rattle.std.proofs.Common.{sym, ◌∙◌, chars, true≢false}
 use Rattle.caseless.specs.Caseless.{canonical_key}
 use Rattle.tr4_dates.proofs.CodeLemmas.{month_here, month_later}
 use Rattle.tr4_dates.proofs.month.month_among.Goals as goal

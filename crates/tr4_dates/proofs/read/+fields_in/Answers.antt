@@ -1,4 +1,4 @@
-use Rattle.std.proofs.Common.{◌≡◌, sym, ◌∙◌, arith}
+use Rattle.std.proofs.Common.{arith}
 use Rattle.std.proofs.lemmas.Grind.{common_steps}
 use Rattle.tr4_dates.proofs.CodeLemmas.{read_refused, piece_taken}
 use Rattle.tr4_dates.proofs.read.«+fields_in».Goals as goal

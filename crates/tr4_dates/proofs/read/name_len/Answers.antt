@@ -1,4 +1,4 @@
-use Rattle.std.proofs.Common.{◌≡◌, sym, ◌∙◌, arith}
+use Rattle.std.proofs.Common.{sym, ◌∙◌, arith}
 use Rattle.tr4_dates.proofs.CodeLemmas.{name_closed, name_more, name_done}
 use Rattle.tr4_dates.proofs.read.name_len.Goals as goal
 

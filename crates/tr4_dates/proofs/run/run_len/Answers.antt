@@ -1,4 +1,4 @@
-use Rattle.std.proofs.Common.{◌≡◌, sym, ◌∙◌, arith}
+use Rattle.std.proofs.Common.{sym, ◌∙◌, arith}
 use Rattle.tr4_dates.specs.Code.{set_named}
 use Rattle.tr4_dates.proofs.CodeLemmas.{run_more, run_ended, run_done}
 use Rattle.tr4_dates.proofs.run.run_len.Goals as goal
