@@ -14,121 +14,76 @@ fn gives(alloc: Global, local: &str, text: &str, value: &str) -> bool {
     }
 }
 
-/// Each format: a text that it takes, its value, and a text that it refuses.
-const FORMATS: [(&str, &str, &str, &str); 28] = [
-    ("date-day-month", "29.2", "--02-29", "31/4"),
-    ("date-month-day", "2/29", "--02-29", "29/2"),
-    ("date-day-month-year", "31.12.1", "2001-12-31", "1.1.123"),
-    (
-        "date-month-day-year",
-        "12/31/1999",
-        "1999-12-31",
-        "31/12/1999",
-    ),
-    ("date-year-month-day", "24 2 29", "2024-02-29", "23 2 29"),
-    ("date-month-year", "7/2023", "2023-07", "13 2023"),
-    ("date-year-month", "2023-7", "2023-07", "2023"),
-    ("date-day-monthname-en", "1st May", "--05-01", "1er May"),
-    ("date-day-monthname-de", "3. März", "--03-03", "3rd März"),
-    ("date-day-monthname-fr", "1er avril", "--04-01", "31 avril"),
-    (
-        "date-day-monthname-es",
-        "5 de mayo",
-        "--05-05",
-        "5 de de mayo",
-    ),
-    (
-        "date-day-monthname-it",
-        "17 marzo",
-        "--03-17",
-        "17 de marzo",
-    ),
-    ("date-day-monthname-nl", "1 mei", "--05-01", "1 mai"),
-    (
-        "date-day-monthname-year-en",
-        "29 Feb 24",
-        "2024-02-29",
-        "29 Feb 23",
-    ),
-    (
-        "date-day-monthname-year-de",
-        "3. März 2024",
-        "2024-03-03",
-        "3. March 2024",
-    ),
-    (
-        "date-day-monthname-year-fr",
-        "1er AOÛT 2023",
-        "2023-08-01",
-        "29 février 2023",
-    ),
+/// A text that each format takes, and its value.
+const TAKEN: [(&str, &str, &str); 28] = [
+    ("date-day-month", "29.2", "--02-29"),
+    ("date-month-day", "2/29", "--02-29"),
+    ("date-day-month-year", "31.12.1", "2001-12-31"),
+    ("date-month-day-year", "12/31/1999", "1999-12-31"),
+    ("date-year-month-day", "24 2 29", "2024-02-29"),
+    ("date-month-year", "7/2023", "2023-07"),
+    ("date-year-month", "2023-7", "2023-07"),
+    ("date-day-monthname-en", "1st May", "--05-01"),
+    ("date-day-monthname-de", "3. März", "--03-03"),
+    ("date-day-monthname-fr", "1er avril", "--04-01"),
+    ("date-day-monthname-es", "5 de mayo", "--05-05"),
+    ("date-day-monthname-it", "17 marzo", "--03-17"),
+    ("date-day-monthname-nl", "1 mei", "--05-01"),
+    ("date-day-monthname-year-en", "29 Feb 24", "2024-02-29"),
+    ("date-day-monthname-year-de", "3. März 2024", "2024-03-03"),
+    ("date-day-monthname-year-fr", "1er AOÛT 2023", "2023-08-01"),
     (
         "date-day-monthname-year-es",
         "31 de diciembre de 2023",
         "2023-12-31",
-        "31 de dicembre de 2023",
     ),
-    (
-        "date-day-monthname-year-it",
-        "1 gennaio 2020",
-        "2020-01-01",
-        "1 gennaio 0000",
-    ),
-    (
-        "date-day-monthname-year-nl",
-        "28 mrt 2021",
-        "2021-03-28",
-        "28mrt 2021",
-    ),
-    (
-        "date-monthname-year-en",
-        "Sept. 2020",
-        "2020-09",
-        "Sept. 20 20",
-    ),
-    (
-        "date-monthname-year-de",
-        "Jänner 2021",
-        "2021-01",
-        "Jaenner 2021",
-    ),
-    (
-        "date-monthname-year-fr",
-        "déc. 2019",
-        "2019-12",
-        "dic. 2019",
-    ),
-    (
-        "date-monthname-year-es",
-        "enero del 2019",
-        "2019-01",
-        "enerode 2019",
-    ),
-    (
-        "date-monthname-year-it",
-        "sett 2018",
-        "2018-09",
-        "sept 2018",
-    ),
-    (
-        "date-monthname-year-nl",
-        "augustus 2018",
-        "2018-08",
-        "agosto 2018",
-    ),
-    (
-        "date-monthname-day-en",
-        "February 29",
-        "--02-29",
-        "February 30",
-    ),
+    ("date-day-monthname-year-it", "1 gennaio 2020", "2020-01-01"),
+    ("date-day-monthname-year-nl", "28 mrt 2021", "2021-03-28"),
+    ("date-monthname-year-en", "Sept. 2020", "2020-09"),
+    ("date-monthname-year-de", "Jänner 2021", "2021-01"),
+    ("date-monthname-year-fr", "déc. 2019", "2019-12"),
+    ("date-monthname-year-es", "enero del 2019", "2019-01"),
+    ("date-monthname-year-it", "sett 2018", "2018-09"),
+    ("date-monthname-year-nl", "augustus 2018", "2018-08"),
+    ("date-monthname-day-en", "February 29", "--02-29"),
     (
         "date-monthname-day-year-en",
         "September 3rd 2020",
         "2020-09-03",
-        "September 2020",
     ),
-    ("date-year-monthname-en", "2020 May", "2020-05", "2020May"),
+    ("date-year-monthname-en", "2020 May", "2020-05"),
+];
+
+/// A text that each format refuses.
+const REFUSED: [(&str, &str); 28] = [
+    ("date-day-month", "31/4"),
+    ("date-month-day", "29/2"),
+    ("date-day-month-year", "1.1.123"),
+    ("date-month-day-year", "31/12/1999"),
+    ("date-year-month-day", "23 2 29"),
+    ("date-month-year", "13 2023"),
+    ("date-year-month", "2023"),
+    ("date-day-monthname-en", "1er May"),
+    ("date-day-monthname-de", "3rd März"),
+    ("date-day-monthname-fr", "31 avril"),
+    ("date-day-monthname-es", "5 de de mayo"),
+    ("date-day-monthname-it", "17 de marzo"),
+    ("date-day-monthname-nl", "1 mai"),
+    ("date-day-monthname-year-en", "29 Feb 23"),
+    ("date-day-monthname-year-de", "3. March 2024"),
+    ("date-day-monthname-year-fr", "29 février 2023"),
+    ("date-day-monthname-year-es", "31 de dicembre de 2023"),
+    ("date-day-monthname-year-it", "1 gennaio 0000"),
+    ("date-day-monthname-year-nl", "28mrt 2021"),
+    ("date-monthname-year-en", "Sept. 20 20"),
+    ("date-monthname-year-de", "Jaenner 2021"),
+    ("date-monthname-year-fr", "dic. 2019"),
+    ("date-monthname-year-es", "enerode 2019"),
+    ("date-monthname-year-it", "sept 2018"),
+    ("date-monthname-year-nl", "agosto 2018"),
+    ("date-monthname-day-en", "February 30"),
+    ("date-monthname-day-year-en", "September 2020"),
+    ("date-year-monthname-en", "2020May"),
 ];
 
 /// Further texts, and their values.
@@ -197,16 +152,19 @@ const TEXTS: [(&str, &str, &str); 37] = [
 ];
 
 #[test]
-fn each_format_takes_a_text_and_refuses_another(rt: HostRuntime) {
-    for (format, text, value, refused) in FORMATS {
+fn each_format_takes_a_text(rt: HostRuntime) {
+    for (format, text, value) in TAKEN {
         assert!(rt;
             gives(rt.alloc(), format, text, value),
             "{format} of {text}"
         );
-        assert!(rt;
-            gives(rt.alloc(), format, refused, ""),
-            "{format} of {refused}"
-        );
+    }
+}
+
+#[test]
+fn each_format_refuses_a_text(rt: HostRuntime) {
+    for (format, text) in REFUSED {
+        assert!(rt; gives(rt.alloc(), format, text, ""), "{format} of {text}");
     }
 }
 
