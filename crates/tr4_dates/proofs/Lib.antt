@@ -1,4 +1,5 @@
 pub mod CodeLemmas
+pub mod DigitLemmas
 pub mod FormatLaws
 pub mod KeyTests
 pub mod Keys

@@ -1,5 +1,5 @@
 //! Reading a text from the front, part by part.
-ghost use Rattle.std.specs.Prelude.{◌+◌, ◌≡◌, ◌≤◌, ◌&&◌, nat_le, if◌then◌else◌, length, drop, take, map, bytes_eq, IfOk, IfSome, Some, None, Option, true, false};
+ghost use Rattle.std.specs.Prelude.{◌+◌, ◌-◌, ◌≡◌, ◌≤◌, ◌&&◌, nat_le, if◌then◌else◌, length, drop, take, map, bytes_eq, IfOk, IfSome, Some, None, Option, true, false};
 ghost use Rattle.std.specs.Char.{to_ascii_lowercase};
 ghost use Rattle.tr4_dates.specs.Languages.{has_links};
 ghost use Rattle.tr4_dates.specs.Parts.{is_link, is_ordinal, is_year_size, year_of};
@@ -94,22 +94,28 @@ fn piece_len(language: Language, part: Part, text: &[u8]) -> usize
     }
 }
 
+/// What a digit says.
+fn digit_of(byte: u8) -> u16
+    requires { digits (class_of byte) ≡ true }
+    ensures value { result ≡ byte - 48 }
+    ensures small { result ≤ 9 }
+{
+    (byte - b'0') as u16
+}
+
 /// The number that one, two or four digits say.
-#[tactic(auto, unfolding(crate::specs::Runs::number_from, crate::specs::Runs::all_in))]
+#[tactic(auto, using(crate::proofs::DigitLemmas::digit_at, crate::proofs::DigitLemmas::number_one, crate::proofs::DigitLemmas::number_two, crate::proofs::DigitLemmas::number_four))]
 fn number_of(piece: &[u8]) -> Option<u16>
     requires { all_in digits piece.now ≡ true }
     ensures exact { result ≡ (if is_year_size (length piece.now) then Some (number piece.now) else None) }
     ensures small { IfSome result (λ n. n ≤ 9999) }
 {
     match piece {
-        [a] => Some((*a - b'0') as u16),
-        [a, b] => Some((*a - b'0') as u16 * 10 + (*b - b'0') as u16),
-        [a, b, c, d] => Some(
-            (*a - b'0') as u16 * 1000
-                + (*b - b'0') as u16 * 100
-                + (*c - b'0') as u16 * 10
-                + (*d - b'0') as u16,
-        ),
+        [a] => Some(digit_of(*a)),
+        [a, b] => Some(digit_of(*a) * 10 + digit_of(*b)),
+        [a, b, c, d] => {
+            Some(digit_of(*a) * 1000 + digit_of(*b) * 100 + digit_of(*c) * 10 + digit_of(*d))
+        }
         _ => None,
     }
 }
