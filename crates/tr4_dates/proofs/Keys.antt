@@ -31,7 +31,8 @@ nfd_parted xs x ys h = normalize-ascii_boundary Nfd xs x ys h ∙ ap (λ l. nfd 
 fold_at : (x : ℕ) (ys : List ℕ) → x < 128 → default_case_fold (x ∷ ys) ≡ to_ascii_lowercase x ∷ default_case_fold ys
 fold_at x ys h = default_case_fold-cons x ys ∙ ap (λ l. l ++ default_case_fold ys) (full_fold-ascii x h)
 
-fold_parted : (xs : List ℕ) (x : ℕ) (ys : List ℕ) → x < 128 → default_case_fold (xs ++ x ∷ ys) ≡ default_case_fold xs ++ to_ascii_lowercase x ∷ default_case_fold ys
+fold_parted : (xs : List ℕ) (x : ℕ) (ys : List ℕ) → x < 128
+    → default_case_fold (xs ++ x ∷ ys) ≡ default_case_fold xs ++ to_ascii_lowercase x ∷ default_case_fold ys
 fold_parted xs x ys h = default_case_fold-append xs (x ∷ ys) ∙ ap (λ l. default_case_fold xs ++ l) (fold_at x ys h)
 
 pub key_at : (x : ℕ) (ys : List ℕ) → x < 128 → canonical_key (x ∷ ys) ≡ to_ascii_lowercase x ∷ canonical_key ys
@@ -39,7 +40,8 @@ key_at x ys h =
     ap (λ l. nfd (default_case_fold l)) (nfd_at x ys h) ∙ ap nfd (fold_at x (nfd ys) h)
     ∙ nfd_at (to_ascii_lowercase x) _ (lower_ascii x h)
 
-pub key_parted : (xs : List ℕ) (x : ℕ) (ys : List ℕ) → x < 128 → canonical_key (xs ++ x ∷ ys) ≡ canonical_key xs ++ to_ascii_lowercase x ∷ canonical_key ys
+pub key_parted : (xs : List ℕ) (x : ℕ) (ys : List ℕ) → x < 128
+    → canonical_key (xs ++ x ∷ ys) ≡ canonical_key xs ++ to_ascii_lowercase x ∷ canonical_key ys
 key_parted xs x ys h =
     ap (λ l. nfd (default_case_fold l)) (nfd_parted xs x ys h) ∙ ap nfd (fold_parted (nfd xs) x (nfd ys) h)
     ∙ nfd_parted (default_case_fold (nfd xs)) (to_ascii_lowercase x) _ (lower_ascii x h)
@@ -91,7 +93,8 @@ parted u b v ascii text =
 ascii_of : (b : ℕ) → alphanumerics (class_of b) ≡ true → b < 128
 ascii_of b h = grind (arith, nat_tests)
 
-pub key_word : (u w v : List ℕ) → IsUtf8 (u ++ (w ++ v)) → 1 ≤ length w → all_in alphanumerics w ≡ true → canonical_key (chars (u ++ (w ++ v))) ≡ canonical_key (chars u) ++ (map to_ascii_lowercase w ++ canonical_key (chars v))
+pub key_word : (u w v : List ℕ) → IsUtf8 (u ++ (w ++ v)) → 1 ≤ length w → all_in alphanumerics w ≡ true
+    → canonical_key (chars (u ++ (w ++ v))) ≡ canonical_key (chars u) ++ (map to_ascii_lowercase w ++ canonical_key (chars v))
 unfolding all_in
 key_word u [] v text some all = absurd (omega arith)
 key_word u (b ∷ []) v text some all =

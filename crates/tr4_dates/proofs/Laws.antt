@@ -36,7 +36,8 @@ apart_from f g at =
     let s = at Sign in
     grind arith
 
-apart_less : (f g h : Class → Bool) → ((c : Class) → h c ≡ true → g c ≡ true) → is_apart f g ≡ true → is_apart f h ≡ true
+apart_less : (f g h : Class → Bool) → ((c : Class) → h c ≡ true → g c ≡ true) → is_apart f g ≡ true
+    → is_apart f h ≡ true
 apart_less f g h less apart = apart_from f h (λ c e. apart_at f g c apart (less c e))
 
 -- ---- the first byte of a piece
@@ -84,14 +85,16 @@ low_words l w h =
       | inr listed ↦ low_listed w (ordinals l) (ordinals_low l) listed
     ]
 
-ordinal_letters : (l : Language) (piece : List ℕ) → is_ordinal l (map to_ascii_lowercase piece) ≡ true → all_in letters piece ≡ true
+ordinal_letters : (l : Language) (piece : List ℕ) → is_ordinal l (map to_ascii_lowercase piece) ≡ true
+    → all_in letters piece ≡ true
 ordinal_letters l piece h = letters_from_low piece (low_words l _ h)
 
 separator_first : (l : Language) (piece : List ℕ) → IsSeparator l piece → begins_in signs piece ≡ true
 separator_first l piece (inl h) = first_in signs piece h.run h.some
 separator_first l piece (inr h) = ap (begins_in signs) h.1.joined ∙ sign_first h.1.front _ h.1.front_signs
 
-begins_of : (l : Language) (p : Part) (before piece behind : List ℕ) (ns : Option ℕ) → IsIn l p before piece behind ns → 1 ≤ length piece → begins_in (set_of p) piece ≡ true
+begins_of : (l : Language) (p : Part) (before piece behind : List ℕ) (ns : Option ℕ)
+    → IsIn l p before piece behind ns → 1 ≤ length piece → begins_in (set_of p) piece ≡ true
 begins_of l Day before piece behind ns i some = first_in digits piece i.2.digits some
 begins_of l Month before piece behind ns i some = first_in digits piece i.2.digits some
 begins_of l Year before piece behind ns i some = first_in digits piece i.2.digits some
@@ -109,7 +112,8 @@ some_first f (b ∷ bs) h = omega arith
 is_year_size-some : (n : ℕ) → is_year_size n ≡ true → 1 ≤ n
 is_year_size-some n h = grind arith
 
-some_of : (l : Language) (p : Part) (before piece behind : List ℕ) (ns : Option ℕ) → IsIn l p before piece behind ns → may_be_empty p ≡ false → 1 ≤ length piece
+some_of : (l : Language) (p : Part) (before piece behind : List ℕ) (ns : Option ℕ) → IsIn l p before piece behind ns
+    → may_be_empty p ≡ false → 1 ≤ length piece
 some_of l Day before piece behind ns i h = i.2.some
 some_of l Month before piece behind ns i h = i.2.some
 some_of l Year before piece behind ns i h = is_year_size-some _ i.2.size
@@ -121,7 +125,10 @@ some_of l Ordinal before piece behind ns i h = absurd (true≢false h)
 some_of l Name before piece behind ns i h = some_first letters piece i.2.first
 
 -- no text that parts join begins with what they may not begin with
-starts_at : (f : Class → Bool) (p : Part) (ps : List Part) (piece behind : List ℕ) → is_apart f (may_begin (p ∷ ps)) ≡ true → (1 ≤ length piece → begins_in (set_of p) piece ≡ true) → (may_be_empty p ≡ false → 1 ≤ length piece) → (is_apart f (may_begin ps) ≡ true → begins_in f behind ≡ false) → begins_in f (piece ++ behind) ≡ false
+starts_at : (f : Class → Bool) (p : Part) (ps : List Part) (piece behind : List ℕ)
+    → is_apart f (may_begin (p ∷ ps)) ≡ true → (1 ≤ length piece → begins_in (set_of p) piece ≡ true)
+    → (may_be_empty p ≡ false → 1 ≤ length piece) → (is_apart f (may_begin ps) ≡ true → begins_in f behind ≡ false)
+    → begins_in f (piece ++ behind) ≡ false
 starts_at f p ps [] behind apart first some next =
     elim (cases_Bool (may_be_empty p)) [
       | inl empty ↦ next (apart_less f (may_begin (p ∷ ps)) (may_begin ps) (λ c e. or_right (set_of p c) _ (and_from (may_be_empty p) _ empty e)) apart)
@@ -130,7 +137,8 @@ starts_at f p ps [] behind apart first some next =
 starts_at f p ps (b ∷ bs) behind apart first some next =
     apart_at f (may_begin (p ∷ ps)) (class_of b) apart (or_left (set_of p (class_of b)) _ (first (omega arith)))
 
-starts : (f : Class → Bool) (l : Language) (ps : List Part) (before text : List ℕ) (ns : Fields) → Joins l ps before text ns → is_apart f (may_begin ps) ≡ true → begins_in f text ≡ false
+starts : (f : Class → Bool) (l : Language) (ps : List Part) (before text : List ℕ) (ns : Fields)
+    → Joins l ps before text ns → is_apart f (may_begin ps) ≡ true → begins_in f text ≡ false
 starts f l [] before text ns j apart = ap (begins_in f) j.0
 starts f l (p ∷ ps) before text ns j apart =
     ap (begins_in f) j.4
@@ -142,7 +150,8 @@ begins_whole : (f : Class → Bool) (xs ys : List ℕ) → begins_in f xs ≡ tr
 begins_whole f [] ys h = absurd (cc)
 begins_whole f (x ∷ xs) ys h = h
 
-other_class : (f g : Class → Bool) (t : List ℕ) → ((c : Class) → f c ≡ true → g c ≡ false) → begins_in f t ≡ true → begins_in g t ≡ false
+other_class : (f g : Class → Bool) (t : List ℕ) → ((c : Class) → f c ≡ true → g c ≡ false) → begins_in f t ≡ true
+    → begins_in g t ≡ false
 other_class f g [] apart h = refl
 other_class f g (b ∷ bs) apart h = apart (class_of b) h
 
@@ -195,7 +204,8 @@ record Closes (l : Language) (behind : List ℕ) : Type 0 where
   no_letter : begins_in letters behind ≡ false
   close : closes l behind ≡ true
 
-number_first : (l : Language) (p : Part) (before piece behind : List ℕ) (ns : Option ℕ) → is_number p ≡ true → IsIn l p before piece behind ns → begins_in digits piece ≡ true
+number_first : (l : Language) (p : Part) (before piece behind : List ℕ) (ns : Option ℕ) → is_number p ≡ true
+    → IsIn l p before piece behind ns → begins_in digits piece ≡ true
 number_first l Day before piece behind ns h i = first_in digits piece i.2.digits i.2.some
 number_first l Month before piece behind ns h i = first_in digits piece i.2.digits i.2.some
 number_first l Year before piece behind ns h i = first_in digits piece i.2.digits (is_year_size-some _ i.2.size)
@@ -206,7 +216,8 @@ number_first l Edge before piece behind ns h i = absurd (cc)
 number_first l Ordinal before piece behind ns h i = absurd (cc)
 number_first l Name before piece behind ns h i = absurd (cc)
 
-number_next : (l : Language) (ps : List Part) (before behind : List ℕ) (ns : Fields) → is_number_next ps ≡ true → Joins l ps before behind ns → Follows l behind × (begins_in letters behind ≡ false)
+number_next : (l : Language) (ps : List Part) (before behind : List ℕ) (ns : Fields) → is_number_next ps ≡ true
+    → Joins l ps before behind ns → Follows l behind × (begins_in letters behind ≡ false)
 number_next l [] before behind ns next j = absurd (cc)
 number_next l (p ∷ ps) before behind ns next j =
     let first : begins_in digits j.0 ≡ true = number_first l p before j.0 j.1 j.2 next j.6 in
@@ -218,7 +229,8 @@ unfolding all_in
 edge_first [] all = refl
 edge_first (b ∷ bs) all = sign_no_letter (class_of b) (and_parts (signs (class_of b)) _ all).0
 
-name_end : (l : Language) (ps : List Part) (before behind : List ℕ) (ns : Fields) → is_name_end ps ≡ true → Joins l ps before behind ns → Closes l behind
+name_end : (l : Language) (ps : List Part) (before behind : List ℕ) (ns : Fields) → is_name_end ps ≡ true
+    → Joins l ps before behind ns → Closes l behind
 name_end l [] before behind ns next j = absurd (cc)
 name_end l (Day ∷ ps) before behind ns next j = absurd (cc)
 name_end l (Month ∷ ps) before behind ns next j = absurd (cc)
@@ -240,7 +252,8 @@ name_end l (Signs ∷ ps) before behind ns next j =
       close = closes_before l j.0 j.1 j.6.1 later.0.no_sign later.0.no_link later.1 (other_class signs alphanumerics (j.0 ++ j.1) sign_no_alphanumeric first);
     })
 
-value_next : (l : Language) (ps : List Part) (b : Bool) (before behind : List ℕ) (ns : Fields) → is_value_next ps ≡ true → is_row b ps ≡ true → Joins l ps before behind ns → Follows l behind
+value_next : (l : Language) (ps : List Part) (b : Bool) (before behind : List ℕ) (ns : Fields)
+    → is_value_next ps ≡ true → is_row b ps ≡ true → Joins l ps before behind ns → Follows l behind
 value_next l [] b before behind ns next row j = absurd (cc)
 value_next l (Day ∷ ps) b before behind ns next row j = (number_next l (Day ∷ ps) before behind ns refl j).0
 value_next l (Month ∷ ps) b before behind ns next row j = (number_next l (Month ∷ ps) before behind ns refl j).0
@@ -266,7 +279,9 @@ name_text l piece m name =
 
 -- ---- complete
 
-piece_again : (l : Language) (p : Part) (ps : List Part) (b : Bool) (before piece behind : List ℕ) (own : Option ℕ) (more : Fields) → is_told p ps ≡ true → is_row b ps ≡ true → IsIn l p before piece behind own → Joins l ps (before ++ piece) behind more → piece_at l p (piece ++ behind) ≡ piece
+piece_again : (l : Language) (p : Part) (ps : List Part) (b : Bool) (before piece behind : List ℕ) (own : Option ℕ) (more : Fields)
+    → is_told p ps ≡ true → is_row b ps ≡ true → IsIn l p before piece behind own
+    → Joins l ps (before ++ piece) behind more → piece_at l p (piece ++ behind) ≡ piece
 unfolding piece_at
 piece_again l Day ps b before piece behind own more told row i j = run-whole digits piece behind i.2.digits i.3.back
 piece_again l Month ps b before piece behind own more told row i j = run-whole digits piece behind i.2.digits i.3.back
@@ -290,12 +305,14 @@ small_says limit piece n s =
     let value = and_from (nat_le 1 (number piece)) (nat_le (number piece) limit) (le-leb _ _ low) (le-leb _ _ high) in
     cond-true _ _ _ (and_from (nat_le 1 (length piece) && nat_le (length piece) 2) _ size value) ∙ ap (λ x. Some (Some x)) (sym s.value)
 
-year_says : (piece : List ℕ) (n : ℕ) → IsYear piece n → when (is_year_size (length piece) && nat_le 1 (year_of piece)) (Some (year_of piece)) ≡ Some (Some n)
+year_says : (piece : List ℕ) (n : ℕ) → IsYear piece n
+    → when (is_year_size (length piece) && nat_le 1 (year_of piece)) (Some (year_of piece)) ≡ Some (Some n)
 year_says piece n s =
     let low : 1 ≤ year_of piece = subst (λ x. 1 ≤ x) s.value s.low in
     cond-true _ _ _ (and_from (is_year_size (length piece)) _ s.size (le-leb _ _ low)) ∙ ap (λ x. Some (Some x)) (sym s.value)
 
-says_of : (l : Language) (p : Part) (before piece behind : List ℕ) (ns : Option ℕ) → IsIn l p before piece behind ns → says l p piece ≡ Some ns
+says_of : (l : Language) (p : Part) (before piece behind : List ℕ) (ns : Option ℕ) → IsIn l p before piece behind ns
+    → says l p piece ≡ Some ns
 unfolding says
 says_of l Day before piece behind ns i = small_says 31 piece i.0 i.2 ∙ ap Some (sym i.1)
 says_of l Month before piece behind ns i = small_says 12 piece i.0 i.2 ∙ ap Some (sym i.1)
@@ -310,14 +327,17 @@ says_of l Name before piece behind ns i =
     cond-true _ _ _ (and_from (is_utf8 piece) _ (is_utf8-from_IsUtf8 piece name.text) (and_from (begins_in letters piece) _ name.first name.last))
     ∙ ap (option_map (λ m. Some m)) (month_found l piece i.0 name.named) ∙ ap Some (sym i.1)
 
-read_step : (l : Language) (p : Part) (ps : List Part) (piece behind : List ℕ) (own : Option ℕ) (more : Fields) → piece_at l p (piece ++ behind) ≡ piece → says l p piece ≡ Some own → read l ps behind ≡ Some more → read l (p ∷ ps) (piece ++ behind) ≡ Some (put p own more)
+read_step : (l : Language) (p : Part) (ps : List Part) (piece behind : List ℕ) (own : Option ℕ) (more : Fields)
+    → piece_at l p (piece ++ behind) ≡ piece → says l p piece ≡ Some own → read l ps behind ≡ Some more
+    → read l (p ∷ ps) (piece ++ behind) ≡ Some (put p own more)
 unfolding read
 read_step l p ps piece behind own more same said next =
     let rest : drop (length (piece_at l p (piece ++ behind))) (piece ++ behind) ≡ behind = ap (λ t. drop (length t) (piece ++ behind)) same ∙ drop-append_seam piece behind in
     rw (rest, same, said, next) refl
 
 -- what parts join is read, and so a text says one list of numbers at most
-pub complete : (l : Language) (ps : List Part) (b : Bool) (before text : List ℕ) (ns : Fields) → is_row b ps ≡ true → Joins l ps before text ns → read l ps text ≡ Some ns
+pub complete : (l : Language) (ps : List Part) (b : Bool) (before text : List ℕ) (ns : Fields) → is_row b ps ≡ true
+    → Joins l ps before text ns → read l ps text ≡ Some ns
 unfolding read
 complete l [] b before text ns row j = rw (j.0, j.1) refl
 complete l (p ∷ ps) b before text ns row j =
@@ -330,13 +350,15 @@ complete l (p ∷ ps) b before text ns row j =
 
 -- ---- sound
 
-ends_none : (f g : Class → Bool) (ys : List ℕ) → ((c : Class) → g c ≡ true → f c ≡ false) → all_in g ys ≡ true → ends_in f ys ≡ false
+ends_none : (f g : Class → Bool) (ys : List ℕ) → ((c : Class) → g c ≡ true → f c ≡ false) → all_in g ys ≡ true
+    → ends_in f ys ≡ false
 unfolding ends_in all_in
 ends_none f g [] apart all = refl
 ends_none f g (b ∷ []) apart all = apart (class_of b) (and_parts (g (class_of b)) _ all).0
 ends_none f g (b ∷ c ∷ bs) apart all = ends_none f g (c ∷ bs) apart (and_parts (g (class_of b)) _ all).1
 
-ends_in-append : (f g : Class → Bool) (xs ys : List ℕ) → ((c : Class) → g c ≡ true → f c ≡ false) → all_in g ys ≡ true → (ends_in f xs ≡ false) ⊎ (1 ≤ length ys) → ends_in f (xs ++ ys) ≡ false
+ends_in-append : (f g : Class → Bool) (xs ys : List ℕ) → ((c : Class) → g c ≡ true → f c ≡ false)
+    → all_in g ys ≡ true → (ends_in f xs ≡ false) ⊎ (1 ≤ length ys) → ends_in f (xs ++ ys) ≡ false
 unfolding ends_in
 ends_in-append f g [] ys apart all some = ends_none f g ys apart all
 ends_in-append f g (x ∷ []) [] apart all (inl no_x) = no_x
@@ -353,7 +375,8 @@ stops set t = ap (begins_in set) (drop-run set t) ∙ begins_in-after set t
 front_of : (text piece rest : List ℕ) → text ≡ piece ++ rest → text ≡ piece ++ drop (length piece) text
 front_of text piece rest e = e ∙ ap (λ t. piece ++ t) (sym (ap (drop (length piece)) e ∙ drop-append_seam piece rest))
 
-pub piece_parted : (l : Language) (p : Part) (text : List ℕ) → text ≡ piece_at l p text ++ drop (length (piece_at l p text)) text
+pub piece_parted : (l : Language) (p : Part) (text : List ℕ)
+    → text ≡ piece_at l p text ++ drop (length (piece_at l p text)) text
 unfolding piece_at
 piece_parted l Day text = front_of text (run digits text) (after digits text) (run_after digits text)
 piece_parted l Month text = front_of text (run digits text) (after digits text) (run_after digits text)
@@ -365,7 +388,8 @@ piece_parted l Edge text = front_of text (run signs text) (after signs text) (ru
 piece_parted l Ordinal text = front_of text (run letters text) (after letters text) (run_after letters text)
 piece_parted l Name text = name_parted l text
 
-small_from : (limit : ℕ) (piece : List ℕ) (own : Option ℕ) → all_in digits piece ≡ true → small limit piece ≡ Some own → (n : ℕ) × (own ≡ Some n) × IsSmall limit piece n
+small_from : (limit : ℕ) (piece : List ℕ) (own : Option ℕ) → all_in digits piece ≡ true
+    → small limit piece ≡ Some own → (n : ℕ) × (own ≡ Some n) × IsSmall limit piece n
 small_from limit piece own all said =
     let c = cond_some ((nat_le 1 (length piece) && nat_le (length piece) 2) && (nat_le 1 (number piece) && nat_le (number piece) limit)) (Some (number piece)) own said in
     let parts = and_parts (nat_le 1 (length piece) && nat_le (length piece) 2) _ c.0 in
@@ -383,24 +407,29 @@ small_from limit piece own all said =
       },
     )
 
-year_from : (piece : List ℕ) (own : Option ℕ) → all_in digits piece ≡ true → when (is_year_size (length piece) && nat_le 1 (year_of piece)) (Some (year_of piece)) ≡ Some own → (n : ℕ) × (own ≡ Some n) × IsYear piece n
+year_from : (piece : List ℕ) (own : Option ℕ) → all_in digits piece ≡ true
+    → when (is_year_size (length piece) && nat_le 1 (year_of piece)) (Some (year_of piece)) ≡ Some own
+    → (n : ℕ) × (own ≡ Some n) × IsYear piece n
 year_from piece own all said =
     let c = cond_some (is_year_size (length piece) && nat_le 1 (year_of piece)) (Some (year_of piece)) own said in
     let parts = and_parts (is_year_size (length piece)) _ c.0 in
     (year_of piece, sym c.1, record { digits = all; size = parts.0; value = refl; low = leb-true _ _ parts.1 })
 
-mapped : {A B : Type 0} (f : A → B) (o : Option A) (y : B) → option_map f o ≡ Some y → (x : A) × (o ≡ Some x) × (f x ≡ y)
+mapped : {A B : Type 0} (f : A → B) (o : Option A) (y : B) → option_map f o ≡ Some y
+    → (x : A) × (o ≡ Some x) × (f x ≡ y)
 mapped f None y e = absurd (cc)
 mapped f (Some x) y e = (x, refl, cc)
 
-chained : {A B : Type 0} (f : A → Option B) (o : Option A) (y : B) → option_and_then f o ≡ Some y → (x : A) × (o ≡ Some x) × (f x ≡ Some y)
+chained : {A B : Type 0} (f : A → Option B) (o : Option A) (y : B) → option_and_then f o ≡ Some y
+    → (x : A) × (o ≡ Some x) × (f x ≡ Some y)
 chained f None y e = absurd (cc)
 chained f (Some x) y e = (x, refl, e)
 
 none_some : (own : Option ℕ) → None ≡ Some own → ⊥
 none_some own e = cc
 
-name_from : (l : Language) (piece : List ℕ) (own : Option ℕ) → month_of l piece ≡ Some own → (n : ℕ) × (own ≡ Some n) × IsName l piece n
+name_from : (l : Language) (piece : List ℕ) (own : Option ℕ) → month_of l piece ≡ Some own
+    → (n : ℕ) × (own ≡ Some n) × IsName l piece n
 name_from l piece own said =
     elim (cases_Bool (is_utf8 piece && (begins_in letters piece && ends_in letters piece))) [
       | inr bad ↦ absurd (none_some own (sym (cond-false _ _ _ bad) ∙ said))
@@ -423,7 +452,9 @@ name_from l piece own said =
 first_sign : (l : Language) (text : List ℕ) → begins_in signs (separator l text) ≡ true → begins_in signs text ≡ true
 first_sign l text h = ap (begins_in signs) (separator_parted l text) ∙ begins_whole signs (separator l text) (behind_separator l text) h
 
-in_from : (l : Language) (p : Part) (before text : List ℕ) (own : Option ℕ) → says l p (piece_at l p text) ≡ Some own → (is_number p ≡ true → ends_in digits before ≡ false) → IsIn l p before (piece_at l p text) (drop (length (piece_at l p text)) text) own
+in_from : (l : Language) (p : Part) (before text : List ℕ) (own : Option ℕ)
+    → says l p (piece_at l p text) ≡ Some own → (is_number p ≡ true → ends_in digits before ≡ false)
+    → IsIn l p before (piece_at l p text) (drop (length (piece_at l p text)) text) own
 unfolding piece_at says
 in_from l Day before text own said front =
     let s = small_from 31 (run digits text) own (all_in-run digits text) said in
@@ -456,7 +487,8 @@ all_append f (x ∷ xs) ys a b =
     let parts = and_parts (f (class_of x)) _ a in
     and_from (f (class_of x)) _ parts.0 (all_append f xs ys parts.1 b)
 
-all_wider : (f g : Class → Bool) (xs : List ℕ) → ((c : Class) → f c ≡ true → g c ≡ true) → all_in f xs ≡ true → all_in g xs ≡ true
+all_wider : (f g : Class → Bool) (xs : List ℕ) → ((c : Class) → f c ≡ true → g c ≡ true) → all_in f xs ≡ true
+    → all_in g xs ≡ true
 unfolding all_in
 all_wider f g [] wider a = refl
 all_wider f g (x ∷ xs) wider a =
@@ -487,7 +519,8 @@ separator_other l piece (inr h) =
     let back = all_wider signs others linked.back sign_other linked.back_signs.run in
     ap (all_in others) linked.joined ∙ all_append others linked.front (linked.link ++ linked.back) front (all_append others linked.link linked.back link back)
 
-no_digit_of : (l : Language) (p : Part) (before piece behind : List ℕ) (ns : Option ℕ) → is_number p ≡ false → IsIn l p before piece behind ns → all_in others piece ≡ true
+no_digit_of : (l : Language) (p : Part) (before piece behind : List ℕ) (ns : Option ℕ) → is_number p ≡ false
+    → IsIn l p before piece behind ns → all_in others piece ≡ true
 no_digit_of l Day before piece behind ns h i = absurd (true≢false h)
 no_digit_of l Month before piece behind ns h i = absurd (true≢false h)
 no_digit_of l Year before piece behind ns h i = absurd (true≢false h)
@@ -498,7 +531,9 @@ no_digit_of l Edge before piece behind ns h i = all_wider signs others piece sig
 no_digit_of l Ordinal before piece behind ns h i = all_wider letters others piece letter_other (ordinal_letters l piece i.1)
 no_digit_of l Name before piece behind ns h i = (plain_name l piece i.0 i.2).no_digit
 
-next_front : (l : Language) (b : Bool) (p : Part) (before piece behind : List ℕ) (ns : Option ℕ) → IsIn l p before piece behind ns → (b ≡ false → ends_in digits before ≡ false) → may_end b p ≡ false → ends_in digits (before ++ piece) ≡ false
+next_front : (l : Language) (b : Bool) (p : Part) (before piece behind : List ℕ) (ns : Option ℕ)
+    → IsIn l p before piece behind ns → (b ≡ false → ends_in digits before ≡ false) → may_end b p ≡ false
+    → ends_in digits (before ++ piece) ≡ false
 next_front l b p before piece behind ns i front no_end =
     elim (cases_Bool (is_number p)) [
       | inl yes_n ↦ absurd (true≢false (sym (cond-true (is_number p) true _ yes_n) ∙ no_end))
@@ -515,7 +550,8 @@ next_front l b p before piece behind ns i front no_end =
 is_open : (p : Part) (b : Bool) → not (is_number p && b) ≡ true → is_number p ≡ true → b ≡ false
 is_open p b h n = grind arith
 
-pub sound : (l : Language) (ps : List Part) (b : Bool) (before text : List ℕ) (ns : Fields) → is_row b ps ≡ true → (b ≡ false → ends_in digits before ≡ false) → read l ps text ≡ Some ns → Joins l ps before text ns
+pub sound : (l : Language) (ps : List Part) (b : Bool) (before text : List ℕ) (ns : Fields) → is_row b ps ≡ true
+    → (b ≡ false → ends_in digits before ≡ false) → read l ps text ≡ Some ns → Joins l ps before text ns
 unfolding read
 sound l [] b before [] ns row front r = (refl, cc)
 sound l [] b before (c ∷ cs) ns row front r = absurd (cc)

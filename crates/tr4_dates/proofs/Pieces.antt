@@ -34,7 +34,8 @@ drop-separator l text =
 
 -- ---- a separator is taken whole
 
-no_sign : (set : Class → Bool) (w t : List ℕ) → ((c : Class) → set c ≡ true → signs c ≡ false) → 1 ≤ length w → all_in set w ≡ true → begins_in signs (w ++ t) ≡ false
+no_sign : (set : Class → Bool) (w t : List ℕ) → ((c : Class) → set c ≡ true → signs c ≡ false) → 1 ≤ length w
+    → all_in set w ≡ true → begins_in signs (w ++ t) ≡ false
 unfolding all_in
 no_sign set [] t apart some all = absurd (omega arith)
 no_sign set (b ∷ bs) t apart some all = apart (class_of b) (and_parts (set (class_of b)) _ all).0
@@ -62,7 +63,8 @@ pub sign_no_letter : (t : List ℕ) → begins_in signs t ≡ true → begins_in
 sign_no_letter [] h = absurd (cc)
 sign_no_letter (b ∷ bs) h = turned (class_of b) h
 
-signs_whole : (l : Language) (piece behind : List ℕ) → IsSigns piece → begins_in signs behind ≡ false → (has_links l ≡ true → is_linked behind ≡ false) → separator l (piece ++ behind) ≡ piece
+signs_whole : (l : Language) (piece behind : List ℕ) → IsSigns piece → begins_in signs behind ≡ false
+    → (has_links l ≡ true → is_linked behind ≡ false) → separator l (piece ++ behind) ≡ piece
 unfolding separator
 signs_whole l piece behind h stop no_link =
     let r = run-whole signs piece behind h.run stop in
@@ -70,7 +72,8 @@ signs_whole l piece behind h stop no_link =
     let plain : (has_links l && is_linked (after signs (piece ++ behind))) ≡ false = ap (λ t. has_links l && is_linked t) a ∙ neither (has_links l) (is_linked behind) no_link in
     cond-false _ _ _ plain ∙ r
 
-linked_whole : (l : Language) (piece behind : List ℕ) → has_links l ≡ true → IsLinked piece → begins_in signs behind ≡ false → separator l (piece ++ behind) ≡ piece
+linked_whole : (l : Language) (piece behind : List ℕ) → has_links l ≡ true → IsLinked piece
+    → begins_in signs behind ≡ false → separator l (piece ++ behind) ≡ piece
 unfolding separator
 linked_whole l piece behind links h stop =
     let front = h.front in
@@ -92,7 +95,8 @@ linked_whole l piece behind links h stop =
     ap (separator l) whole ∙ cond-true _ _ _ chosen
     ∙ ap (λ t. t ++ link_and_signs (after signs (front ++ tail))) r ∙ ap (λ t. front ++ link_and_signs t) a ∙ ap (λ t. front ++ t) words ∙ sym h.joined
 
-pub separator_whole : (l : Language) (piece behind : List ℕ) → IsSeparator l piece → begins_in signs behind ≡ false → (has_links l ≡ true → is_linked behind ≡ false) → separator l (piece ++ behind) ≡ piece
+pub separator_whole : (l : Language) (piece behind : List ℕ) → IsSeparator l piece → begins_in signs behind ≡ false
+    → (has_links l ≡ true → is_linked behind ≡ false) → separator l (piece ++ behind) ≡ piece
 separator_whole l piece behind (inl h) stop no_link = signs_whole l piece behind h stop no_link
 separator_whole l piece behind (inr h) stop no_link = linked_whole l piece behind h.0 h.1 stop
 
@@ -145,7 +149,8 @@ one_letter Digit o s = absurd (cc)
 one_letter Letter o s = refl
 one_letter Sign o s = absurd (cc)
 
-letter_first : (v t : List ℕ) → all_in others v ≡ true → ends_in letters v ≡ true → begins_in signs v ≡ false → begins_in letters (v ++ t) ≡ true
+letter_first : (v t : List ℕ) → all_in others v ≡ true → ends_in letters v ≡ true → begins_in signs v ≡ false
+    → begins_in letters (v ++ t) ≡ true
 unfolding all_in ends_in
 letter_first [] t all ends first = absurd (cc)
 letter_first (b ∷ bs) t all ends first = one_letter (class_of b) (and_parts (others (class_of b)) _ all).0 first
@@ -155,13 +160,15 @@ cases_nil [] = inl refl
 cases_nil (b ∷ bs) = inr (omega arith)
 
 -- behind signs in the midst of a name a letter comes
-past_signs : (v t : List ℕ) → all_in others v ≡ true → ends_in letters v ≡ true → begins_in letters (after signs (v ++ t)) ≡ true
+past_signs : (v t : List ℕ) → all_in others v ≡ true → ends_in letters v ≡ true
+    → begins_in letters (after signs (v ++ t)) ≡ true
 past_signs v t all ends =
     let stops = run-stops letters signs v t letter_no_sign ends in
     let rest_all = all_in-tail others (run signs v) (after signs v) (sym (ap (all_in others) (run_after signs v)) ∙ all) in
     ap (begins_in letters) stops.1 ∙ letter_first (after signs v) t rest_all stops.2 (begins_in-after signs v)
 
-inside : (l : Language) (v t : List ℕ) → IsNameText l v → begins_in letters t ≡ false → begins_in letters (behind_separator l (v ++ t)) ≡ true
+inside : (l : Language) (v t : List ℕ) → IsNameText l v → begins_in letters t ≡ false
+    → begins_in letters (behind_separator l (v ++ t)) ≡ true
 inside l v t h stop =
     let stops = run-stops letters signs v t letter_no_sign h.last in
     let rest = after signs v in
@@ -188,12 +195,14 @@ inside l v t h stop =
           ]
     ]
 
-closed_nowhere : (l : Language) (v t : List ℕ) → IsNameText l v → begins_in letters t ≡ false → closes l (v ++ t) ≡ false
+closed_nowhere : (l : Language) (v t : List ℕ) → IsNameText l v → begins_in letters t ≡ false
+    → closes l (v ++ t) ≡ false
 unfolding closes
 closed_nowhere l v t h stop =
     and_right (not (begins_in alphanumerics (v ++ t))) _ (ap not (ap (begins_in letters) (drop-separator l (v ++ t)) ∙ inside l v t h stop))
 
-pub name_whole : (l : Language) (v t : List ℕ) → IsNameText l v → begins_in letters t ≡ false → closes l t ≡ true → name_at l (v ++ t) ≡ v
+pub name_whole : (l : Language) (v t : List ℕ) → IsNameText l v → begins_in letters t ≡ false → closes l t ≡ true
+    → name_at l (v ++ t) ≡ v
 unfolding name_at ends_in all_in
 name_whole l [] t h stop close = let ends = h.last in absurd (cc)
 name_whole l (b ∷ []) t h stop close = cond-true _ _ _ (and_from (letters (class_of b)) _ h.last close)
@@ -240,7 +249,9 @@ closes_before_end l t all =
     let rest : behind_separator l t ≡ [] = cond-false _ _ _ plain ∙ a in
     and_from (not (begins_in alphanumerics t)) _ (ap not (no_first t all)) (ap not (ap (begins_in letters) (drop-separator l t ∙ rest)))
 
-pub closes_before : (l : Language) (piece behind : List ℕ) → IsSeparator l piece → begins_in signs behind ≡ false → (has_links l ≡ true → is_linked behind ≡ false) → begins_in letters behind ≡ false → begins_in alphanumerics (piece ++ behind) ≡ false → closes l (piece ++ behind) ≡ true
+pub closes_before : (l : Language) (piece behind : List ℕ) → IsSeparator l piece → begins_in signs behind ≡ false
+    → (has_links l ≡ true → is_linked behind ≡ false) → begins_in letters behind ≡ false
+    → begins_in alphanumerics (piece ++ behind) ≡ false → closes l (piece ++ behind) ≡ true
 unfolding closes
 closes_before l piece behind h stop no_link next first =
     let whole = separator_whole l piece behind h stop no_link in

@@ -17,7 +17,8 @@ use Rattle.tr4_dates.proofs.MonthKeys.{name_plain}
 empty_key : canonical_key (chars []) ≡ []
 empty_key = ap canonical_key chars-nil ∙ key-nil
 
-digit_at : (b : ℕ) → others (class_of b) ≡ false → (alphanumerics (class_of b) ≡ true) × (is_ascii_digit (to_ascii_lowercase b) ≡ true)
+digit_at : (b : ℕ) → others (class_of b) ≡ false
+    → (alphanumerics (class_of b) ≡ true) × (is_ascii_digit (to_ascii_lowercase b) ≡ true)
 digit_at b h = (grind (arith, nat_tests), grind (arith, nat_tests))
 
 one : (c : Class) → letters c ≡ true → alphanumerics c ≡ true
@@ -49,7 +50,8 @@ letters_from_low (b ∷ bs) all =
     let parts = and_parts (is_ascii_lowercase (to_ascii_lowercase b)) _ all in
     and_from (letters (class_of b)) _ (letter_from_low b parts.0) (letters_from_low bs parts.1)
 
-pub link_words : (w : List ℕ) → is_link w ≡ true → (map to_ascii_lowercase w ≡ codes "de") ⊎ (map to_ascii_lowercase w ≡ codes "del")
+pub link_words : (w : List ℕ) → is_link w ≡ true
+    → (map to_ascii_lowercase w ≡ codes "de") ⊎ (map to_ascii_lowercase w ≡ codes "del")
 link_words w h =
     elim (or_cases (bytes_eq (map to_ascii_lowercase w) (codes "de")) _ h) [
       | inl de ↦ inl (bytes_eq-true _ _ de)
@@ -106,7 +108,8 @@ module _ (l : Language) (piece : List ℕ) (month : ℕ) (name : IsName l piece 
         | inr linkless_key ↦ linkless_key
       ]
 
-  key_at_word : (u w v : List ℕ) → piece ≡ u ++ (w ++ v) → 1 ≤ length w → all_in alphanumerics w ≡ true → canonical_key (chars piece) ≡ canonical_key (chars u) ++ (map to_ascii_lowercase w ++ canonical_key (chars v))
+  key_at_word : (u w v : List ℕ) → piece ≡ u ++ (w ++ v) → 1 ≤ length w → all_in alphanumerics w ≡ true
+      → canonical_key (chars piece) ≡ canonical_key (chars u) ++ (map to_ascii_lowercase w ++ canonical_key (chars v))
   key_at_word u w v e some all = ap (λ t. canonical_key (chars t)) e ∙ key_word u w v (subst IsUtf8 e name.text) some all
 
   no_digit_from : (u v : List ℕ) → piece ≡ u ++ v → all_in others v ≡ true

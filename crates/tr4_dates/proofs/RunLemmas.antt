@@ -64,14 +64,17 @@ after-all set (b ∷ bs) all =
     let parts = and_parts (set (class_of b)) (all_in set bs) all in
     cond-true _ _ _ parts.0 ∙ after-all set bs parts.1
 
-pub run-whole : (set : Class → Bool) (p t : List ℕ) → all_in set p ≡ true → begins_in set t ≡ false → run set (p ++ t) ≡ p
+pub run-whole : (set : Class → Bool) (p t : List ℕ) → all_in set p ≡ true → begins_in set t ≡ false
+    → run set (p ++ t) ≡ p
 run-whole set p t all stop = run-append set p t stop ∙ run-all set p all
 
-pub after-whole : (set : Class → Bool) (p t : List ℕ) → all_in set p ≡ true → begins_in set t ≡ false → after set (p ++ t) ≡ t
+pub after-whole : (set : Class → Bool) (p t : List ℕ) → all_in set p ≡ true → begins_in set t ≡ false
+    → after set (p ++ t) ≡ t
 after-whole set p t all stop = after-append set p t stop ∙ ap (λ l. l ++ t) (after-all set p all)
 
 -- a text that ends in one set is not gone through by a run of another
-pub run-stops : (f g : Class → Bool) (v t : List ℕ) → ((c : Class) → f c ≡ true → g c ≡ false) → ends_in f v ≡ true → (run g (v ++ t) ≡ run g v) × (after g (v ++ t) ≡ after g v ++ t) × (ends_in f (after g v) ≡ true)
+pub run-stops : (f g : Class → Bool) (v t : List ℕ) → ((c : Class) → f c ≡ true → g c ≡ false) → ends_in f v ≡ true
+    → (run g (v ++ t) ≡ run g v) × (after g (v ++ t) ≡ after g v ++ t) × (ends_in f (after g v) ≡ true)
 unfolding run after ends_in
 run-stops f g [] t apart ends = absurd (cc)
 run-stops f g (b ∷ []) t apart ends =

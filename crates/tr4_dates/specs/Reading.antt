@@ -50,20 +50,29 @@ piece_at l Name text = name_at l text
 abbrev pub when : Bool → Option ℕ → Option (Option ℕ)
 when test ns = if test then Some ns else None
 
+abbrev pub is_within : ℕ → ℕ → ℕ → Bool
+is_within low high n = nat_le low n && nat_le n high
+
 abbrev pub small : ℕ → List ℕ → Option (Option ℕ)
-small limit piece = when ((nat_le 1 (length piece) && nat_le (length piece) 2) && (nat_le 1 (number piece) && nat_le (number piece) limit)) (Some (number piece))
+small limit piece = when (is_within 1 2 (length piece) && is_within 1 limit (number piece)) (Some (number piece))
+
+abbrev pub year : List ℕ → Option (Option ℕ)
+year piece = when (is_year_size (length piece) && nat_le 1 (year_of piece)) (Some (year_of piece))
 
 abbrev pub month_in : List Row → List ℕ → Option ℕ
 month_in [] key = None
 month_in (row ∷ rows) key = if bytes_eq key (canonical_key row.0) then Some row.1 else month_in rows key
 
 abbrev pub month_of : Language → List ℕ → Option (Option ℕ)
-month_of l piece = if is_utf8 piece && (begins_in letters piece && ends_in letters piece) then option_map (λ m. Some m) (month_in (names l) (canonical_key (chars piece))) else None
+month_of l piece =
+    if is_utf8 piece && (begins_in letters piece && ends_in letters piece)
+    then option_map (λ m. Some m) (month_in (names l) (canonical_key (chars piece)))
+    else None
 
 unfoldable pub says : Language → Part → List ℕ → Option (Option ℕ)
 says l Day piece = small 31 piece
 says l Month piece = small 12 piece
-says l Year piece = when (is_year_size (length piece) && nat_le 1 (year_of piece)) (Some (year_of piece))
+says l Year piece = year piece
 says l Gap piece = when (nat_le 1 (length piece)) None
 says l Tail piece = Some None
 says l Signs piece = when (begins_in signs piece) None

@@ -50,7 +50,7 @@ impl From<NoMemory> for TrFault {
 }
 
 /// The value that the format relates to the text: `YYYY-MM-DD`, `--MM-DD` or `YYYY-MM`.
-#[tactic(auto, using(crate::proofs::FormatLaws::related, crate::proofs::FormatLaws::unread, crate::proofs::FormatLaws::unreal))]
+#[tactic(auto, using(crate::proofs::FormatLaws::formats))]
 pub fn apply(alloc: Global, format: DateFormat, text: &str) -> Result<Text, TrFault>
     ensures value { IfOk result (λ v. Tr format text.now v) }
     ensures only { (v : List ℕ) → Tr format text.now v → IfOk result (λ r. r ≡ v) }
@@ -79,7 +79,7 @@ pub fn one_value(format: DateFormat)
 
 /// No text matches names of two months of one language.
 pub fn one_month()
-    ensures { (l : Language) → (text : List ℕ) → (m n : ℕ) → IsNameIn (names l) text m → IsNameIn (names l) text n → m ≡ n }
+    ensures { (l : Language) (text : List ℕ) (m n : ℕ) → IsNameIn (names l) text m → IsNameIn (names l) text n → m ≡ n }
 {}
 
 #[cfg(test)]

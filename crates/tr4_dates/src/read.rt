@@ -2,8 +2,8 @@
 ghost use Rattle.std.specs.Prelude.{◌+◌, ◌-◌, ◌≡◌, ◌≤◌, ◌&&◌, nat_le, if◌then◌else◌, length, drop, take, map, bytes_eq, IfOk, IfSome, Some, None, Option, true, false};
 ghost use Rattle.std.specs.Char.{to_ascii_lowercase};
 ghost use Rattle.tr4_dates.specs.Languages.{has_links};
-ghost use Rattle.tr4_dates.specs.Parts.{is_link, is_ordinal, is_year_size, year_of};
-ghost use Rattle.tr4_dates.specs.Reading.{separator, closes, name_at, piece_at, says, read, small, when, is_number};
+ghost use Rattle.tr4_dates.specs.Parts.{is_link, is_ordinal, is_year_size};
+ghost use Rattle.tr4_dates.specs.Reading.{separator, closes, name_at, piece_at, says, read, small, year, when, is_number};
 ghost use Rattle.tr4_dates.specs.Runs.{class_of, digits, letters, all_in, begins_in, number};
 
 use crate::format::Language;
@@ -104,7 +104,7 @@ fn digit_of(byte: u8) -> u16
 }
 
 /// The number that one, two or four digits say.
-#[tactic(auto, using(crate::proofs::DigitLemmas::digit_at, crate::proofs::DigitLemmas::number_one, crate::proofs::DigitLemmas::number_two, crate::proofs::DigitLemmas::number_four))]
+#[tactic(auto, using(crate::proofs::DigitLemmas::digit_sums))]
 fn number_of(piece: &[u8]) -> Option<u16>
     requires { all_in digits piece.now ≡ true }
     ensures exact { result ≡ (if is_year_size (length piece.now) then Some (number piece.now) else None) }
@@ -137,7 +137,7 @@ fn small_of(limit: u16, piece: &[u8]) -> Option<Option<u16>>
 /// The number of a year.
 fn year_in(piece: &[u8]) -> Option<Option<u16>>
     requires { all_in digits piece.now ≡ true }
-    ensures { result ≡ when (is_year_size (length piece.now) && nat_le 1 (year_of piece.now)) (Some (year_of piece.now)) }
+    ensures { result ≡ year piece.now }
 {
     let number = number_of(piece)?;
     let year = if piece.len() <= 2 {
@@ -208,7 +208,7 @@ fn said(
 }
 
 /// The numbers that the text says; none where the parts don't join to it.
-#[tactic(auto, using(crate::proofs::CodeLemmas::piece_fits, crate::proofs::CodeLemmas::piece_digits, crate::proofs::CodeLemmas::piece_taken, crate::proofs::CodeLemmas::read_nil, crate::proofs::CodeLemmas::read_more, crate::proofs::CodeLemmas::read_refused, crate::proofs::CodeLemmas::read_lost, crate::proofs::CodeLemmas::read_found))]
+#[tactic(auto, using(crate::proofs::CodeLemmas::reading))]
 pub fn fields_in(
     alloc: Global,
     language: Language,

@@ -39,7 +39,7 @@ pub fn run_len(set: Set, text: &[u8]) -> usize
 }
 
 /// The longest front in the set, and the rest.
-#[tactic(auto, using(crate::proofs::CodeLemmas::run_fits, crate::proofs::CodeLemmas::run_taken, crate::proofs::CodeLemmas::run_dropped))]
+#[tactic(auto, using(crate::proofs::CodeLemmas::runs))]
 pub fn split_run(set: Set, text: &[u8]) -> (&[u8], &[u8])
     ensures front { result.0.now ≡ run (set_named set) text.now }
     ensures back { result.1.now ≡ after (set_named set) text.now }
