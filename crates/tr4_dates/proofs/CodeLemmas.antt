@@ -174,7 +174,8 @@ unfolding ends_in
 ends_at set [] = (λ h. absurd (omega arith), λ h. refl)
 ends_at set (b ∷ []) = (λ h. refl, λ h. absurd (omega arith))
 ends_at set (b ∷ c ∷ bs) =
-    let rest : ends_in set (c ∷ bs) ≡ set (class_of (get_or (c ∷ bs) (length (c ∷ bs) - 1) 0)) = (ends_at set (c ∷ bs)).0 (omega arith) in
+    let rest : ends_in set (c ∷ bs) ≡ set (class_of (get_or (c ∷ bs) (length (c ∷ bs) - 1) 0)) =
+    (ends_at set (c ∷ bs)).0 (omega arith) in
     let index : length (b ∷ c ∷ bs) - 1 ≡ suc (length (c ∷ bs) - 1) = omega arith in
     (λ h. rest ∙ ap (λ n. set (class_of (get_or (b ∷ c ∷ bs) n 0))) (sym index), λ h. absurd (omega arith))
 
@@ -192,10 +193,12 @@ month_here rows i d key within same = month_step rows i d key within ∙ cond-tr
 pub month_later : (rows : List (Bor (List ℕ) × ℕ)) (i : ℕ) (d : Bor (List ℕ) × ℕ) (key : List ℕ) → i < length rows
     → (key ≡ canonical_key (chars (get_or rows i d).0.now) → ⊥)
     → month_in (rows_of (drop i rows)) key ≡ month_in (rows_of (drop (i + 1) rows)) key
-month_later rows i d key within apart = month_step rows i d key within ∙ cond-false _ _ _ (false_from_ne_true _ (λ h. apart (bytes_eq-true _ _ h)))
+month_later rows i d key within apart =
+    month_step rows i d key within ∙ cond-false _ _ _ (false_from_ne_true _ (λ h. apart (bytes_eq-true _ _ h)))
 
 pub month_refused : (l : Language) (piece : List ℕ) → (IsUtf8 piece → ⊥) → month_of l piece ≡ None
-month_refused l piece no_text = cond-false _ _ _ (and_left (is_utf8 piece) _ (false_from_ne_true _ (λ h. no_text (IsUtf8-from_is_utf8 piece h))))
+month_refused l piece no_text =
+    cond-false _ _ _ (and_left (is_utf8 piece) _ (false_from_ne_true _ (λ h. no_text (IsUtf8-from_is_utf8 piece h))))
 
 pub month_read : (l : Language) (piece : List ℕ) → IsUtf8 piece
     → month_of l piece ≡ cond (begins_in letters piece && ends_in letters piece) (option_map (λ m. Some m) (month_in (names l) (canonical_key (chars piece)))) None

@@ -27,7 +27,8 @@ is_spread (c ∷ d ∷ ds) = (ltb c 128 || ltb d 128) && is_spread (d ∷ ds)
 
 unfoldable key_by_character : List ℕ → List ℕ
 key_by_character [] = []
-key_by_character (c ∷ cs) = cond (ltb c 128) (to_ascii_lowercase c ∷ key_by_character cs) (canonical_key (c ∷ []) ++ key_by_character cs)
+key_by_character (c ∷ cs) =
+    cond (ltb c 128) (to_ascii_lowercase c ∷ key_by_character cs) (canonical_key (c ∷ []) ++ key_by_character cs)
 
 key_spread : (w : List ℕ) → is_spread w ≡ true → canonical_key w ≡ key_by_character w
 unfolding is_spread key_by_character

@@ -82,12 +82,15 @@ parted u b v ascii text =
     let before = IsCharBoundary-before_ascii (u ++ b ∷ v) (length u) within at in
     let past = IsCharBoundary-after_ascii (u ++ b ∷ v) (length u) text within at in
     let front : IsUtf8 u = subst IsUtf8 (take-seam u (b ∷ v)) (IsUtf8-take (u ++ b ∷ v) (length u) text before) in
-    let middle : IsUtf8 (b ∷ v) = subst IsUtf8 (drop-append_seam u (b ∷ v)) (IsUtf8-drop (u ++ b ∷ v) (length u) text before) in
+    let middle : IsUtf8 (b ∷ v) =
+    subst IsUtf8 (drop-append_seam u (b ∷ v)) (IsUtf8-drop (u ++ b ∷ v) (length u) text before) in
     let back : IsUtf8 v = subst IsUtf8 (drop-past u b v) (IsUtf8-drop (u ++ b ∷ v) (length u + 1) text past) in
     record {
       front = front;
       back = back;
-      chars_parted = chars-append u (b ∷ v) front ∙ ap (λ l. chars u ++ l) (chars_past_char (b ∷ v) v b middle (ap (λ l. l ++ v) (sym (encode_ascii b ascii))));
+      chars_parted =
+          chars-append u (b ∷ v) front
+          ∙ ap (λ l. chars u ++ l) (chars_past_char (b ∷ v) v b middle (ap (λ l. l ++ v) (sym (encode_ascii b ascii))));
     }
 
 ascii_of : (b : ℕ) → alphanumerics (class_of b) ≡ true → b < 128

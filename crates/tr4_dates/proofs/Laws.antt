@@ -16,7 +16,7 @@ use Rattle.tr4_dates.specs.declared.part.Part.TheVariants.{Day, Month, Year, Gap
 use Rattle.tr4_dates.specs.Languages.{names, ordinals, has_links}
 use Rattle.tr4_dates.specs.Runs.{Class, Digit, Letter, Sign, class_of, is_nil, digits, letters, others, signs, alphanumerics, all_in, begins_in, ends_in, run, after, number}
 use Rattle.tr4_dates.specs.Parts.{IsIn, IsSmall, IsYear, IsName, IsSeparator, Joins, put, year_of, is_year_size, is_ordinal, is_listed, is_link}
-use Rattle.tr4_dates.specs.Reading.{read, says, piece_at, small, when, month_of, month_in, is_number, is_linked, closes, separator, name_at}
+use Rattle.tr4_dates.specs.Reading.{read, says, piece_at, small, is_within, when, month_of, month_in, is_number, is_linked, closes, separator, name_at}
 use Rattle.tr4_dates.proofs.RunLemmas.{run_after, all_in-run, begins_in-after, run-append, run-whole}
 use Rattle.tr4_dates.proofs.KeyTests.{bytes_eq-true}
 use Rattle.tr4_dates.proofs.MonthKeys.{month_found, named_from}
@@ -197,7 +197,8 @@ after_number l piece behind first =
     let at = begins_whole digits piece behind first in
     record {
       no_sign = other_class digits signs (piece ++ behind) digit_no_sign at;
-      no_link = λ links. unlinked (piece ++ behind) [] (no_letter_run (piece ++ behind) (other_class digits letters (piece ++ behind) digit_no_letter at)) refl;
+      no_link =
+          λ links. unlinked (piece ++ behind) [] (no_letter_run (piece ++ behind) (other_class digits letters (piece ++ behind) digit_no_letter at)) refl;
     }
 
 record Closes (l : Language) (behind : List ℕ) : Type 0 where
@@ -249,7 +250,8 @@ name_end l (Signs ∷ ps) before behind ns next j =
     let first = begins_whole signs j.0 j.1 (separator_first l j.0 j.6.1) in
     subst (Closes l) (sym j.4) (record {
       no_letter = other_class signs letters (j.0 ++ j.1) sign_no_letter first;
-      close = closes_before l j.0 j.1 j.6.1 later.0.no_sign later.0.no_link later.1 (other_class signs alphanumerics (j.0 ++ j.1) sign_no_alphanumeric first);
+      close =
+          closes_before l j.0 j.1 j.6.1 later.0.no_sign later.0.no_link later.1 (other_class signs alphanumerics (j.0 ++ j.1) sign_no_alphanumeric first);
     })
 
 value_next : (l : Language) (ps : List Part) (b : Bool) (before behind : List ℕ) (ns : Fields)
@@ -269,7 +271,8 @@ value_next l (Name ∷ ps) b before behind ns next row j =
     let plain = plain_name l j.0 j.6.0 j.6.2 in
     subst (Follows l) (sym j.4) (record {
       no_sign = other_class letters signs (j.0 ++ j.1) letter_no_sign (begins_whole letters j.0 j.1 j.6.2.first);
-      no_link = λ links. unlinked (j.0 ++ j.1) (run letters j.0) (run-append letters j.0 j.1 later.no_letter) (plain.no_front_link links);
+      no_link =
+          λ links. unlinked (j.0 ++ j.1) (run letters j.0) (run-append letters j.0 j.1 later.no_letter) (plain.no_front_link links);
     })
 
 name_text : (l : Language) (piece : List ℕ) (m : ℕ) → IsName l piece m → IsNameText l piece
@@ -286,10 +289,14 @@ unfolding piece_at
 piece_again l Day ps b before piece behind own more told row i j = run-whole digits piece behind i.2.digits i.3.back
 piece_again l Month ps b before piece behind own more told row i j = run-whole digits piece behind i.2.digits i.3.back
 piece_again l Year ps b before piece behind own more told row i j = run-whole digits piece behind i.2.digits i.3.back
-piece_again l Gap ps b before piece behind own more told row i j = run-whole others piece behind i.2 (starts others l ps _ behind more j told)
-piece_again l Tail ps b before piece behind own more told row i j = run-whole others piece behind i.1 (starts others l ps _ behind more j told)
-piece_again l Edge ps b before piece behind own more told row i j = run-whole signs piece behind i.1 (starts signs l ps _ behind more j told)
-piece_again l Ordinal ps b before piece behind own more told row i j = run-whole letters piece behind (ordinal_letters l piece i.1) (starts letters l ps _ behind more j told)
+piece_again l Gap ps b before piece behind own more told row i j =
+    run-whole others piece behind i.2 (starts others l ps _ behind more j told)
+piece_again l Tail ps b before piece behind own more told row i j =
+    run-whole others piece behind i.1 (starts others l ps _ behind more j told)
+piece_again l Edge ps b before piece behind own more told row i j =
+    run-whole signs piece behind i.1 (starts signs l ps _ behind more j told)
+piece_again l Ordinal ps b before piece behind own more told row i j =
+    run-whole letters piece behind (ordinal_letters l piece i.1) (starts letters l ps _ behind more j told)
 piece_again l Signs ps b before piece behind own more told row i j =
     let f = value_next l ps b _ behind more told row j in
     separator_whole l piece behind i.1 f.no_sign f.no_link
@@ -303,13 +310,15 @@ small_says limit piece n s =
     let high : number piece ≤ limit = subst (λ x. x ≤ limit) s.value s.high in
     let size = and_from (nat_le 1 (length piece)) (nat_le (length piece) 2) (le-leb _ _ s.some) (le-leb _ _ s.short) in
     let value = and_from (nat_le 1 (number piece)) (nat_le (number piece) limit) (le-leb _ _ low) (le-leb _ _ high) in
-    cond-true _ _ _ (and_from (nat_le 1 (length piece) && nat_le (length piece) 2) _ size value) ∙ ap (λ x. Some (Some x)) (sym s.value)
+    cond-true _ _ _ (and_from (nat_le 1 (length piece) && nat_le (length piece) 2) _ size value)
+    ∙ ap (λ x. Some (Some x)) (sym s.value)
 
 year_says : (piece : List ℕ) (n : ℕ) → IsYear piece n
     → when (is_year_size (length piece) && nat_le 1 (year_of piece)) (Some (year_of piece)) ≡ Some (Some n)
 year_says piece n s =
     let low : 1 ≤ year_of piece = subst (λ x. 1 ≤ x) s.value s.low in
-    cond-true _ _ _ (and_from (is_year_size (length piece)) _ s.size (le-leb _ _ low)) ∙ ap (λ x. Some (Some x)) (sym s.value)
+    cond-true _ _ _ (and_from (is_year_size (length piece)) _ s.size (le-leb _ _ low))
+    ∙ ap (λ x. Some (Some x)) (sym s.value)
 
 says_of : (l : Language) (p : Part) (before piece behind : List ℕ) (ns : Option ℕ) → IsIn l p before piece behind ns
     → says l p piece ≡ Some ns
@@ -332,7 +341,8 @@ read_step : (l : Language) (p : Part) (ps : List Part) (piece behind : List ℕ)
     → read l (p ∷ ps) (piece ++ behind) ≡ Some (put p own more)
 unfolding read
 read_step l p ps piece behind own more same said next =
-    let rest : drop (length (piece_at l p (piece ++ behind))) (piece ++ behind) ≡ behind = ap (λ t. drop (length t) (piece ++ behind)) same ∙ drop-append_seam piece behind in
+    let rest : drop (length (piece_at l p (piece ++ behind))) (piece ++ behind) ≡ behind =
+    ap (λ t. drop (length t) (piece ++ behind)) same ∙ drop-append_seam piece behind in
     rw (rest, same, said, next) refl
 
 -- what parts join is read, and so a text says one list of numbers at most
@@ -391,7 +401,8 @@ piece_parted l Name text = name_parted l text
 small_from : (limit : ℕ) (piece : List ℕ) (own : Option ℕ) → all_in digits piece ≡ true
     → small limit piece ≡ Some own → (n : ℕ) × (own ≡ Some n) × IsSmall limit piece n
 small_from limit piece own all said =
-    let c = cond_some ((nat_le 1 (length piece) && nat_le (length piece) 2) && (nat_le 1 (number piece) && nat_le (number piece) limit)) (Some (number piece)) own said in
+    let c =
+    cond_some (is_within 1 2 (length piece) && is_within 1 limit (number piece)) (Some (number piece)) own said in
     let parts = and_parts (nat_le 1 (length piece) && nat_le (length piece) 2) _ c.0 in
     let size = and_parts (nat_le 1 (length piece)) _ parts.0 in
     let value = and_parts (nat_le 1 (number piece)) _ parts.1 in (
@@ -436,7 +447,8 @@ name_from l piece own said =
       | inl good ↦
           let parts = and_parts (is_utf8 piece) _ good in
           let ends = and_parts (begins_in letters piece) _ parts.1 in
-          let m = mapped (λ m. Some m) (month_in (names l) (canonical_key (chars piece))) own (sym (cond-true _ _ _ good) ∙ said) in (
+          let m =
+          mapped (λ m. Some m) (month_in (names l) (canonical_key (chars piece))) own (sym (cond-true _ _ _ good) ∙ said) in (
             m.0,
             sym m.2,
             record {
@@ -450,7 +462,9 @@ name_from l piece own said =
 
 -- a separator begins with a sign only where the text does
 first_sign : (l : Language) (text : List ℕ) → begins_in signs (separator l text) ≡ true → begins_in signs text ≡ true
-first_sign l text h = ap (begins_in signs) (separator_parted l text) ∙ begins_whole signs (separator l text) (behind_separator l text) h
+first_sign l text h =
+    ap (begins_in signs) (separator_parted l text)
+    ∙ begins_whole signs (separator l text) (behind_separator l text) h
 
 in_from : (l : Language) (p : Part) (before text : List ℕ) (own : Option ℕ)
     → says l p (piece_at l p text) ≡ Some own → (is_number p ≡ true → ends_in digits before ≡ false)
@@ -517,7 +531,8 @@ separator_other l piece (inr h) =
     let front = all_wider signs others linked.front sign_other linked.front_signs.run in
     let link = all_wider letters others linked.link letter_other (link_letters linked.link linked.is_de) in
     let back = all_wider signs others linked.back sign_other linked.back_signs.run in
-    ap (all_in others) linked.joined ∙ all_append others linked.front (linked.link ++ linked.back) front (all_append others linked.link linked.back link back)
+    ap (all_in others) linked.joined
+    ∙ all_append others linked.front (linked.link ++ linked.back) front (all_append others linked.link linked.back link back)
 
 no_digit_of : (l : Language) (p : Part) (before piece behind : List ℕ) (ns : Option ℕ) → is_number p ≡ false
     → IsIn l p before piece behind ns → all_in others piece ≡ true

@@ -14,8 +14,10 @@ use Rattle.tr4_dates.proofs.KeyTests.{bytes_eq-true, bytes_eq-same, is_plain, ar
 plain_of : (l : Language) (rows : List Row) (piece : List ℕ) (m : ℕ) → are_plain l (keyed rows) ≡ true
     → IsNameIn rows piece m → is_plain l (canonical_key (chars piece)) ≡ true
 plain_of l [] piece m plain named = absurd named
-plain_of l (row ∷ rows) piece m plain (inl here) = ap (is_plain l) here.0 ∙ (and_parts (is_plain l (canonical_key row.0)) _ plain).0
-plain_of l (row ∷ rows) piece m plain (inr later) = plain_of l rows piece m (and_parts (is_plain l (canonical_key row.0)) _ plain).1 later
+plain_of l (row ∷ rows) piece m plain (inl here) =
+    ap (is_plain l) here.0 ∙ (and_parts (is_plain l (canonical_key row.0)) _ plain).0
+plain_of l (row ∷ rows) piece m plain (inr later) =
+    plain_of l rows piece m (and_parts (is_plain l (canonical_key row.0)) _ plain).1 later
 
 pub name_plain : (l : Language) (piece : List ℕ) (m : ℕ) → IsNameIn (names l) piece m
     → is_plain l (canonical_key (chars piece)) ≡ true

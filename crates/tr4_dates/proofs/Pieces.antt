@@ -30,7 +30,8 @@ separator_parted l text =
 
 pub drop-separator : (l : Language) (text : List ℕ) → drop (length (separator l text)) text ≡ behind_separator l text
 drop-separator l text =
-    ap (drop (length (separator l text))) (separator_parted l text) ∙ drop-append_seam (separator l text) (behind_separator l text)
+    ap (drop (length (separator l text))) (separator_parted l text)
+    ∙ drop-append_seam (separator l text) (behind_separator l text)
 
 -- ---- a separator is taken whole
 
@@ -69,7 +70,8 @@ unfolding separator
 signs_whole l piece behind h stop no_link =
     let r = run-whole signs piece behind h.run stop in
     let a = after-whole signs piece behind h.run stop in
-    let plain : (has_links l && is_linked (after signs (piece ++ behind))) ≡ false = ap (λ t. has_links l && is_linked t) a ∙ neither (has_links l) (is_linked behind) no_link in
+    let plain : (has_links l && is_linked (after signs (piece ++ behind))) ≡ false =
+    ap (λ t. has_links l && is_linked t) a ∙ neither (has_links l) (is_linked behind) no_link in
     cond-false _ _ _ plain ∙ r
 
 linked_whole : (l : Language) (piece behind : List ℕ) → has_links l ≡ true → IsLinked piece
@@ -82,18 +84,26 @@ linked_whole l piece behind links h stop =
     let all = link_letters link h.is_de in
     let word_stop = sign_no_letter (back ++ behind) (sign_first back behind h.back_signs) in
     let tail = link ++ (back ++ behind) in
-    let front_stop : begins_in signs tail ≡ false = no_sign letters link (back ++ behind) letter_no_sign (link_some link h.is_de) all in
-    let whole : piece ++ behind ≡ front ++ tail = ap (λ t. t ++ behind) h.joined ∙ append_assoc front (link ++ back) behind ∙ ap (λ t. front ++ t) (append_assoc link back behind) in
+    let front_stop : begins_in signs tail ≡ false =
+    no_sign letters link (back ++ behind) letter_no_sign (link_some link h.is_de) all in
+    let whole : piece ++ behind ≡ front ++ tail =
+    ap (λ t. t ++ behind) h.joined ∙ append_assoc front (link ++ back) behind
+    ∙ ap (λ t. front ++ t) (append_assoc link back behind) in
     let r = run-whole signs front tail h.front_signs.run front_stop in
     let a = after-whole signs front tail h.front_signs.run front_stop in
     let rw_word = run-whole letters link (back ++ behind) all word_stop in
     let aw_word = after-whole letters link (back ++ behind) all word_stop in
     let rb = run-whole signs back behind h.back_signs.run stop in
-    let linked : is_linked tail ≡ true = and_from (is_link (run letters tail)) _ (ap is_link rw_word ∙ h.is_de) (ap (begins_in signs) aw_word ∙ sign_first back behind h.back_signs) in
-    let chosen : (has_links l && is_linked (after signs (front ++ tail))) ≡ true = and_from (has_links l) _ links (ap is_linked a ∙ linked) in
-    let words : link_and_signs tail ≡ link ++ back = ap (λ t. t ++ run signs (after letters tail)) rw_word ∙ ap (λ t. link ++ run signs t) aw_word ∙ ap (λ t. link ++ t) rb in
+    let linked : is_linked tail ≡ true =
+    and_from (is_link (run letters tail)) _ (ap is_link rw_word ∙ h.is_de) (ap (begins_in signs) aw_word ∙ sign_first back behind h.back_signs) in
+    let chosen : (has_links l && is_linked (after signs (front ++ tail))) ≡ true =
+    and_from (has_links l) _ links (ap is_linked a ∙ linked) in
+    let words : link_and_signs tail ≡ link ++ back =
+    ap (λ t. t ++ run signs (after letters tail)) rw_word ∙ ap (λ t. link ++ run signs t) aw_word
+    ∙ ap (λ t. link ++ t) rb in
     ap (separator l) whole ∙ cond-true _ _ _ chosen
-    ∙ ap (λ t. t ++ link_and_signs (after signs (front ++ tail))) r ∙ ap (λ t. front ++ link_and_signs t) a ∙ ap (λ t. front ++ t) words ∙ sym h.joined
+    ∙ ap (λ t. t ++ link_and_signs (after signs (front ++ tail))) r ∙ ap (λ t. front ++ link_and_signs t) a
+    ∙ ap (λ t. front ++ t) words ∙ sym h.joined
 
 pub separator_whole : (l : Language) (piece behind : List ℕ) → IsSeparator l piece → begins_in signs behind ≡ false
     → (has_links l ≡ true → is_linked behind ≡ false) → separator l (piece ++ behind) ≡ piece
@@ -172,7 +182,8 @@ inside : (l : Language) (v t : List ℕ) → IsNameText l v → begins_in letter
 inside l v t h stop =
     let stops = run-stops letters signs v t letter_no_sign h.last in
     let rest = after signs v in
-    let rest_all : all_in others rest ≡ true = all_in-tail others (run signs v) rest (sym (ap (all_in others) (run_after signs v)) ∙ h.no_digit) in
+    let rest_all : all_in others rest ≡ true =
+    all_in-tail others (run signs v) rest (sym (ap (all_in others) (run_after signs v)) ∙ h.no_digit) in
     let later = after letters rest in
     let word = run-append letters rest t stop in
     let past = after-append letters rest t stop in
@@ -181,15 +192,21 @@ inside l v t h stop =
       | inl both ↦
           let parts = and_parts (has_links l) _ both in
           let linked : is_linked (rest ++ t) ≡ true = sym (ap is_linked stops.1) ∙ parts.1 in
-          let link : is_link (run letters rest) ≡ true = sym (ap is_link word) ∙ (and_parts (is_link (run letters (rest ++ t))) _ linked).0 in
+          let link : is_link (run letters rest) ≡ true =
+          sym (ap is_link word) ∙ (and_parts (is_link (run letters (rest ++ t))) _ linked).0 in
           elim (cases_nil later) [
             | inl none ↦
-                let whole : rest ≡ run letters rest = run_after letters rest ∙ ap (λ x. run letters rest ++ x) none ∙ append-nil _ in
-                let not_link = h.no_back_link parts.0 (run signs v) (run letters rest) (run_after signs v ∙ ap (λ x. run signs v ++ x) whole) in
+                let whole : rest ≡ run letters rest =
+                run_after letters rest ∙ ap (λ x. run letters rest ++ x) none ∙ append-nil _ in
+                let not_link =
+                h.no_back_link parts.0 (run signs v) (run letters rest) (run_after signs v ∙ ap (λ x. run signs v ++ x) whole) in
                 absurd (true≢false (sym link ∙ not_link))
             | inr some ↦
-                let later_ends : ends_in letters later ≡ true = sym (ends_in-tail letters (run letters rest) later some) ∙ sym (ap (ends_in letters) (run_after letters rest)) ∙ stops.2 in
-                let later_all : all_in others later ≡ true = all_in-tail others (run letters rest) later (sym (ap (all_in others) (run_after letters rest)) ∙ rest_all) in
+                let later_ends : ends_in letters later ≡ true =
+                sym (ends_in-tail letters (run letters rest) later some)
+                ∙ sym (ap (ends_in letters) (run_after letters rest)) ∙ stops.2 in
+                let later_all : all_in others later ≡ true =
+                all_in-tail others (run letters rest) later (sym (ap (all_in others) (run_after letters rest)) ∙ rest_all) in
                 ap (begins_in letters) (cond-true _ _ _ both ∙ ap (λ x. after signs (after letters x)) stops.1 ∙ ap (after signs) past)
                 ∙ past_signs later t later_all later_ends
           ]
@@ -245,7 +262,8 @@ unfolding closes separator
 closes_before_end l t all =
     let r = run-all signs t all in
     let a = after-all signs t all in
-    let plain : (has_links l && is_linked (after signs t)) ≡ false = and_right (has_links l) _ (ap is_linked a ∙ nothing_linked) in
+    let plain : (has_links l && is_linked (after signs t)) ≡ false =
+    and_right (has_links l) _ (ap is_linked a ∙ nothing_linked) in
     let rest : behind_separator l t ≡ [] = cond-false _ _ _ plain ∙ a in
     and_from (not (begins_in alphanumerics t)) _ (ap not (no_first t all)) (ap not (ap (begins_in letters) (drop-separator l t ∙ rest)))
 
@@ -255,5 +273,6 @@ pub closes_before : (l : Language) (piece behind : List ℕ) → IsSeparator l p
 unfolding closes
 closes_before l piece behind h stop no_link next first =
     let whole = separator_whole l piece behind h stop no_link in
-    let rest : drop (length (separator l (piece ++ behind))) (piece ++ behind) ≡ behind = ap (λ x. drop (length x) (piece ++ behind)) whole ∙ drop-append_seam piece behind in
+    let rest : drop (length (separator l (piece ++ behind))) (piece ++ behind) ≡ behind =
+    ap (λ x. drop (length x) (piece ++ behind)) whole ∙ drop-append_seam piece behind in
     and_from (not (begins_in alphanumerics (piece ++ behind))) _ (ap not first) (ap not (ap (begins_in letters) rest ∙ next))

@@ -122,7 +122,8 @@ module _ (l : Language) (piece : List ℕ) (month : ℕ) (name : IsName l piece 
         | inr digit ↦
             let d = digit_at b digit in
             let k = key_at_word u (b ∷ []) bs e (omega arith) (and_from (alphanumerics (class_of b)) true d.0 refl) in
-            let no = no_digits-at (canonical_key (chars u)) (to_ascii_lowercase b) (canonical_key (chars bs)) (sym (ap no_digits k) ∙ digitless) in
+            let no =
+            no_digits-at (canonical_key (chars u)) (to_ascii_lowercase b) (canonical_key (chars bs)) (sym (ap no_digits k) ∙ digitless) in
             absurd (true≢false (sym d.1 ∙ no))
       ]
 
@@ -130,7 +131,8 @@ module _ (l : Language) (piece : List ℕ) (month : ℕ) (name : IsName l piece 
   unfolding no_link
   front_link links h =
       let w = run letters piece in
-      let k = key_at_word [] w (after letters piece) (run_after letters piece) (link_some w h) (letters_ascii w (all_in-run letters piece)) in
+      let k =
+      key_at_word [] w (after letters piece) (run_after letters piece) (link_some w h) (letters_ascii w (all_in-run letters piece)) in
       let key = k ∙ ap (λ t. t ++ (map to_ascii_lowercase w ++ canonical_key (chars (after letters piece)))) empty_key in
       let no = (and_parts (not (bytes_eq (take 2 (canonical_key (chars piece))) (codes "de"))) _ (linkless links)).0 in
       let two : take 2 (canonical_key (chars piece)) ≡ codes "de" =
@@ -143,8 +145,11 @@ module _ (l : Language) (piece : List ℕ) (month : ℕ) (name : IsName l piece 
   back_link : has_links l ≡ true → (u w : List ℕ) → piece ≡ u ++ w → is_link w ≡ true → ⊥
   unfolding no_link
   back_link links u w e h =
-      let k = key_at_word u w [] (e ∙ ap (λ t. u ++ t) (sym (append-nil w))) (link_some w h) (letters_ascii w (link_letters w h)) in
-      let key = k ∙ ap (λ t. canonical_key (chars u) ++ (map to_ascii_lowercase w ++ t)) empty_key ∙ ap (λ t. canonical_key (chars u) ++ t) (append-nil (map to_ascii_lowercase w)) in
+      let k =
+      key_at_word u w [] (e ∙ ap (λ t. u ++ t) (sym (append-nil w))) (link_some w h) (letters_ascii w (link_letters w h)) in
+      let key =
+      k ∙ ap (λ t. canonical_key (chars u) ++ (map to_ascii_lowercase w ++ t)) empty_key
+      ∙ ap (λ t. canonical_key (chars u) ++ t) (append-nil (map to_ascii_lowercase w)) in
       let parts = (and_parts (not (bytes_eq (take 2 (canonical_key (chars piece))) (codes "de"))) _ (linkless links)).1 in
       let ends = and_parts (not (has_end (codes "de") (canonical_key (chars piece)))) _ parts in
       elim (link_words w h) [

@@ -1,5 +1,6 @@
 -- What a date format makes of a text: of which parts the text is joined, which days are real, and how the value is
--- written.
+-- written. The names of the formats are those of the XBRL Transformation Rules Registry 4; the layouts, the names of
+-- the months and the values are this project's own.
 use Rattle.std.specs.Prelude.{ℕ, ◌≡◌, ◌+◌, ◌/◌, ◌%◌, pos, List, [], ◌∷◌, ◌++◌, codes, Option, Some, None}
 use Rattle.jiff.specs.Words.{IsDate}
 use Rattle.tr4_dates.specs.Formats.{language_of, layout_of}

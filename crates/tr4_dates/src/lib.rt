@@ -2,7 +2,8 @@
 //!
 //! A format is a layout, which says of which parts its texts are joined, and a language, which has the names of the
 //! months. No part speaks of its place in the text; that reading from the front finds the parts, and that a text has
-//! one value at most, is proved.
+//! one value at most, is proved. The names of the formats are the registry's; the layouts, the names of the months and
+//! the values are this project's own, and that they are the published ones isn't claimed.
 #![tactic(auto)]
 
 ghost use Rattle.std.specs.Prelude.{◌≡◌, ℕ, List, IfOk, IsErrOf};
@@ -50,6 +51,8 @@ impl From<NoMemory> for TrFault {
 }
 
 /// The value that the format relates to the text: `YYYY-MM-DD`, `--MM-DD` or `YYYY-MM`.
+///
+/// `NotInGrammar` comes exactly where the format relates the text to no value.
 #[tactic(auto, using(crate::proofs::FormatLaws::formats))]
 pub fn apply(alloc: Global, format: DateFormat, text: &str) -> Result<Text, TrFault>
     ensures value { IfOk result (λ v. Tr format text.now v) }

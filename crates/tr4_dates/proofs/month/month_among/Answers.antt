@@ -5,10 +5,16 @@ use Rattle.tr4_dates.proofs.month.month_among.Goals as goal
 
 pub returns-then-branch : goal.returns-then-branch
 returns-then-branch c =
-    let here = month_here c.args.rows.now c.loop-name.name-index _ (canonical_key (chars c.args.text.now)) c.loop-name-test.true (c.in_ok-canonical_caseless_match_str.ensures.value.0 c.if-branch.true) in
+    let same = c.in_ok-canonical_caseless_match_str.ensures.value.0 c.if-branch.true in
+    let key = canonical_key (chars c.args.text.now) in
+    let here = month_here c.args.rows.now c.loop-name.name-index _ key c.loop-name-test.true same in
     sym (c.loop-name.invariant ∙ here)
 
 pub loop-name-preserved : goal.loop-name-preserved
 loop-name-preserved c =
-    let later = month_later c.args.rows.now c.loop-name.name-index _ (canonical_key (chars c.args.text.now)) c.loop-name-test.true (λ same. true≢false (sym (c.in_ok-canonical_caseless_match_str.ensures.value.1 same) ∙ c.if-branch.false)) in
+    let key = canonical_key (chars c.args.text.now) in
+    let match = c.in_ok-canonical_caseless_match_str.ensures.value in
+    let later =
+    month_later c.args.rows.now c.loop-name.name-index _ key c.loop-name-test.true
+    (λ same. true≢false (sym (match.1 same) ∙ c.if-branch.false)) in
     c.loop-name.invariant ∙ later
