@@ -1,0 +1,11 @@
+pub mod CodeLemmas
+pub mod DigitLemmas
+pub mod FormatLaws
+pub mod KeyTests
+pub mod Keys
+pub mod Laws
+pub mod MonthKeys
+pub mod Pieces
+pub mod PlainNames
+pub mod Rows
+pub mod RunLemmas
