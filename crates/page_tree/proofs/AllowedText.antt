@@ -1,8 +1,11 @@
 -- Texts of allowed characters, put together and parted.
-use Rattle.std.proofs.Common.{◌≡◌, ◌≢◌, ℕ, suc, zero, ◌+◌, ◌<◌, ◌≤◌, Bool, true, false, ◌&&◌, ◌⊎◌, inl, inr, List, [], ◌∷◌, ◌++◌, length, take, drop, get_or, refl, sym, ap, ◌∙◌, arith, subst, length-append, nat_lt}
+use Rattle.std.proofs.Common.{◌≡◌, ◌≢◌, ℕ, suc, zero, ◌+◌, ◌<◌, ◌≤◌, Bool, true, false, ◌&&◌, ◌⊎◌, inl, inr, List, [], ◌∷◌, ◌++◌, length, take, drop, get_or, refl, sym, ap, ◌∙◌, arith, subst, if◌then◌else◌, length-append, append-nil, nat_lt, encode_utf8}
+use Rattle.std.specs.Char.{IsScalar}
+use Rattle.std.proofs.Math.Dec.{ltb, leb}
+use Rattle.std.proofs.lemmas.Bool.{lt-ltb, le-leb}
 use Rattle.std.specs.List.{list_all}
 use Rattle.std.specs.Str.{IsUtf8, is_utf8, chars, IsAscii}
-use Rattle.std.proofs.lemmas.Str.{IsUtf8-append, IsUtf8-from_is_utf8, is_utf8-from_IsUtf8, chars-append, chars-IsAscii, chars-nil, IsCharBoundary-before_ascii, IsUtf8-take, IsUtf8-drop, IsUtf8-nil, IsUtf8-from_ascii}
+use Rattle.std.proofs.lemmas.Str.{IsUtf8-append, IsUtf8-from_is_utf8, is_utf8-from_IsUtf8, chars-append, chars-IsAscii, chars-nil, IsCharBoundary-before_ascii, IsUtf8-take, IsUtf8-drop, IsUtf8-nil, IsUtf8-from_ascii, IsUtf8-encode, IsCharBoundary-after_ascii, chars-encodes}
 use Rattle.std.proofs.lemmas.Str.Ascii.{IsAscii-nil, IsAscii-cons}
 use Rattle.std.proofs.lemmas.Bool.Decides.{nat_tests}
 use Rattle.std.proofs.lemmas.Bool.{and_parts}
@@ -49,6 +52,50 @@ allowed-before a c b l p =
     let ub = subst IsUtf8 (drop-front a (c ∷ b)) (IsUtf8-drop (a ++ c ∷ b) (length a) x.0 cut) in
     let y = all-parts is_allowed (chars a) (chars (c ∷ b)) (ap (list_all is_allowed) (sym (chars-append a (c ∷ b) ua)) ∙ x.1) in
     (allowed-from a ua y.0, allowed-from (c ∷ b) ub y.1)
+
+-- behind an ASCII byte
+pub allowed-tail : (c : ℕ) (t : List ℕ) → c < 128 → are_allowed (c ∷ t) ≡ true → are_allowed t ≡ true
+allowed-tail c t l p =
+    let x = allowed-to (c ∷ t) p in
+    let first : IsAscii (c ∷ []) = IsAscii-cons c [] l IsAscii-nil in
+    let ut : IsUtf8 t = IsUtf8-drop (c ∷ t) 1 x.0 (IsCharBoundary-after_ascii (c ∷ t) 0 x.0 (omega arith) l) in
+    let y = all-parts is_allowed (chars (c ∷ [])) (chars t) (ap (list_all is_allowed) (sym (chars-append (c ∷ []) t (IsUtf8-from_ascii (c ∷ []) first))) ∙ x.1) in
+    allowed-from t ut y.1
+
+-- between two ASCII bytes
+pub allowed-behind : (a : List ℕ) (c : ℕ) (b : List ℕ) → c < 128 → are_allowed (a ++ c ∷ b) ≡ true → are_allowed b ≡ true
+allowed-behind a c b l p = allowed-tail c b l (allowed-before a c b l p).1
+
+-- through an ASCII byte
+pub allowed-through : (a : List ℕ) (c : ℕ) (b : List ℕ) → c < 128 → are_allowed (a ++ c ∷ b) ≡ true → are_allowed (a ++ c ∷ []) ≡ true
+allowed-through a c b l p =
+    let z = allowed-before a c b l p in
+    allowed-append a (c ∷ []) z.0 (allowed-one c b l z.1) where
+  allowed-one : (c : ℕ) (b : List ℕ) → c < 128 → are_allowed (c ∷ b) ≡ true → are_allowed (c ∷ []) ≡ true
+  allowed-one c b l p =
+      let x = allowed-to (c ∷ b) p in
+      let first : IsAscii (c ∷ []) = IsAscii-cons c [] l IsAscii-nil in
+      let y = all-parts is_allowed (chars (c ∷ [])) (chars b) (ap (list_all is_allowed) (sym (chars-append (c ∷ []) b (IsUtf8-from_ascii (c ∷ []) first))) ∙ x.1) in
+      allowed-from (c ∷ []) (IsUtf8-from_ascii (c ∷ []) first) y.0
+
+-- a character
+allowed-scalar : (c : ℕ) → is_allowed c ≡ true → IsScalar c
+unfolding is_allowed
+allowed-scalar c h = elim (parted c h) as (λ x. IsScalar c) [
+    | inl l ↦ rw (lt-ltb c 55296 l) refl
+    | inr l ↦ by_low (ltb c 55296) (lt-ltb c 1114112 l.1) (le-leb 57344 c l.0)
+  ] where
+  parted : (c : ℕ) → is_allowed c ≡ true → (c < 55296) ⊎ ((57344 ≤ c) × (c < 1114112))
+  parted c h = grind (arith, nat_tests)
+  by_low : (b : Bool) → ltb c 1114112 ≡ true → leb 57344 c ≡ true → (if b then true else (leb 57344 c && ltb c 1114112)) ≡ true
+  by_low true x y = refl
+  by_low false x y = and_both (leb 57344 c) (ltb c 1114112) y x
+
+pub allowed-char : (c : ℕ) → is_allowed c ≡ true → are_allowed (encode_utf8 c) ≡ true
+allowed-char c h =
+    let k = allowed-scalar c h in
+    let e : chars (encode_utf8 c) ≡ c ∷ [] = ap chars (sym (append-nil (encode_utf8 c))) ∙ chars-encodes (c ∷ []) (ap (λ b. b && true) k) in
+    allowed-from (encode_utf8 c) (IsUtf8-encode c k) (ap (list_all is_allowed) e ∙ ap (λ b. b && true) h)
 
 -- texts in ASCII, whose characters are their bytes
 abbrev pub is_low : ℕ → Bool

@@ -20,7 +20,7 @@ pub record Found (ends cs : List ℕ) (k : ℕ) : Type 0 where
 found-next : (ends : List ℕ) (c : ℕ) (cs : List ℕ) (k : ℕ) → Found ends cs k → Found ends (c ∷ cs) (suc k)
 found-next ends c cs k f = record { front = c ∷ f.front; rest = f.rest; splits = ap (λ x. c ∷ x) f.splits; size = let s = f.size in omega arith }
 
-map-suc : (o : Option ℕ) (k : ℕ) → option_map suc o ≡ Some k → (j : ℕ) × (o ≡ Some j) × (suc j ≡ k)
+pub map-suc : (o : Option ℕ) (k : ℕ) → option_map suc o ≡ Some k → (j : ℕ) × (o ≡ Some j) × (suc j ≡ k)
 map-suc None k e = absurd (cc)
 map-suc (Some j) k e = (j, refl, cc)
 
@@ -126,15 +126,15 @@ declared (a ∷ b ∷ c ∷ d ∷ w) v r e =
     let h3 = firsts d 108 (w ++ (63 ∷ 62 ∷ v)) r e3 in
     (w, rw (h0, h1, h2, h3) refl)
 
-map-behind : (n : ℕ) (o : Option ℕ) (k : ℕ) → behind n o ≡ Some k → (j : ℕ) × (o ≡ Some j) × (k ≡ j + n)
+pub map-behind : (n : ℕ) (o : Option ℕ) (k : ℕ) → behind n o ≡ Some k → (j : ℕ) × (o ≡ Some j) × (k ≡ j + n)
 map-behind n None k e = absurd (cc)
 map-behind n (Some j) k e = (j, refl, let z : j + n ≡ k = cc in sym z)
 
 -- an end that is found behind the whole front
-ends-behind : (front ends cs : List ℕ) (k : ℕ) → starts front cs ≡ true → (j : ℕ) × (Found ends (drop (length front) cs) j) × (k ≡ j + length front) → (inner : List ℕ) × (take k cs ≡ between front inner ends)
+pub ends-behind : (front ends cs : List ℕ) (k : ℕ) → starts front cs ≡ true → (j : ℕ) × (Found ends (drop (length front) cs) j) × (k ≡ j + length front) → (inner : List ℕ) × (take k cs ≡ between front inner ends)
 ends-behind front ends cs k s f = (f.1.front, ap (λ m. take m cs) f.2 ∙ taken front ends cs (drop (length front) cs) f.0 (starts-front front cs s) f.1)
 
-found-behind : (ends : List ℕ) (n : ℕ) (cs : List ℕ) (k : ℕ) → behind n (after ends (drop n cs)) ≡ Some k → (j : ℕ) × (Found ends (drop n cs) j) × (k ≡ j + n)
+pub found-behind : (ends : List ℕ) (n : ℕ) (cs : List ℕ) (k : ℕ) → behind n (after ends (drop n cs)) ≡ Some k → (j : ℕ) × (Found ends (drop n cs) j) × (k ≡ j + n)
 found-behind ends n cs k e = let m = map-behind n (after ends (drop n cs)) k e in (m.0, after-found ends (drop n cs) m.0 m.1, m.2)
 
 tag-behind : (n : ℕ) (cs : List ℕ) (k : ℕ) → behind n (after_tag None (drop n cs)) ≡ Some k → (j : ℕ) × (Found (62 ∷ []) (drop n cs) j) × (k ≡ j + n)

@@ -16,3 +16,10 @@ pub mod CodeNames
 pub mod ScopeLaws
 pub mod Children
 pub mod StackLaws
+pub mod AllowedText
+pub mod SoundNames
+pub mod SoundScopes
+pub mod SoundHeads
+pub mod SoundTrees
+pub mod SoundTokens
+pub mod SoundCuts
