@@ -23,3 +23,6 @@ pub mod SoundHeads
 pub mod SoundTrees
 pub mod SoundTokens
 pub mod SoundCuts
+pub mod PageMarks
+pub mod RisingOffsets
+pub mod SoundPages

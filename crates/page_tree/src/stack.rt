@@ -5,6 +5,7 @@ ghost use Rattle.page_tree.specs.Machine.{flush, flushed, scope_in, closed, runn
 ghost use Rattle.page_tree.specs.Tags.{head_of, scope_of as scope_under_tag};
 ghost use Rattle.page_tree.specs.Views.{tag_of};
 ghost use Rattle.page_tree.specs.Stacks.{frame, frames_of};
+ghost use Rattle.ix_base.specs.Scope.{outermost};
 
 use crate::names::{attributes_of, element_name};
 use crate::token::Tag;
@@ -58,16 +59,16 @@ impl<'a> Open<'a> {
 /// The pending text becomes a child of the innermost open element.
 pub(crate) fn flush_innermost<'a>(
     arena: &'a Bump,
-    open: &mut Vec<Open<'a>>,
+    elements: &mut Vec<Open<'a>>,
     text: &mut String,
 ) -> Result<(), NoMemory>
-    ensures { OnOk result (frames_of open.new.items ≡ flushed (frames_of open.old.items) (string_bytes text.old)) }
+    ensures { OnOk result (frames_of elements.new.items ≡ flushed (frames_of elements.old.items) (string_bytes text.old)) }
 {
-    let Some(mut parent) = open.pop() else {
+    let Some(mut parent) = elements.pop() else {
         return Ok(());
     };
     parent.flush(arena, text)?;
-    if open.push(parent).is_err() {
+    if elements.push(parent).is_err() {
         return Err(NoMemory);
     }
     Ok(())
@@ -75,19 +76,17 @@ pub(crate) fn flush_innermost<'a>(
 
 /// The scope in the innermost open element, or that above the root.
 pub(crate) fn innermost_scope<'a>(
-    open: &[Open<'a>],
+    elements: &[Open<'a>],
     outer: &'a [Binding<'a>],
 ) -> &'a [Binding<'a>]
     requires { map bound outer.now ≡ outermost }
-    ensures { map bound result.now ≡ scope_in (frames_of open.now) }
+    ensures { map bound result.now ≡ scope_in (frames_of elements.now) }
 {
-    let Some(parent) = open.last() else {
+    let Some(parent) = elements.last() else {
         return outer;
     };
     parent.scope
 }
-
-ghost use Rattle.ix_base.specs.Scope.{outermost, scope_under};
 
 /// An element that begins with this tag, in a scope of its own.
 pub(crate) fn open_element<'a>(
@@ -139,21 +138,21 @@ pub(crate) fn close_element<'a>(
 
 /// A whole element goes to the one that it stands in, or is the root.
 pub(crate) fn put<'a>(
-    open: &mut Vec<Open<'a>>,
+    elements: &mut Vec<Open<'a>>,
     root: &mut Option<&'a Element<'a>>,
     element: &'a Element<'a>,
 ) -> Result<(), NoMemory>
-    ensures { OnOk result ((d : Bool) → closed (frames_of open.old.items) (tree_of element.now).head (tree_of element.now).children (option_map (λ e. tree_of e.now) root.old) d
-        ≡ record { frames = frames_of open.new.items; text = []; root = option_map (λ e. tree_of e.now) root.new; doctyped = d }) }
+    ensures { OnOk result ((d : Bool) → closed (frames_of elements.old.items) (tree_of element.now).head (tree_of element.now).children (option_map (λ e. tree_of e.now) root.old) d
+        ≡ record { frames = frames_of elements.new.items; text = []; root = option_map (λ e. tree_of e.now) root.new; doctyped = d }) }
 {
-    let Some(mut parent) = open.pop() else {
+    let Some(mut parent) = elements.pop() else {
         *root = Some(element);
         return Ok(());
     };
     if parent.children.push(Node::Elem(element)).is_err() {
         return Err(NoMemory);
     }
-    if open.push(parent).is_err() {
+    if elements.push(parent).is_err() {
         return Err(NoMemory);
     }
     Ok(())

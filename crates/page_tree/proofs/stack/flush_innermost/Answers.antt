@@ -7,6 +7,6 @@ use Rattle.page_tree.proofs.stack.flush_innermost.Goals as goal
 pub returns : goal.returns
 returns c =
     let done : frame c.flush.new.self ≡ record (frame c.in-Some.parent) { done = flush (frame c.in-Some.parent).done (string_bytes c.args.text.now) } = search rules in
-    let split : c.args.open.now.items ≡ c.pop.new.self.items ++ c.in-Some.parent ∷ [] = search rules in
+    let split : c.args.elements.now.items ≡ c.pop.new.self.items ++ c.in-Some.parent ∷ [] = search rules in
     let pushed : c.push.new.self.items ≡ c.pop.new.self.items ++ c.flush.new.self ∷ [] = search rules in
-    flushed-snoc c.args.open.now.items c.pop.new.self.items _ c.in-Some.parent c.flush.new.self (string_bytes c.args.text.now) split pushed done
+    flushed-snoc c.args.elements.now.items c.pop.new.self.items _ c.in-Some.parent c.flush.new.self (string_bytes c.args.text.now) split pushed done

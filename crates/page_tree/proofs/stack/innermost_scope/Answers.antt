@@ -6,7 +6,7 @@ use Rattle.page_tree.proofs.stack.innermost_scope.Goals as goal
 pub returns : goal.returns
 returns c =
     let o = c.in-Some.parent.now in
-    let os = c.args.open.now in
+    let os = c.args.elements.now in
     let at : o ≡ get_or os (length os - 1) o = search rules in
     let some : length os - 1 + 1 ≡ length os = grind (arith, common_steps) in
     scope-last os (length os - 1) o some at

@@ -10,5 +10,5 @@ returns c d =
     let old = c.in-Some.parent in
     let t = tree_of c.args.element.now in
     let added = child-push old.children.items c.push.new.self.items c.args.element t refl (search rules) in
-    put-snoc c.args.open.now.items c.pop.new.self.items c.push-2.new.self.items old (record old { children = c.push.new.self }) t.head t.children _ d (search rules) (search rules)
+    put-snoc c.args.elements.now.items c.pop.new.self.items c.push-2.new.self.items old (record old { children = c.push.new.self }) t.head t.children _ d (search rules) (search rules)
     (ap (λ d. record (frame old) { done = d }) added)
