@@ -12,7 +12,9 @@ use std::alloc::Global;
 use std::marker::Model;
 
 mod day;
+mod line;
 mod part;
+mod prefix;
 
 /// The canonical text of a content, ready to be written: its lines, each with its line feed.
 #[derive(Drop)]
