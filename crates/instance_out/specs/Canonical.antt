@@ -1,6 +1,6 @@
 -- The canonical text of a content, line by line (XBRL 2.1, section 4). Lines of linkbases, roles, units, footnotes and
 -- dimensions, and the order among several lines of a kind, are still to come.
-use Rattle.std.specs.Prelude.{◌≡◌, ℕ, Bool, true, false, List, [], ◌∷◌, ◌++◌, map, Option, Some, None, codes}
+use Rattle.std.specs.Prelude.{◌≡◌, ℕ, Bool, true, false, List, [], ◌∷◌, ◌++◌, map, Option, Some, None, ℤ, codes}
 use Rattle.std.specs.List.{concat}
 use Rattle.ix_base.specs.declared.content.Accuracy.{Accuracy}
 use Rattle.ix_base.specs.declared.content.Accuracy.TheVariants as accuracy
@@ -14,7 +14,7 @@ use Rattle.ix_base.specs.declared.content.Value.{Value}
 use Rattle.ix_base.specs.declared.content.Value.TheVariants as value
 use Rattle.ix_base.specs.Facts.{Facts, none, item, tuple, facts_of}
 use Rattle.ix_base.specs.Written.{Attribute, Markup, nothing, words, node, leaf, start_text, close_text, written}
-use Rattle.instance_out.specs.Moments.{start_text as start_moment, end_text as end_moment}
+use Rattle.instance_out.specs.Moments.{start_text as start_moment, end_text as end_moment, IsMidnight}
 use Rattle.instance_out.specs.Prefixes.{declaration, declared_for, name_text, spaces_of}
 
 -- an attribute
@@ -77,6 +77,17 @@ pub record IsBare (i : Item) : Type 0 where
   pub accuracy : i.accuracy ≡ None
   pub id : i.id ≡ None
 
+-- an item with a text
+pub record HasText (i : Item) : Type 0 where
+  pub text : List ℕ
+  pub is : i.value ≡ value.Plain text
+
+-- a period that is an instant at midnight
+pub record IsInstantAtMidnight (p : Period) : Type 0 where
+  pub end : ℤ
+  pub is : p ≡ period.Instant end
+  pub midnight : IsMidnight end
+
 -- a value in an element of this name with these attributes, and what follows
 abbrev pub value_markup : List ℕ → List Attribute → Value → Markup → Markup
 value_markup name attrs value.Nil rest = leaf name (attrs ++ nil_attr ∷ []) rest
@@ -125,6 +136,9 @@ first_line = codes "<?xml version=\"1.0\" encoding=\"UTF-8\"?>\n"
 abbrev pub root : List ℕ
 root = codes "xbrli:xbrl"
 
+abbrev pub last_line : List ℕ
+last_line = close_text root ++ 10 ∷ []
+
 -- the children of the root, in order
 abbrev pub children : List (List ℕ) → Content → List Markup
 children spaces c = map schema_markup c.schemas ++ (map context_markup c.contexts ++ each_markup spaces (facts_of c.facts))
@@ -138,7 +152,7 @@ unfoldable pub canon_lines : Content → List (List ℕ)
 canon_lines c =
     first_line
     ∷ root_line (content_spaces c)
-    ∷ (map line (children (content_spaces c) c) ++ (close_text root ++ 10 ∷ []) ∷ [])
+    ∷ (map line (children (content_spaces c) c) ++ last_line ∷ [])
 
 -- the canonical text
 abbrev pub canon : Content → List ℕ
