@@ -50,9 +50,9 @@ line-context c day =
     let identifier = te c.identifier ++ (close_text (codes "xbrli:identifier") ++ behind) in
     start_text-one (codes "xbrli:context") (codes "id") c.id (entity ++ written (text_element (codes "xbrli:identifier") scheme c.identifier nothing) (close_text (codes "xbrli:entity") ++ (period ++ written (instant_element day) end)))
     ∙ ap (λ x. codes "<xbrli:context id=\"" ++ (ae c.id ++ 34 ∷ 62 ∷ (entity ++ written (text_element (codes "xbrli:identifier") scheme c.identifier nothing) (close_text (codes "xbrli:entity") ++ (period ++ x)))))
-        (text_element-written (codes "xbrli:instant") [] day nothing end)
+    (text_element-written (codes "xbrli:instant") [] day nothing end)
     ∙ ap (λ x. codes "<xbrli:context id=\"" ++ (ae c.id ++ 34 ∷ 62 ∷ (entity ++ x)))
-        (text_element-written (codes "xbrli:identifier") scheme c.identifier nothing behind ∙ start_text-one (codes "xbrli:identifier") (codes "scheme") c.scheme identifier)
+    (text_element-written (codes "xbrli:identifier") scheme c.identifier nothing behind ∙ start_text-one (codes "xbrli:identifier") (codes "scheme") c.scheme identifier)
 
 pub line-instant : (c : Context) (end : ℤ) (day : List ℕ) → c.period ≡ period.Instant end → day ≡ end_text end → line (context_over c (instant_element day)) ≡ line (context_markup c)
 line-instant c end day at is = ap (λ d. line (context_over c (instant_element d))) is ∙ sym (ap (λ p. line (context_over c (period_markup p))) at)

@@ -1,6 +1,6 @@
 -- The canonical text of a content, line by line (XBRL 2.1, section 4). Lines of linkbases, roles, units, footnotes and
 -- dimensions, and the order among several lines of a kind, are still to come.
-use Rattle.std.specs.Prelude.{◌≡◌, ℕ, Bool, true, false, List, [], ◌∷◌, ◌++◌, map, Option, Some, None, ℤ, codes}
+use Rattle.std.specs.Prelude.{ℕ, Bool, true, false, List, [], ◌∷◌, ◌++◌, map, Option, Some, None, codes}
 use Rattle.std.specs.List.{concat}
 use Rattle.ix_base.specs.declared.content.Accuracy.{Accuracy}
 use Rattle.ix_base.specs.declared.content.Accuracy.TheVariants as accuracy
@@ -14,7 +14,7 @@ use Rattle.ix_base.specs.declared.content.Value.{Value}
 use Rattle.ix_base.specs.declared.content.Value.TheVariants as value
 use Rattle.ix_base.specs.Facts.{Facts, none, item, tuple, facts_of}
 use Rattle.ix_base.specs.Written.{Attribute, Markup, nothing, words, node, leaf, start_text, close_text, written}
-use Rattle.instance_out.specs.Moments.{start_text as start_moment, end_text as end_moment, IsMidnight}
+use Rattle.instance_out.specs.Moments.{start_text as start_moment, end_text as end_moment}
 use Rattle.instance_out.specs.Prefixes.{declaration, declared_for, name_text, spaces_of}
 
 -- an attribute
@@ -51,10 +51,10 @@ period_markup period.Forever = leaf (codes "xbrli:forever") [] nothing
 abbrev pub context_over : Context → Markup → Markup
 context_over c period =
     node (codes "xbrli:context") (attr (codes "id") c.id ∷ [])
-        (node (codes "xbrli:entity") []
-            (text_element (codes "xbrli:identifier") (attr (codes "scheme") c.scheme ∷ []) c.identifier nothing)
-            (node (codes "xbrli:period") [] period nothing))
-        nothing
+    (node (codes "xbrli:entity") []
+    (text_element (codes "xbrli:identifier") (attr (codes "scheme") c.scheme ∷ []) c.identifier nothing)
+    (node (codes "xbrli:period") [] period nothing))
+    nothing
 
 abbrev pub context_markup : Context → Markup
 context_markup c = context_over c (period_markup c.period)
@@ -70,23 +70,6 @@ nil_attr = attr (codes "xsi:nil") (codes "true")
 abbrev pub item_attrs : Item → List Attribute
 item_attrs i =
     attr (codes "contextRef") i.context ∷ (attr_if (codes "unitRef") i.unit ++ (accuracy_attrs i.accuracy ++ attr_if (codes "id") i.id))
-
--- an item without unit, accuracy and id
-pub record IsBare (i : Item) : Type 0 where
-  pub unit : i.unit ≡ None
-  pub accuracy : i.accuracy ≡ None
-  pub id : i.id ≡ None
-
--- an item with a text
-pub record HasText (i : Item) : Type 0 where
-  pub text : List ℕ
-  pub is : i.value ≡ value.Plain text
-
--- a period that is an instant at midnight
-pub record IsInstantAtMidnight (p : Period) : Type 0 where
-  pub end : ℤ
-  pub is : p ≡ period.Instant end
-  pub midnight : IsMidnight end
 
 -- a value in an element of this name with these attributes, and what follows
 abbrev pub value_markup : List ℕ → List Attribute → Value → Markup → Markup

@@ -1,16 +1,17 @@
 //! The lines of a content of one schema, one context and one fact with a text.
 ghost use Rattle.std.specs.Prelude.{◌≡◌, ◌∷◌, [], IfOk};
 ghost use Rattle.ix_base.specs.Written.{nothing};
-ghost use Rattle.instance_out.specs.Canonical.{canon_lines, line, schema_markup, context_markup, item_markup, root_line as start_of_root, first_line, last_line, IsBare, HasText, IsInstantAtMidnight};
+ghost use Rattle.instance_out.specs.Canonical.{canon_lines, line, schema_markup, context_markup, item_markup, root_line as start_of_root, first_line, last_line};
 ghost use Rattle.instance_out.specs.Moments.{IsMidnight};
 ghost use Rattle.instance_out.specs.Prefixes.{spaces_with};
-ghost use Rattle.instance_out.specs.Writable.{IsWritable};
+ghost use Rattle.instance_out.specs.Writable.{IsWritable, IsBare, HasText, IsInstantAtMidnight};
 
 use crate::line::{context_line, item_line, root_line, schema_line};
 use ix_base::{Content, Context, Fact, Item, List, NoMemory, Period, Text, Value};
 use std::alloc::Global;
 
 const FIRST_LINE: &str = "<?xml version=\"1.0\" encoding=\"UTF-8\"?>\n";
+
 const LAST_LINE: &str = "</xbrli:xbrl>\n";
 
 /// The lines of a content.

@@ -13,9 +13,12 @@ use std::marker::Model;
 
 mod content;
 mod day;
+mod laws;
 mod line;
 mod part;
 mod prefix;
+
+pub use laws::six_lines;
 
 /// The canonical text of a content, ready to be written: its lines, each with its line feed.
 #[derive(Drop)]

@@ -14,6 +14,6 @@ lines_around-requires-clause-period c =
 pub returns : goal.returns
 returns c =
     IfOk-weaker c.lines_around.result _ _
-        (λ t e. e ∙ sym (canon_lines-one c.args.content.now c.only_schema-schema.result.now c.only_context-context.result.now c.only_item-item.result.now
-            c.only_schema-schema.ensures c.only_context-context.ensures c.only_item-item.ensures))
-        c.lines_around.ensures
+    (λ t e. e ∙ sym (canon_lines-one c.args.content.now c.only_schema-schema.result.now c.only_context-context.result.now c.only_item-item.result.now
+    c.only_schema-schema.ensures c.only_context-context.ensures c.only_item-item.ensures))
+    c.lines_around.ensures
