@@ -17,6 +17,8 @@ mod laws;
 mod line;
 mod part;
 mod prefix;
+#[cfg(test)]
+mod tests;
 
 pub use laws::six_lines;
 
