@@ -1,8 +1,8 @@
 -- The day that is so many days after 0001-01-01.
-use Rattle.std.proofs.Common.{◌≡◌, ◌∙◌, ℕ, zero, suc, ◌+◌, ◌-◌, ◌<◌, ◌≤◌, Bool, true, false, cond, nat_lt, ℤ, pos, neg_ℤ, ◌+ℤ◌, ◌<ℤ◌, ap, subst, sym, refl, arith, inl, inr, ◌⊎◌, ⊎_elim}
+use Rattle.std.proofs.Common.{◌≡◌, ◌∙◌, ℕ, zero, suc, ◌+◌, ◌≤◌, Bool, true, false, cond, nat_lt, ℤ, pos, neg_ℤ, ◌+ℤ◌, ◌<ℤ◌, ap, subst, sym, refl, arith, ⊎_elim}
 use Rattle.std.proofs.lemmas.Bool.{cases_lt, ltb-true, ltb-false}
 use Rattle.std.proofs.lemmas.Int.{by_lt_z}
-use Rattle.jiff_core.specs.Calendar.{IsCivilDate, day_count, days_in_month, days_from_civil}
+use Rattle.jiff_core.specs.Calendar.{IsCivilDate, day_count, days_in_month}
 use Rattle.jiff_core.proofs.CalendarLemmas.{days_from_civil-day_count, days_in_month_bounds, day_count-day, day_count-next_month, day_count-next_year, day_count-last_of_year, day_count-lt_year, day_count-lt_month}
 use Rattle.jiff.proofs.SpanFacts.{signed_arith}
 use Rattle.jiff.specs.Words.{epoch_day}

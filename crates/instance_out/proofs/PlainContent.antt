@@ -1,6 +1,5 @@
 -- The content that the tests write.
 use Rattle.std.proofs.Common.{◌≡◌, ℕ, ℤ, pos, ◌+◌, ◌*◌, List, [], ◌∷◌, None, ap, sym, refl, arith}
-use Rattle.jiff_core.specs.Calendar.{day_count}
 use Rattle.jiff_core.proofs.MarchLemmas.{day_count-late}
 use Rattle.jiff.proofs.SpanFacts.{signed_arith}
 use Rattle.ix_base.specs.declared.content.Content.{Content}
@@ -10,7 +9,7 @@ use Rattle.ix_base.specs.declared.content.Item.{Item}
 use Rattle.ix_base.specs.declared.content.Period.TheVariants as period
 use Rattle.ix_base.specs.declared.content.Value.TheVariants as value
 use Rattle.ix_base.specs.Days.{IsDay, day_end, days_before}
-use Rattle.instance_out.specs.Writable.{IsWritable, one_fact}
+use Rattle.instance_out.specs.Writable.{IsWritable}
 use Rattle.instance_out.proofs.FirstDay.{first_count}
 
 pub last_of_2023 : IsDay 2023 12 31
@@ -28,7 +27,16 @@ pub is_plain : (schema id scheme identifier space local text : List ℕ) (conten
     → i ≡ record { name = record { ns = space; local = local }; context = id; unit = None; accuracy = None; id = None; value = value.Plain text }
     → end ≡ day_end 2023 12 31 → IsWritable content
 is_plain schema id scheme identifier space local text content context i end is there here at = record {
-  schema = schema; id = id; scheme = scheme; identifier = identifier; year = 2023; month = 12; day = 31; space = space; local = local; text = text;
+  schema = schema;
+  id = id;
+  scheme = scheme;
+  identifier = identifier;
+  year = 2023;
+  month = 12;
+  day = 31;
+  space = space;
+  local = local;
+  text = text;
   real = last_of_2023;
   is = rw (is, there, here, at) refl;
 }

@@ -1,5 +1,5 @@
 -- Facts apart from where they lie in memory, one by one.
-use Rattle.std.proofs.Common.{◌≡◌, List, [], ◌∷◌, rules}
+use Rattle.std.proofs.Common.{◌≡◌, rules}
 use Rattle.ix_base.specs.Facts.{Facts, item, tuple, before, facts_of}
 use Rattle.ix_base.specs.declared.content.Fact.{the_lemmas}
 use Rattle.ix_base.specs.declared.content.Item.{Item}

@@ -1,4 +1,4 @@
-use Rattle.std.proofs.Common.{◌≡◌, ◌∙◌, ap, ◌+◌, ◌<◌, suc, ℕ, length, take, get_or, add-one, arith, length-append, ◌++◌}
+use Rattle.std.proofs.Common.{◌≡◌, ◌∙◌, ap, ◌<◌, suc, length, take, get_or, add-one, arith, length-append, ◌++◌}
 use Rattle.std.specs.List.{concat}
 use Rattle.instance_out.proofs.Grown.{concat_next}
 use Rattle.instance_out.proofs.total_len.Goals as goal

@@ -1,6 +1,3 @@
-use Rattle.std.proofs.Common.{refl}
-use Rattle.instance_out.specs.Canonical.{root_line}
-use Rattle.instance_out.specs.Prefixes.{fixed}
 use Rattle.instance_out.proofs.ContentLaws.{canon_lines-literally}
 use Rattle.instance_out.proofs.LineLaws.{root_line-known, root_line-space}
 use Rattle.instance_out.proofs.PrefixLaws.{name_text-first}

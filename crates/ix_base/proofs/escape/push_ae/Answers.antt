@@ -1,4 +1,4 @@
-use Rattle.std.proofs.Common.{◌≡◌, sym, subst}
+use Rattle.std.proofs.Common.{sym, subst}
 use Rattle.std.proofs.lemmas.Result.{err_from_is_err_and}
 use Rattle.ix_base.specs.Escapes.{ae_ref, AppendsFront, ae}
 use Rattle.ix_base.proofs.EscapeLemmas.{ae_low, front-next, front-gains}

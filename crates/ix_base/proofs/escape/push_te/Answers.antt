@@ -1,4 +1,4 @@
-use Rattle.std.proofs.Common.{◌≡◌, sym, subst}
+use Rattle.std.proofs.Common.{sym, subst}
 use Rattle.std.proofs.lemmas.Result.{err_from_is_err_and}
 use Rattle.ix_base.specs.Escapes.{te_ref, AppendsFront, te}
 use Rattle.ix_base.proofs.EscapeLemmas.{te_low, front-next, front-gains}
