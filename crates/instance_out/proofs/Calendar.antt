@@ -1,8 +1,8 @@
 -- The day that is so many days after 0001-01-01.
-use Rattle.std.proofs.Common.{◌≡◌, ◌∙◌, ℕ, zero, suc, ◌+◌, ◌-◌, ◌<◌, ◌≤◌, Bool, true, false, cond, nat_lt, ℤ, pos, neg_ℤ, ◌+ℤ◌, ◌<ℤ◌, ap, subst, sym, refl, arith, inl, inr, ◌⊎◌, ⊎_elim}
+use Rattle.std.proofs.Common.{◌≡◌, ◌∙◌, ℕ, zero, suc, ◌+◌, ◌≤◌, Bool, true, false, cond, nat_lt, ℤ, pos, neg_ℤ, ◌+ℤ◌, ◌<ℤ◌, ap, subst, sym, refl, arith, ⊎_elim}
 use Rattle.std.proofs.lemmas.Bool.{cases_lt, ltb-true, ltb-false}
 use Rattle.std.proofs.lemmas.Int.{by_lt_z}
-use Rattle.jiff_core.specs.Calendar.{IsCivilDate, day_count, days_in_month, days_from_civil}
+use Rattle.jiff_core.specs.Calendar.{IsCivilDate, day_count, days_in_month}
 use Rattle.jiff_core.proofs.CalendarLemmas.{days_from_civil-day_count, days_in_month_bounds, day_count-day, day_count-next_month, day_count-next_year, day_count-last_of_year, day_count-lt_year, day_count-lt_month}
 use Rattle.jiff.proofs.SpanFacts.{signed_arith}
 use Rattle.jiff.specs.Words.{epoch_day}
@@ -80,12 +80,12 @@ same_months : (y : ℤ) (m d m₂ d₂ : ℕ) → IsCivilDate y m d → IsCivilD
 same_months y m d m₂ d₂ h k same = ⊎_elim
     (λ lt. absurd (omega (arith, day_count-lt_month y m d m₂ d₂ h k.2.0 lt)))
     (λ ge. ⊎_elim
-        (λ gt. absurd (omega (arith, day_count-lt_month y m₂ d₂ m d k h.2.0 gt)))
-        (λ le.
-            let month : m ≡ m₂ = omega (arith, ge) in
-            let moved : day_count y m d ≡ day_count y m d₂ = same ∙ ap (λ x. day_count y x d₂) (sym month) in
-            (month, omega (arith, day_count-day y m d d₂ h.2.0 k.2.0)))
-        (cases_lt m₂ m))
+    (λ gt. absurd (omega (arith, day_count-lt_month y m₂ d₂ m d k h.2.0 gt)))
+    (λ le.
+    let month : m ≡ m₂ = omega (arith, ge) in
+    let moved : day_count y m d ≡ day_count y m d₂ = same ∙ ap (λ x. day_count y x d₂) (sym month) in
+    (month, omega (arith, day_count-day y m d d₂ h.2.0 k.2.0)))
+    (cases_lt m₂ m))
     (cases_lt m m₂)
 
 -- and of all
@@ -94,10 +94,10 @@ same_parts y m d e h p same =
     by_lt_z y (pos e.year) (λ lt. absurd (omega (arith, day_count-lt_year y m d (pos e.year) e.month e.day h p.day lt)))
     (λ ge. by_lt_z (pos e.year) y (λ gt. absurd (omega (arith, day_count-lt_year (pos e.year) e.month e.day y m d (civil gt) h.2.0 gt)))
     (λ le.
-        let year : y ≡ pos e.year = omega (arith, signed_arith) in
-        let there : IsCivilDate y e.month e.day = (h.0, (p.month, p.months), (p.day, subst (λ x. e.day ≤ days_in_month x e.month) (sym year) p.days)) in
-        let rest = same_months y m d e.month e.day h there (same ∙ ap (λ x. day_count x e.month e.day) (sym year)) in
-        (year, rest.0, rest.1)))
+    let year : y ≡ pos e.year = omega (arith, signed_arith) in
+    let there : IsCivilDate y e.month e.day = (h.0, (p.month, p.months), (p.day, subst (λ x. e.day ≤ days_in_month x e.month) (sym year) p.days)) in
+    let rest = same_months y m d e.month e.day h there (same ∙ ap (λ x. day_count x e.month e.day) (sym year)) in
+    (year, rest.0, rest.1)))
   where
     civil : pos e.year <ℤ y → IsCivilDate (pos e.year) e.month e.day
     civil gt = (omega (arith, signed_arith, h.0), (p.month, p.months), (p.day, p.days))

@@ -1,5 +1,5 @@
 -- The day number of 0001-01-01.
-use Rattle.std.proofs.Common.{◌≡◌, ℤ, pos, neg_ℤ, refl, arith}
+use Rattle.std.proofs.Common.{◌≡◌, pos, neg_ℤ, refl, arith}
 use Rattle.jiff_core.specs.Calendar.{day_count, days_from_civil}
 use Rattle.jiff_core.proofs.MarchLemmas.{day_count-early}
 use Rattle.jiff_core.proofs.CalendarLemmas.{days_from_civil-day_count}

@@ -1,5 +1,5 @@
 -- Targets that grow piece by piece.
-use Rattle.std.proofs.Common.{◌≡◌, ◌∙◌, ap, sym, ℕ, zero, suc, ◌+◌, ◌<◌, List, [], ◌∷◌, ◌++◌, length, take, drop, get_or, Option, Some, None, option_map, refl, append_assoc, append-nil, arith}
+use Rattle.std.proofs.Common.{◌≡◌, ◌∙◌, ap, sym, ℕ, zero, suc, ◌+◌, ◌<◌, List, [], ◌∷◌, ◌++◌, length, take, drop, get_or, Option, Some, None, option_map, refl, append_assoc, append-nil, add-one, arith}
 use Rattle.std.proofs.Math.Seq.{take-append-add}
 use Rattle.std.specs.List.{concat}
 use Rattle.ix_base.specs.Outside.{Begun, last_grown, GainsFront}
@@ -30,6 +30,14 @@ pub concat_next : (xs : List (List ℕ)) (i : ℕ) (d : List ℕ) → i < length
 concat_next [] i d h = absurd (omega (arith, h))
 concat_next (x ∷ xs) zero d h = append-nil x
 concat_next (x ∷ xs) (suc i) d h = ap (λ t. x ++ t) (concat_next xs i d (omega arith)) ∙ sym (append_assoc x (concat (take i xs)) (get_or xs i d))
+
+-- and what a put of it leaves
+pub grown_next : (xs : List (List ℕ)) (i : ℕ) (d piece : List ℕ) (old now new : Option (List Begun)) → i < length xs → piece ≡ get_or xs i d
+    → now ≡ option_map (last_grown (concat (take i xs))) old → new ≡ option_map (last_grown piece) now → new ≡ option_map (last_grown (concat (take (i + 1) xs))) old
+grown_next xs i d piece old now new h is before after =
+    let same = ap (λ p. option_map (last_grown p) now) is ∙ ap (option_map (last_grown (get_or xs i d))) before in
+    let next : concat (take (i + 1) xs) ≡ concat (take i xs) ++ get_or xs i d = rw add-one (concat_next xs i d h) in
+    after ∙ same ∙ grown_twice (concat (take i xs)) (get_or xs i d) old ∙ ap (λ t. option_map (last_grown t) old) (sym next)
 
 -- all lines, cut at one
 concat_cut : (xs : List (List ℕ)) (i : ℕ) (d : List ℕ) → i < length xs → concat xs ≡ concat (take i xs) ++ (get_or xs i d ++ concat (drop (suc i) xs))

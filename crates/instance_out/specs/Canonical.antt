@@ -34,19 +34,30 @@ text_markup (c ∷ cs) = words (c ∷ cs) nothing
 abbrev pub schema_markup : List ℕ → Markup
 schema_markup href = leaf (codes "link:schemaRef") (attr (codes "xlink:type") (codes "simple") ∷ attr (codes "xlink:href") href ∷ []) nothing
 
+-- an element that holds a text, and what follows
+abbrev pub text_element : List ℕ → List Attribute → List ℕ → Markup → Markup
+text_element name attrs text rest = node name attrs (text_markup text) rest
+
+abbrev pub instant_element : List ℕ → Markup
+instant_element day = text_element (codes "xbrli:instant") [] day nothing
+
 abbrev pub period_markup : Period → Markup
-period_markup (period.Instant end) = node (codes "xbrli:instant") [] (text_markup (end_moment end)) nothing
+period_markup (period.Instant end) = instant_element (end_moment end)
 period_markup (period.Duration start end) =
-    node (codes "xbrli:startDate") [] (text_markup (start_moment start)) (node (codes "xbrli:endDate") [] (text_markup (end_moment end)) nothing)
+    text_element (codes "xbrli:startDate") [] (start_moment start) (text_element (codes "xbrli:endDate") [] (end_moment end) nothing)
 period_markup period.Forever = leaf (codes "xbrli:forever") [] nothing
 
-abbrev pub context_markup : Context → Markup
-context_markup c =
+-- a context with its period
+abbrev pub context_over : Context → Markup → Markup
+context_over c period =
     node (codes "xbrli:context") (attr (codes "id") c.id ∷ [])
     (node (codes "xbrli:entity") []
-    (node (codes "xbrli:identifier") (attr (codes "scheme") c.scheme ∷ []) (text_markup c.identifier) nothing)
-    (node (codes "xbrli:period") [] (period_markup c.period) nothing))
+    (text_element (codes "xbrli:identifier") (attr (codes "scheme") c.scheme ∷ []) c.identifier nothing)
+    (node (codes "xbrli:period") [] period nothing))
     nothing
+
+abbrev pub context_markup : Context → Markup
+context_markup c = context_over c (period_markup c.period)
 
 abbrev pub accuracy_attrs : Option Accuracy → List Attribute
 accuracy_attrs None = []
@@ -63,9 +74,9 @@ item_attrs i =
 -- a value in an element of this name with these attributes, and what follows
 abbrev pub value_markup : List ℕ → List Attribute → Value → Markup → Markup
 value_markup name attrs value.Nil rest = leaf name (attrs ++ nil_attr ∷ []) rest
-value_markup name attrs (value.Plain text) rest = node name attrs (text_markup text) rest
+value_markup name attrs (value.Plain text) rest = text_element name attrs text rest
 value_markup name attrs (value.Fraction above below) rest =
-    node name attrs (node (codes "xbrli:numerator") [] (text_markup above) (node (codes "xbrli:denominator") [] (text_markup below) nothing)) rest
+    node name attrs (text_element (codes "xbrli:numerator") [] above (text_element (codes "xbrli:denominator") [] below nothing)) rest
 
 abbrev pub item_markup : List (List ℕ) → Item → Markup → Markup
 item_markup spaces i rest = value_markup (name_text spaces i.name) (item_attrs i) i.value rest
@@ -108,6 +119,9 @@ first_line = codes "<?xml version=\"1.0\" encoding=\"UTF-8\"?>\n"
 abbrev pub root : List ℕ
 root = codes "xbrli:xbrl"
 
+abbrev pub last_line : List ℕ
+last_line = close_text root ++ 10 ∷ []
+
 -- the children of the root, in order
 abbrev pub children : List (List ℕ) → Content → List Markup
 children spaces c = map schema_markup c.schemas ++ (map context_markup c.contexts ++ each_markup spaces (facts_of c.facts))
@@ -121,7 +135,7 @@ unfoldable pub canon_lines : Content → List (List ℕ)
 canon_lines c =
     first_line
     ∷ root_line (content_spaces c)
-    ∷ (map line (children (content_spaces c) c) ++ (close_text root ++ 10 ∷ []) ∷ [])
+    ∷ (map line (children (content_spaces c) c) ++ last_line ∷ [])
 
 -- the canonical text
 abbrev pub canon : Content → List ℕ

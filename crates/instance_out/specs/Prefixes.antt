@@ -1,5 +1,6 @@
 -- Prefixes of the namespaces of an instance (Namespaces in XML 1.0, sections 3 to 5).
-use Rattle.std.specs.Prelude.{ℕ, suc, Bool, true, List, [], ◌∷◌, ◌++◌, Option, Some, None, is_some, if◌then◌else◌, bytes_eq, codes, decimal}
+use Rattle.std.specs.Prelude.{ℕ, suc, ◌+◌, Bool, true, List, [], ◌∷◌, ◌++◌, map, Option, Some, None, is_some, if◌then◌else◌, bytes_eq, codes}
+use Rattle.std.specs.Int.Digits.{digits_of}
 use Rattle.std.specs.Ordering.{is_lt, nat_cmp}
 use Rattle.std.specs.Cmp.Lexicographic.{slice_cmp}
 use Rattle.ix_base.specs.declared.content.OwnName.{OwnName}
@@ -25,10 +26,14 @@ fixed =
     ∷ record { prefix = codes "xsi"; space = codes "http://www.w3.org/2001/XMLSchema-instance" }
     ∷ []
 
+-- a number in decimal digits
+abbrev pub numeral : ℕ → List ℕ
+numeral n = map (λ d. 48 + d) (digits_of 10 n)
+
 -- the prefixes `n1`, `n2` and so on for these namespaces, from this number on
 abbrev pub numbered : ℕ → List (List ℕ) → List Bound
 numbered k [] = []
-numbered k (s ∷ ss) = record { prefix = 110 ∷ decimal k; space = s } ∷ numbered (suc k) ss
+numbered k (s ∷ ss) = record { prefix = 110 ∷ numeral k; space = s } ∷ numbered (suc k) ss
 
 -- the prefixes that an instance declares that has these further namespaces
 abbrev pub declared_for : List (List ℕ) → List Bound
@@ -59,6 +64,10 @@ with_space space (s ∷ ss) =
 abbrev pub spaces_of : List OwnName → List (List ℕ)
 spaces_of [] = []
 spaces_of (n ∷ ns) = if is_known n.ns then spaces_of ns else with_space n.ns (spaces_of ns)
+
+-- those of an instance whose names are in this namespace
+abbrev pub spaces_with : List ℕ → List (List ℕ)
+spaces_with space = if is_known space then [] else space ∷ []
 
 -- a local name behind a prefix, if there is one
 abbrev pub qualified : Option (List ℕ) → List ℕ → List ℕ

@@ -1,7 +1,7 @@
 //! The canonical text of a content, line by line, and its writing.
 #![tactic(auto)]
 
-ghost use Rattle.std.specs.Prelude.{◌≡◌, ◌+◌, ◌^◌, ◌<◌, IsTrue, length, OnOk, OnErr, IfOk, option_map};
+ghost use Rattle.std.specs.Prelude.{◌≡◌, ◌+◌, ◌^◌, ◌<◌, IsTrue, length, OnOk, OnErr, IfOk, IfSome, option_map};
 ghost use Rattle.std.specs.List.{concat};
 ghost use Rattle.ix_base.specs.Outside.{HasCause, last_grown, GainsFront};
 ghost use Rattle.instance_out.specs.Canonical.{canon_lines};
@@ -11,8 +11,16 @@ use ix_base::{Content, Failed, List, NoMemory, TargetSink, Text};
 use std::alloc::Global;
 use std::marker::Model;
 
+mod content;
 mod day;
+mod laws;
+mod line;
 mod part;
+mod prefix;
+#[cfg(test)]
+mod tests;
+
+pub use laws::six_lines;
 
 /// The canonical text of a content, ready to be written: its lines, each with its line feed.
 #[derive(Drop)]
@@ -46,7 +54,22 @@ pub fn prepare(alloc: Global, content: &Content) -> Result<Prepared, NoMemory>
     requires { IsWritable content.now }
     ensures { IfOk result (λ p. p ≡ canon_lines content.now) }
 {
-    Err(NoMemory)
+    let lines = content::lines(alloc, content)?;
+    match total_len(lines.as_slice()) {
+        Some(len) => Ok(Prepared { lines, len }),
+        None => Err(NoMemory),
+    }
+}
+
+/// How many bytes lines have together, where the number fits.
+fn total_len(lines: &[Text]) -> Option<u64>
+    ensures { IfSome result (λ n. n ≡ length (concat lines.now)) }
+{
+    let mut total = 0u64;
+    for line in lines {
+        total = total.checked_add(line.as_str().len() as u64)?;
+    }
+    Some(total)
 }
 
 /// Puts each line into the target begun last, one piece for each line. It takes no memory.

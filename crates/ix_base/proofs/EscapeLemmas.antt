@@ -5,7 +5,7 @@ use Rattle.std.proofs.lemmas.Str.{encode_ascii, inside_one}
 use Rattle.std.proofs.lemmas.Bool.{cases_lt}
 use Rattle.std.proofs.lemmas.Bool.Decides.{nat_tests}
 use Rattle.std.proofs.Math.Seq.{take-append_seam}
-use Rattle.ix_base.specs.Escapes.{te_ref, ae_ref, put, escaped, written_as, GainsFront}
+use Rattle.ix_base.specs.Escapes.{te_ref, ae_ref, put, escaped, written_as, AppendsFront}
 
 -- a table of ASCII characters alone
 pub record IsLow (table : ℕ → Option (List ℕ)) : Type 0 where
@@ -84,5 +84,5 @@ front-next table low old new new' text s rest c reference had first ref more = r
 pub front-end : (table : ℕ → Option (List ℕ)) (old new text rest : List ℕ) → HasFront table old new text rest → rest ≡ [] → new ≡ old ++ escaped table text
 front-end table old new text rest had e = had.is ∙ ap (λ x. old ++ x) (sym (append-nil had.done) ∙ ap (λ r. had.done ++ escaped table r) (sym e) ∙ had.all)
 
-pub front-gains : (table : ℕ → Option (List ℕ)) (old new text rest : List ℕ) → HasFront table old new text rest → GainsFront (escaped table text) old new
+pub front-gains : (table : ℕ → Option (List ℕ)) (old new text rest : List ℕ) → HasFront table old new text rest → AppendsFront (escaped table text) old new
 front-gains table old new text rest had = (length had.done, had.is ∙ ap (λ x. old ++ x) (sym (take-append_seam had.done (escaped table rest)) ∙ ap (take (length had.done)) had.all))

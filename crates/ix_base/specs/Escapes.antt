@@ -39,5 +39,5 @@ written_as c None = encode_utf8 c
 written_as c (Some reference) = reference
 
 -- a text gained a front of these bytes
-abbrev pub GainsFront : List ℕ → List ℕ → List ℕ → Type 0
-GainsFront bytes old new = (n : ℕ) × (new ≡ old ++ take n bytes)
+abbrev pub AppendsFront : List ℕ → List ℕ → List ℕ → Type 0
+AppendsFront bytes old new = (n : ℕ) × (new ≡ old ++ take n bytes)

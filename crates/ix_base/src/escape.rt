@@ -1,13 +1,13 @@
 //! How texts and attribute values are written.
 ghost use Rattle.std.specs.Prelude.{◌≡◌, ◌++◌, ◌∷◌, OnOk, OnErr, option_map};
-ghost use Rattle.ix_base.specs.Escapes.{te, ae, te_ref, ae_ref, written_as, GainsFront};
+ghost use Rattle.ix_base.specs.Escapes.{te, ae, te_ref, ae_ref, written_as, AppendsFront};
 
 use crate::{NoMemory, Text};
 
 /// Appends a text as it is written between tags. After a refusal the front of what was due may have been appended.
 pub fn push_te(text: &str, out: &mut Text) -> Result<(), NoMemory>
     ensures ok { OnOk result (out.new ≡ out.old ++ te text.now) }
-    ensures err { OnErr result (GainsFront (te text.now) out.old out.new) }
+    ensures err { OnErr result (AppendsFront (te text.now) out.old out.new) }
 {
     for c in text.chars() {
         push_char(c, reference_in_text(c), out)?;
@@ -19,7 +19,7 @@ pub fn push_te(text: &str, out: &mut Text) -> Result<(), NoMemory>
 /// been appended.
 pub fn push_ae(text: &str, out: &mut Text) -> Result<(), NoMemory>
     ensures ok { OnOk result (out.new ≡ out.old ++ ae text.now) }
-    ensures err { OnErr result (GainsFront (ae text.now) out.old out.new) }
+    ensures err { OnErr result (AppendsFront (ae text.now) out.old out.new) }
 {
     for c in text.chars() {
         push_char(c, reference_in_value(c), out)?;

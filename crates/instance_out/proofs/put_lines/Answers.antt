@@ -1,7 +1,6 @@
-use Rattle.std.proofs.Common.{◌≡◌, ◌∙◌, sym, refl, add-one, get_or, take, length, ◌<◌, arith}
+use Rattle.std.proofs.Common.{◌≡◌, ◌∙◌, sym, refl, get_or, length, ◌<◌, arith}
 use Rattle.std.proofs.lemmas.Result.{err_from_is_err_and}
-use Rattle.std.specs.List.{concat}
-use Rattle.instance_out.proofs.Grown.{grown_none, grown_twice, concat_next, front_grown}
+use Rattle.instance_out.proofs.Grown.{grown_none, grown_next, front_grown}
 use Rattle.instance_out.proofs.put_lines.Goals as goal
 
 pub loop-line-init : goal.loop-line-init
@@ -27,8 +26,12 @@ loop-line-preserved g c =
     let d = c.line-item.result in
     let piece : c.as_bytes.result.now ≡ get_or lines i d = c.as_bytes.ensures.value ∙ c.as_str.ensures ∙ c.line-item.is in
     let below : i < length lines = omega arith in
-    let next = concat_next lines i d below in
-    let twice = grown_twice (concat (take i lines)) (get_or lines i d) (g.S.TargetSink.targets c.args.sink.now) in
+    let targets = g.S.TargetSink.targets in
     let put = c.in_ok-put.ensures in
     let inv = c.loop-line.invariant in
-    record { faults = put.cause.ok ∙ inv.faults; is_open = put.opened; targets = put.ok ∙ rw (piece, inv.targets, add-one, next) twice; asked = put.asked ∙ inv.asked }
+    record {
+      faults = put.cause.ok ∙ inv.faults;
+      is_open = put.opened;
+      targets = grown_next lines i d c.as_bytes.result.now (targets c.args.sink.now) (targets c.loop-line.sink) (targets c.put.new.self) below piece inv.targets put.ok;
+      asked = put.asked ∙ inv.asked;
+    }

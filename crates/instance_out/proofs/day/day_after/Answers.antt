@@ -1,4 +1,4 @@
-use Rattle.std.proofs.Common.{◌≡◌, ◌≢◌, arith, ℤ, pos, ◌+ℤ◌, ◌∙◌, ap, sym, FitsSigned, w64, true, false, true≢false}
+use Rattle.std.proofs.Common.{arith, ◌+ℤ◌, ◌∙◌, ap, sym, FitsSigned, w64, true≢false}
 use Rattle.std.proofs.lemmas.Int.{to_z-of_z}
 use Rattle.jiff.specs.Words.{epoch_day, IsEpochDay}
 use Rattle.jiff.proofs.SpanFacts.{signed_arith, date_add-days, can_add-days}

@@ -1,6 +1,6 @@
 use Rattle.std.proofs.Common.{sym, subst}
 use Rattle.std.proofs.lemmas.Result.{err_from_is_err_and}
-use Rattle.ix_base.specs.Escapes.{te_ref, GainsFront, te}
+use Rattle.ix_base.specs.Escapes.{te_ref, AppendsFront, te}
 use Rattle.ix_base.proofs.EscapeLemmas.{te_low, front-next, front-gains}
 use Rattle.ix_base.proofs.escape.push_te.Goals as goal
 
@@ -13,4 +13,4 @@ pub returns-in_err-push_char-clause-err : goal.returns-in_err-push_char-clause-e
 returns-in_err-push_char-clause-err c =
     let p = err_from_is_err_and c.from_residual.result c.from_residual.ensures.1 in
     let gains = front-gains te_ref c.args.out.now c.loop-c.out c.args.text.now c.loop-c.c-iterator.rest.now c.loop-c.invariant in
-    rw (p.1) (subst (GainsFront (te c.args.text.now) c.args.out.now) (sym c.in_err-push_char.ensures.err) gains)
+    rw (p.1) (subst (AppendsFront (te c.args.text.now) c.args.out.now) (sym c.in_err-push_char.ensures.err) gains)
