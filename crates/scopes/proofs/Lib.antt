@@ -1,0 +1,3 @@
+mod HrefLemmas
+mod ColonLemmas
+mod SpotLemmas

@@ -1,0 +1,3 @@
+pub mod Hrefs
+pub mod Kept
+pub mod Resolving
