@@ -1,0 +1,9 @@
+pub mod Sorts
+pub mod CompleteDecimal
+pub mod CompleteUnits
+pub mod Complete
+pub mod SoundDecimal
+pub mod SoundUnits
+pub mod Sound
+pub mod Steps
+pub mod Values

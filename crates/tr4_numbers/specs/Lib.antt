@@ -1,0 +1,4 @@
+pub mod Transformation
+pub mod Names
+pub mod Values
+pub mod Reading
