@@ -26,3 +26,5 @@ pub mod SoundCuts
 pub mod PageMarks
 pub mod RisingOffsets
 pub mod SoundPages
+pub mod SpelledTags
+pub mod SpelledCuts

@@ -2,9 +2,10 @@
 use Rattle.std.proofs.Common.{if◌then◌else◌, ◌&&◌, ◌≡◌, ◌≢◌, ℕ, suc, zero, ◌+◌, ◌-◌, ◌<◌, ◌≤◌, Bool, true, false, List, [], ◌∷◌, ◌++◌, length, take, drop, map, Option, Some, None, refl, sym, ap, ◌∙◌, arith, subst, length-append, length-drop}
 use Rattle.std.proofs.lemmas.List.{take-append-le, drop-append-le, map-append}
 use Rattle.page_tree.specs.Constructs.{Byte, values, size, is_run, settled_or, whole_size, Construct, construct, offset_of, kind_of, Cut, cut_at, cut_from, settled, finished, is_first, continued}
+use Rattle.page_tree.specs.Spellings.{put_first}
 use Rattle.page_tree.proofs.CutLaws.{size_by-takes, size-append, kind_of-append}
 
-length-values : (us : List Byte) → length (values us) ≡ length us
+pub length-values : (us : List Byte) → length (values us) ≡ length us
 length-values [] = refl
 length-values (u ∷ us) = let l = length-values us in omega arith
 
@@ -55,11 +56,7 @@ same-construct first k a b e = λ i. record { kind = kind i; start = start i; te
   text : values (take k (a ++ b)) ≡ values (take k a)
   text = ap values (take-append-le k a b (let l = length-values a in let q = t.1 in omega arith))
 
--- a construct before others
-abbrev pub put_first : Construct → Cut → Cut
-put_first c cut_ = record { constructs = c ∷ cut_.constructs; rest = cut_.rest }
-
-finished-step : (ended first : Bool) (us : List Byte) (k : ℕ) → whole_size ended first (values us) ≡ Some k → finished ended first us ≡ put_first (construct first k us) (finished ended false (drop k us))
+pub finished-step : (ended first : Bool) (us : List Byte) (k : ℕ) → whole_size ended first (values us) ≡ Some k → finished ended first us ≡ put_first (construct first k us) (finished ended false (drop k us))
 unfolding cut_from
 finished-step ended first [] k e = absurd (let t = whole-takes ended first [] k e in omega arith)
 finished-step ended first (u ∷ us) k e =

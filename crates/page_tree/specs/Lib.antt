@@ -10,3 +10,4 @@ pub mod Machine
 pub mod Views
 pub mod Stacks
 pub mod Names
+pub mod Spellings

@@ -1,9 +1,15 @@
 //! Laws of the page grammar, for the crates that rest on it.
-ghost use Rattle.std.specs.Prelude.{◌≡◌, ◌++◌, ℕ, Bool, List, Some, None};
+ghost use Rattle.std.specs.Prelude.{◌≡◌, ◌++◌, ℕ, Bool, List, Some, None, All, true, length};
 ghost use Rattle.ix_base.specs.Trees.{Tree};
 ghost use Rattle.page_tree.specs.Break.{Fault, w};
+ghost use Rattle.ix_base.specs.Scope.{is_qname};
 ghost use Rattle.ix_base.specs.Sound.{IsSoundTree};
-ghost use Rattle.page_tree.specs.Constructs.{Byte, kind_of, size, finished, settled, continued};
+ghost use Rattle.ix_base.specs.Written.{Attribute, start_text, leaf_text, close_text};
+ghost use Rattle.page_tree.specs.Constructs.{Byte, values, offset_of, kind_of, size, finished, settled, continued};
+ghost use Rattle.page_tree.specs.Forms.{HasForm};
+ghost use Rattle.page_tree.specs.Spellings.{HasName, tag_at, put_first};
+ghost use Rattle.page_tree.specs.Tokens.{start, empty, close};
+ghost use Rattle.page_tree.specs.declared.kind.Kind.TheVariants.{StartTag, EndTag};
 ghost use Rattle.page_tree.specs.Page.{page};
 
 /// A construct that ends stays what it is and ends where it does, whatever follows it.
@@ -37,5 +43,40 @@ pub fn no_tree()
 /// than the page allows, and their offsets rise in document order.
 pub fn sound_tree()
     ensures { (b : List ℕ) (n : ℕ) (t : Tree) → page b n t → IsSoundTree t n }
+{
+}
+
+/// A construct that ends within its bytes is cut from in front of anything: it comes first, and then what the rest gives.
+pub fn cut_in_front()
+    ensures { (ended first : Bool) (us vs : List Byte) → size first (values (us ++ vs)) ≡ Some (length us)
+        → finished ended first (us ++ vs) ≡ put_first (record { kind = kind_of first (values (us ++ vs)); start = offset_of (us ++ vs); text = values us })
+        (finished ended false vs) }
+{
+}
+
+/// A start tag that is written from a name and attributes ends where it was written to end, whatever follows, and means
+/// these.
+pub fn written_start_tag()
+    ensures cut { (first : Bool) (name : List ℕ) (attrs : List Attribute) (rest : List ℕ) → is_qname name ≡ true → All HasName attrs
+        → (kind_of first (start_text name attrs ++ rest) ≡ StartTag) × (size first (start_text name attrs ++ rest) ≡ Some (length (start_text name attrs))) }
+    ensures means { (at : ℕ) (name : List ℕ) (attrs : List Attribute) → is_qname name ≡ true → All HasName attrs
+        → HasForm StartTag at (start_text name attrs) (start (tag_at at name attrs)) }
+{
+}
+
+/// So does a tag of an element without children.
+pub fn written_leaf_tag()
+    ensures cut { (first : Bool) (name : List ℕ) (attrs : List Attribute) (rest : List ℕ) → is_qname name ≡ true → All HasName attrs
+        → (kind_of first (leaf_text name attrs ++ rest) ≡ StartTag) × (size first (leaf_text name attrs ++ rest) ≡ Some (length (leaf_text name attrs))) }
+    ensures means { (at : ℕ) (name : List ℕ) (attrs : List Attribute) → is_qname name ≡ true → All HasName attrs
+        → HasForm StartTag at (leaf_text name attrs) (empty (tag_at at name attrs)) }
+{
+}
+
+/// And so does an end tag.
+pub fn written_end_tag()
+    ensures cut { (first : Bool) (name rest : List ℕ) → is_qname name ≡ true
+        → (kind_of first (close_text name ++ rest) ≡ EndTag) × (size first (close_text name ++ rest) ≡ Some (length (close_text name))) }
+    ensures means { (at : ℕ) (name : List ℕ) → is_qname name ≡ true → HasForm EndTag at (close_text name) (close name) }
 {
 }

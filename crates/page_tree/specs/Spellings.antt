@@ -1,0 +1,22 @@
+-- Tags that are written from markup.
+use Rattle.std.specs.Prelude.{◌≡◌, ℕ, true, List, ◌∷◌, map, Some}
+use Rattle.ix_base.specs.Scope.{is_qname}
+use Rattle.ix_base.specs.Written as written
+use Rattle.page_tree.specs.Constructs.{Construct, Cut}
+use Rattle.page_tree.specs.Tokens.{Attribute, Tag}
+
+-- the attribute has a qualified name
+abbrev pub HasName : written.Attribute → Type 0
+HasName a = is_qname a.name ≡ true
+
+-- an attribute as its tag gives it
+abbrev pub read : written.Attribute → Attribute
+read a = record { name = a.name; value = Some a.value }
+
+-- the tag that is written at an offset
+abbrev pub tag_at : ℕ → List ℕ → List written.Attribute → Tag
+tag_at at name attrs = record { offset = at; name = name; attrs = map read attrs }
+
+-- a construct before others
+abbrev pub put_first : Construct → Cut → Cut
+put_first c cut_ = record { constructs = c ∷ cut_.constructs; rest = cut_.rest }
