@@ -13,8 +13,10 @@ use ix_base::{Context, Item, NoMemory, OwnName, Period, Text, Value};
 use std::alloc::Global;
 
 /// The root's start tag up to the declarations of the prefixes that every instance has.
-const ROOT: &str =
-    "<xbrli:xbrl xmlns:iso4217=\"http://www.xbrl.org/2003/iso4217\" xmlns:link=\"http://www.xbrl.org/2003/linkbase\" xmlns:xbrldi=\"http://xbrl.org/2006/xbrldi\" xmlns:xbrli=\"http://www.xbrl.org/2003/instance\" xmlns:xlink=\"http://www.w3.org/1999/xlink\" xmlns:xsi=\"http://www.w3.org/2001/XMLSchema-instance\"";
+const ROOT: &str = "<xbrli:xbrl xmlns:iso4217=\"http://www.xbrl.org/2003/iso4217\" \
+    xmlns:link=\"http://www.xbrl.org/2003/linkbase\" xmlns:xbrldi=\"http://xbrl.org/2006/xbrldi\" \
+    xmlns:xbrli=\"http://www.xbrl.org/2003/instance\" xmlns:xlink=\"http://www.w3.org/1999/xlink\" \
+    xmlns:xsi=\"http://www.w3.org/2001/XMLSchema-instance\"";
 
 /// The root's start tag, in an instance whose names are in a namespace.
 pub fn root_line(alloc: Global, space: &str) -> Result<Text, NoMemory>

@@ -12,9 +12,13 @@ use std::test::Fail;
 
 const LINES: [&str; 6] = [
     "<?xml version=\"1.0\" encoding=\"UTF-8\"?>\n",
-    "<xbrli:xbrl xmlns:iso4217=\"http://www.xbrl.org/2003/iso4217\" xmlns:link=\"http://www.xbrl.org/2003/linkbase\" xmlns:xbrldi=\"http://xbrl.org/2006/xbrldi\" xmlns:xbrli=\"http://www.xbrl.org/2003/instance\" xmlns:xlink=\"http://www.w3.org/1999/xlink\" xmlns:xsi=\"http://www.w3.org/2001/XMLSchema-instance\" xmlns:n1=\"http://example.com/e\">\n",
+    "<xbrli:xbrl xmlns:iso4217=\"http://www.xbrl.org/2003/iso4217\" \
+    xmlns:link=\"http://www.xbrl.org/2003/linkbase\" xmlns:xbrldi=\"http://xbrl.org/2006/xbrldi\" \
+    xmlns:xbrli=\"http://www.xbrl.org/2003/instance\" xmlns:xlink=\"http://www.w3.org/1999/xlink\" \
+    xmlns:xsi=\"http://www.w3.org/2001/XMLSchema-instance\" xmlns:n1=\"http://example.com/e\">\n",
     "<link:schemaRef xlink:type=\"simple\" xlink:href=\"http://example.com/e.xsd\"/>\n",
-    "<xbrli:context id=\"c1\"><xbrli:entity><xbrli:identifier scheme=\"http://example.com/ids\">42</xbrli:identifier></xbrli:entity><xbrli:period><xbrli:instant>2023-12-31</xbrli:instant></xbrli:period></xbrli:context>\n",
+    "<xbrli:context id=\"c1\"><xbrli:entity><xbrli:identifier scheme=\"http://example.com/ids\">42\
+    </xbrli:identifier></xbrli:entity><xbrli:period><xbrli:instant>2023-12-31</xbrli:instant></xbrli:period></xbrli:context>\n",
     "<n1:Name contextRef=\"c1\">A &amp; B</n1:Name>\n",
     "</xbrli:xbrl>\n",
 ];
@@ -37,7 +41,14 @@ fn context_at(
     identifier: &str,
     end: i64,
 ) -> Result<Context, Fail>
-    ensures { IfOk result (λ c. c ≡ record { id = id.now; scheme = scheme.now; identifier = identifier.now; segment = []; scenario = []; period = Period.Instant end }) }
+    ensures { IfOk result (λ c. c ≡ record {
+      id = id.now;
+      scheme = scheme.now;
+      identifier = identifier.now;
+      segment = [];
+      scenario = [];
+      period = Period.Instant end;
+    }) }
 {
     Ok(Context {
         id: Text::of(alloc, id)?,
@@ -51,7 +62,14 @@ fn context_at(
 
 // An item with a text.
 fn item_in(alloc: Global, ns: &str, local: &str, context: &str, text: &str) -> Result<Item, Fail>
-    ensures { IfOk result (λ i. i ≡ record { name = record { ns = ns.now; local = local.now }; context = context.now; unit = None; accuracy = None; id = None; value = Value.Plain text.now }) }
+    ensures { IfOk result (λ i. i ≡ record {
+      name = record { ns = ns.now; local = local.now };
+      context = context.now;
+      unit = None;
+      accuracy = None;
+      id = None;
+      value = Value.Plain text.now;
+    }) }
 {
     Ok(Item {
         name: OwnName {
@@ -68,7 +86,16 @@ fn item_in(alloc: Global, ns: &str, local: &str, context: &str, text: &str) -> R
 
 // A schema, a context and an item.
 fn content_of(alloc: Global, schema: &str, context: Context, item: Item) -> Result<Content, Fail>
-    ensures { IfOk result (λ c. c ≡ record { schemas = schema.now ∷ []; linkbases = []; roles = []; arcroles = []; contexts = context ∷ []; units = []; facts = Fact.Item item ∷ []; notes = [] }) }
+    ensures { IfOk result (λ c. c ≡ record {
+      schemas = schema.now ∷ [];
+      linkbases = [];
+      roles = [];
+      arcroles = [];
+      contexts = context ∷ [];
+      units = [];
+      facts = Fact.Item item ∷ [];
+      notes = [];
+    }) }
 {
     Ok(Content {
         schemas: one(alloc, Text::of(alloc, schema)?)?,

@@ -169,6 +169,7 @@ impl PageSource for MemPages {
         ensures fails { is_err result ≡ read_fails self.old }
         ensures step { IfOk result (λ n. n ≤ pages_step self.old) }
         ensures held { OnErr result (pages_left self.new ≡ pages_left self.old) }
+        ensures untouched { OnErr result (buf.new ≡ buf.old) }
         ensures calls { pages_calls self.new ≡ called (pages_calls self.old) (is_err result) }
         ensures same_step { pages_step self.new ≡ pages_step self.old }
     {

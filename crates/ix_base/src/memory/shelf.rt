@@ -109,7 +109,8 @@ impl Shelf {
     /// The first target of a name.
     pub fn find(&self, name: &str) -> Option<Slot>
         ensures { MatchOption result (first_named name.now (shelf_targets self.now) ≡ None)
-            (λ slot. (is_within (length self.now.held.items) slot ≡ true) × (first_named name.now (shelf_targets self.now) ≡ Some (target_at self.now.held.items slot))) }
+            (λ slot. (is_within (length self.now.held.items) slot ≡ true)
+            × (first_named name.now (shelf_targets self.now) ≡ Some (target_at self.now.held.items slot))) }
     {
         for slot in &self.earlier {
             if is_named(&self.held, *slot, name) {
