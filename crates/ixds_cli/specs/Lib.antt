@@ -1,0 +1,2 @@
+pub mod TargetPath
+pub mod Written
