@@ -10,7 +10,7 @@ use Rattle.ix_base.specs.Decimals.{AreDigits, number_in}
 use Rattle.ix_base.specs.declared.content.Content.{Content}
 use Rattle.ix_base.specs.declared.content.Period.TheVariants as period
 use Rattle.ixds_run.specs.ReferenceText.{IsText, Says}
-use Rattle.ixds_run.specs.FirstForm.{Parts, IsFirst, First, NotFirst, IsDate, first_content, spelled, dashed, AreSome, IsAddressUnder, IsName, is_letter, is_letter_or_digit, is_name_byte, is_address_byte, to_schema, to_context, to_scheme, to_identifier, to_date, to_text, to_name, to_context_ref, to_value, to_text_behind, to_end}
+use Rattle.ixds_run.specs.FirstForm.{Parts, IsFirst, First, NotFirst, IsDate, first_content, spelled, dashed, AreSome, IsAddressUnder, IsName, is_letter, is_letter_or_digit, is_name_byte, is_address_byte, to_schema, fixed}
 use Rattle.ixds_run.specs.FirstReading.{Front, Middle, Back, front_at, middle_at, back_at, text_at, part_at, is_path, is_address_under, is_name, is_identifier, is_front, is_back, are_parts, parts_of, parts_at, value_of, is_below_128, is_digit, ◌>>=◌}
 use Rattle.ixds_run.proofs.PartLaws.{same_bytes, same_from_eq, text_again, text_ok, part_again, part_ok, chosen, bind_ok, bind_step, some_inj, lacks, none_left, all_pass}
 use Rattle.ixds_run.proofs.DateLaws.{digits_split}
@@ -21,16 +21,16 @@ use Rattle.ixds_run.proofs.TextLaws.{says_again, says_ok, value_below, text_is, 
 -- The bytes of the parts.
 
 abbrev front_text : Front → List ℕ → List ℕ
-front_text f more = to_schema ++ (f.schema ++ (to_context ++ (f.context ++ (to_scheme ++ (f.scheme ++ (to_identifier ++ more))))))
+front_text f more = to_schema ++ (f.schema ++ (fixed.to_context ++ (f.context ++ (fixed.to_scheme ++ (f.scheme ++ (fixed.to_identifier ++ more))))))
 
 abbrev dash : List ℕ
 dash = 45 ∷ []
 
 abbrev middle_text : Middle → List ℕ → List ℕ
-middle_text m more = m.identifier ++ (to_date ++ (m.year ++ (dash ++ (m.month ++ (dash ++ (m.day ++ (to_text ++ more)))))))
+middle_text m more = m.identifier ++ (fixed.to_date ++ (m.year ++ (dash ++ (m.month ++ (dash ++ (m.day ++ (fixed.to_text ++ more)))))))
 
 abbrev back_text : Back → List ℕ
-back_text b = b.before ++ (to_name ++ (b.name ++ (to_context_ref ++ (b.context ++ (to_value ++ (b.value ++ (to_text_behind ++ (b.behind ++ to_end))))))))
+back_text b = b.before ++ (fixed.to_name ++ (b.name ++ (fixed.to_context_ref ++ (b.context ++ (fixed.to_value ++ (b.value ++ (fixed.to_text_behind ++ (b.behind ++ fixed.to_end))))))))
 
 abbrev front_of : Parts → Front
 front_of p = record { schema = p.schema; context = p.context; scheme = p.scheme }
@@ -47,11 +47,11 @@ dashed_more y m d r =
 
 spelled_is : (p : Parts) → spelled p ≡ front_text (front_of p) (middle_text (middle_of p) (back_text (back_of p)))
 spelled_is p =
-    let end : to_end ++ [] ≡ to_end = append-nil to_end in
-    let back : p.before ++ (to_name ++ (p.name ++ (to_context_ref ++ (p.context ++ (to_value ++ (p.value ++ (to_text_behind ++ (p.behind ++ (to_end ++ []))))))))) ≡ back_text (back_of p)
-    = ap (λ t. p.before ++ (to_name ++ (p.name ++ (to_context_ref ++ (p.context ++ (to_value ++ (p.value ++ (to_text_behind ++ (p.behind ++ t))))))))) end in
-    ap (λ t. front_text (front_of p) (p.identifier ++ (to_date ++ (dashed p.year p.month p.day ++ (to_text ++ t))))) back
-    ∙ ap (λ t. front_text (front_of p) (p.identifier ++ (to_date ++ t))) (dashed_more p.year p.month p.day (to_text ++ back_text (back_of p)))
+    let end : fixed.to_end ++ [] ≡ fixed.to_end = append-nil fixed.to_end in
+    let back : p.before ++ (fixed.to_name ++ (p.name ++ (fixed.to_context_ref ++ (p.context ++ (fixed.to_value ++ (p.value ++ (fixed.to_text_behind ++ (p.behind ++ (fixed.to_end ++ []))))))))) ≡ back_text (back_of p)
+    = ap (λ t. p.before ++ (fixed.to_name ++ (p.name ++ (fixed.to_context_ref ++ (p.context ++ (fixed.to_value ++ (p.value ++ (fixed.to_text_behind ++ (p.behind ++ t))))))))) end in
+    ap (λ t. front_text (front_of p) (p.identifier ++ (fixed.to_date ++ (dashed p.year p.month p.day ++ (fixed.to_text ++ t))))) back
+    ∙ ap (λ t. front_text (front_of p) (p.identifier ++ (fixed.to_date ++ t))) (dashed_more p.year p.month p.day (fixed.to_text ++ back_text (back_of p)))
 
 -- What is read is spelled so.
 
@@ -59,48 +59,48 @@ front_ok : (b : List ℕ) (r : Front × List ℕ) → front_at b ≡ Some r → 
 unfolding front_at
 front_ok b r e =
     let rest = bind_ok (text_at to_schema b) _ r e in
-    let schema = bind_ok (part_at 34 to_context rest.0) _ r rest.2 in
-    let context = bind_ok (part_at 34 to_scheme schema.0.1) _ r schema.2 in
-    let scheme = bind_ok (part_at 34 to_identifier context.0.1) _ r context.2 in
+    let schema = bind_ok (part_at 34 fixed.to_context rest.0) _ r rest.2 in
+    let context = bind_ok (part_at 34 fixed.to_scheme schema.0.1) _ r schema.2 in
+    let scheme = bind_ok (part_at 34 fixed.to_identifier context.0.1) _ r context.2 in
     let one = text_ok to_schema b rest.0 rest.1 in
-    let two = part_ok 34 to_context rest.0 schema.0 schema.1 in
-    let three = part_ok 34 to_scheme schema.0.1 context.0 context.1 in
-    let four = part_ok 34 to_identifier context.0.1 scheme.0 scheme.1 in
+    let two = part_ok 34 fixed.to_context rest.0 schema.0 schema.1 in
+    let three = part_ok 34 fixed.to_scheme schema.0.1 context.0 context.1 in
+    let four = part_ok 34 fixed.to_identifier context.0.1 scheme.0 scheme.1 in
     subst (λ (q : Front × List ℕ). b ≡ front_text q.0 q.1) (some_inj scheme.2)
-    (one ∙ ap (λ t. to_schema ++ t) (two ∙ ap (λ t. schema.0.0 ++ (to_context ++ t)) (three ∙ ap (λ t. context.0.0 ++ (to_scheme ++ t)) four)))
+    (one ∙ ap (λ t. to_schema ++ t) (two ∙ ap (λ t. schema.0.0 ++ (fixed.to_context ++ t)) (three ∙ ap (λ t. context.0.0 ++ (fixed.to_scheme ++ t)) four)))
 
 middle_ok : (b : List ℕ) (r : Middle × List ℕ) → middle_at b ≡ Some r → b ≡ middle_text r.0 r.1
 unfolding middle_at
 middle_ok b r e =
-    let identifier = bind_ok (part_at 60 to_date b) _ r e in
+    let identifier = bind_ok (part_at 60 fixed.to_date b) _ r e in
     let year = bind_ok (part_at 45 dash identifier.0.1) _ r identifier.2 in
     let month = bind_ok (part_at 45 dash year.0.1) _ r year.2 in
-    let day = bind_ok (part_at 60 to_text month.0.1) _ r month.2 in
-    let one = part_ok 60 to_date b identifier.0 identifier.1 in
+    let day = bind_ok (part_at 60 fixed.to_text month.0.1) _ r month.2 in
+    let one = part_ok 60 fixed.to_date b identifier.0 identifier.1 in
     let two = part_ok 45 dash identifier.0.1 year.0 year.1 in
     let three = part_ok 45 dash year.0.1 month.0 month.1 in
-    let four = part_ok 60 to_text month.0.1 day.0 day.1 in
+    let four = part_ok 60 fixed.to_text month.0.1 day.0 day.1 in
     subst (λ (q : Middle × List ℕ). b ≡ middle_text q.0 q.1) (some_inj day.2)
-    (one ∙ ap (λ t. identifier.0.0 ++ (to_date ++ t)) (two ∙ ap (λ t. year.0.0 ++ (dash ++ t)) (three ∙ ap (λ t. month.0.0 ++ (dash ++ t)) four)))
+    (one ∙ ap (λ t. identifier.0.0 ++ (fixed.to_date ++ t)) (two ∙ ap (λ t. year.0.0 ++ (dash ++ t)) (three ∙ ap (λ t. month.0.0 ++ (dash ++ t)) four)))
 
 back_ok : (b : List ℕ) (r : Back) → back_at b ≡ Some r → b ≡ back_text r
 unfolding back_at
 back_ok b r e =
-    let before = bind_ok (part_at 60 to_name b) _ r e in
-    let name = bind_ok (part_at 34 to_context_ref before.0.1) _ r before.2 in
-    let context = bind_ok (part_at 34 to_value name.0.1) _ r name.2 in
-    let value = bind_ok (part_at 60 to_text_behind context.0.1) _ r context.2 in
-    let behind = bind_ok (part_at 60 to_end value.0.1) _ r value.2 in
+    let before = bind_ok (part_at 60 fixed.to_name b) _ r e in
+    let name = bind_ok (part_at 34 fixed.to_context_ref before.0.1) _ r before.2 in
+    let context = bind_ok (part_at 34 fixed.to_value name.0.1) _ r name.2 in
+    let value = bind_ok (part_at 60 fixed.to_text_behind context.0.1) _ r context.2 in
+    let behind = bind_ok (part_at 60 fixed.to_end value.0.1) _ r value.2 in
     let is = chosen _ _ r behind.2 in
-    let one = part_ok 60 to_name b before.0 before.1 in
-    let two = part_ok 34 to_context_ref before.0.1 name.0 name.1 in
-    let three = part_ok 34 to_value name.0.1 context.0 context.1 in
-    let four = part_ok 60 to_text_behind context.0.1 value.0 value.1 in
-    let five = part_ok 60 to_end value.0.1 behind.0 behind.1 in
-    let end : to_end ++ behind.0.1 ≡ to_end = ap (λ t. to_end ++ t) (none_left behind.0.1 is.0) ∙ append-nil to_end in
+    let one = part_ok 60 fixed.to_name b before.0 before.1 in
+    let two = part_ok 34 fixed.to_context_ref before.0.1 name.0 name.1 in
+    let three = part_ok 34 fixed.to_value name.0.1 context.0 context.1 in
+    let four = part_ok 60 fixed.to_text_behind context.0.1 value.0 value.1 in
+    let five = part_ok 60 fixed.to_end value.0.1 behind.0 behind.1 in
+    let end : fixed.to_end ++ behind.0.1 ≡ fixed.to_end = ap (λ t. fixed.to_end ++ t) (none_left behind.0.1 is.0) ∙ append-nil fixed.to_end in
     subst (λ (q : Back). b ≡ back_text q) is.1
-    (one ∙ ap (λ t. before.0.0 ++ (to_name ++ t)) (two ∙ ap (λ t. name.0.0 ++ (to_context_ref ++ t)) (three
-    ∙ ap (λ t. context.0.0 ++ (to_value ++ t)) (four ∙ ap (λ t. value.0.0 ++ (to_text_behind ++ t)) (five ∙ ap (λ t. behind.0.0 ++ t) end)))))
+    (one ∙ ap (λ t. before.0.0 ++ (fixed.to_name ++ t)) (two ∙ ap (λ t. name.0.0 ++ (fixed.to_context_ref ++ t)) (three
+    ∙ ap (λ t. context.0.0 ++ (fixed.to_value ++ t)) (four ∙ ap (λ t. value.0.0 ++ (fixed.to_text_behind ++ t)) (five ∙ ap (λ t. behind.0.0 ++ t) end)))))
 
 -- What is spelled so is read.
 
@@ -111,31 +111,31 @@ abbrev front_end : List ℕ × List ℕ → List ℕ × List ℕ → List ℕ ×
 front_end schema context scheme = Some (record { schema = schema.0; context = context.0; scheme = scheme.0 }, scheme.1)
 
 abbrev front_scheme : List ℕ × List ℕ → List ℕ × List ℕ → Option (Front × List ℕ)
-front_scheme schema context = part_at 34 to_identifier context.1 >>= front_end schema context
+front_scheme schema context = part_at 34 fixed.to_identifier context.1 >>= front_end schema context
 
 abbrev front_context : List ℕ × List ℕ → Option (Front × List ℕ)
-front_context schema = part_at 34 to_scheme schema.1 >>= front_scheme schema
+front_context schema = part_at 34 fixed.to_scheme schema.1 >>= front_scheme schema
 
 abbrev front_schema : List ℕ → Option (Front × List ℕ)
-front_schema rest = part_at 34 to_context rest >>= front_context
+front_schema rest = part_at 34 fixed.to_context rest >>= front_context
 
 front_again : (f : Front) (more : List ℕ) → Lacks 34 f.schema → Lacks 34 f.context → Lacks 34 f.scheme → front_at (front_text f more) ≡ Some (f, more)
-unfolding front_at to_context to_scheme to_identifier
+unfolding front_at fixed
 front_again f more h i j =
-    let four_more = to_identifier ++ more in
+    let four_more = fixed.to_identifier ++ more in
     let three_more = f.scheme ++ four_more in
-    let two_more = f.context ++ (to_scheme ++ three_more) in
-    bind_step _ front_schema _ _ (text_again to_schema (f.schema ++ (to_context ++ two_more)))
-    (bind_step _ front_context _ _ (part_again 34 to_context f.schema two_more h _ refl)
-    (bind_step _ (front_scheme (f.schema, two_more)) _ _ (part_again 34 to_scheme f.context three_more i _ refl)
-    (bind_step _ (front_end (f.schema, two_more) (f.context, three_more)) _ _ (part_again 34 to_identifier f.scheme more j _ refl)
+    let two_more = f.context ++ (fixed.to_scheme ++ three_more) in
+    bind_step _ front_schema _ _ (text_again to_schema (f.schema ++ (fixed.to_context ++ two_more)))
+    (bind_step _ front_context _ _ (part_again 34 fixed.to_context f.schema two_more h _ refl)
+    (bind_step _ (front_scheme (f.schema, two_more)) _ _ (part_again 34 fixed.to_scheme f.context three_more i _ refl)
+    (bind_step _ (front_end (f.schema, two_more) (f.context, three_more)) _ _ (part_again 34 fixed.to_identifier f.scheme more j _ refl)
     refl)))
 
 abbrev middle_end : List ℕ × List ℕ → List ℕ × List ℕ → List ℕ × List ℕ → List ℕ × List ℕ → Option (Middle × List ℕ)
 middle_end identifier year month day = Some (record { identifier = identifier.0; year = year.0; month = month.0; day = day.0 }, day.1)
 
 abbrev middle_day : List ℕ × List ℕ → List ℕ × List ℕ → List ℕ × List ℕ → Option (Middle × List ℕ)
-middle_day identifier year month = part_at 60 to_text month.1 >>= middle_end identifier year month
+middle_day identifier year month = part_at 60 fixed.to_text month.1 >>= middle_end identifier year month
 
 abbrev middle_month : List ℕ × List ℕ → List ℕ × List ℕ → Option (Middle × List ℕ)
 middle_month identifier year = part_at 45 dash year.1 >>= middle_day identifier year
@@ -144,15 +144,15 @@ abbrev middle_year : List ℕ × List ℕ → Option (Middle × List ℕ)
 middle_year identifier = part_at 45 dash identifier.1 >>= middle_month identifier
 
 middle_again : (m : Middle) (more : List ℕ) → Lacks 60 m.identifier → Lacks 45 m.year → Lacks 45 m.month → Lacks 60 m.day → middle_at (middle_text m more) ≡ Some (m, more)
-unfolding middle_at to_date to_text
+unfolding middle_at fixed
 middle_again m more h i j k =
-    let three_more = m.day ++ (to_text ++ more) in
+    let three_more = m.day ++ (fixed.to_text ++ more) in
     let two_more = m.month ++ (dash ++ three_more) in
     let one_more = m.year ++ (dash ++ two_more) in
-    bind_step _ middle_year _ _ (part_again 60 to_date m.identifier one_more h _ refl)
+    bind_step _ middle_year _ _ (part_again 60 fixed.to_date m.identifier one_more h _ refl)
     (bind_step _ (middle_month (m.identifier, one_more)) _ _ (part_again 45 dash m.year two_more i _ refl)
     (bind_step _ (middle_day (m.identifier, one_more) (m.year, two_more)) _ _ (part_again 45 dash m.month three_more j _ refl)
-    (bind_step _ (middle_end (m.identifier, one_more) (m.year, two_more) (m.month, three_more)) _ _ (part_again 60 to_text m.day more k _ refl)
+    (bind_step _ (middle_end (m.identifier, one_more) (m.year, two_more) (m.month, three_more)) _ _ (part_again 60 fixed.to_text m.day more k _ refl)
     refl)))
 
 abbrev back_end : List ℕ × List ℕ → List ℕ × List ℕ → List ℕ × List ℕ → List ℕ × List ℕ → List ℕ × List ℕ → Option Back
@@ -160,32 +160,32 @@ back_end before name context value behind =
     cond (length behind.1 == 0) (Some (record { before = before.0; name = name.0; context = context.0; value = value.0; behind = behind.0 })) None
 
 abbrev back_behind : List ℕ × List ℕ → List ℕ × List ℕ → List ℕ × List ℕ → List ℕ × List ℕ → Option Back
-back_behind before name context value = part_at 60 to_end value.1 >>= back_end before name context value
+back_behind before name context value = part_at 60 fixed.to_end value.1 >>= back_end before name context value
 
 abbrev back_value : List ℕ × List ℕ → List ℕ × List ℕ → List ℕ × List ℕ → Option Back
-back_value before name context = part_at 60 to_text_behind context.1 >>= back_behind before name context
+back_value before name context = part_at 60 fixed.to_text_behind context.1 >>= back_behind before name context
 
 abbrev back_context : List ℕ × List ℕ → List ℕ × List ℕ → Option Back
-back_context before name = part_at 34 to_value name.1 >>= back_value before name
+back_context before name = part_at 34 fixed.to_value name.1 >>= back_value before name
 
 abbrev back_name : List ℕ × List ℕ → Option Back
-back_name before = part_at 34 to_context_ref before.1 >>= back_context before
+back_name before = part_at 34 fixed.to_context_ref before.1 >>= back_context before
 
 part_last : (stop : ℕ) (t x : List ℕ) → Lacks stop x → (u : List ℕ) → t ≡ stop ∷ u → part_at stop t (x ++ t) ≡ Some (x, [])
 part_last stop t x h u e = ap (λ r. part_at stop t (x ++ r)) (sym (append-nil t)) ∙ part_again stop t x [] h u e
 
 back_again : (b : Back) → Lacks 60 b.before → Lacks 34 b.name → Lacks 34 b.context → Lacks 60 b.value → Lacks 60 b.behind → back_at (back_text b) ≡ Some b
-unfolding back_at to_name to_context_ref to_value to_text_behind to_end
+unfolding back_at fixed
 back_again b h i j k l =
-    let four_more = b.behind ++ to_end in
-    let three_more = b.value ++ (to_text_behind ++ four_more) in
-    let two_more = b.context ++ (to_value ++ three_more) in
-    let one_more = b.name ++ (to_context_ref ++ two_more) in
-    bind_step _ back_name _ _ (part_again 60 to_name b.before one_more h _ refl)
-    (bind_step _ (back_context (b.before, one_more)) _ _ (part_again 34 to_context_ref b.name two_more i _ refl)
-    (bind_step _ (back_value (b.before, one_more) (b.name, two_more)) _ _ (part_again 34 to_value b.context three_more j _ refl)
-    (bind_step _ (back_behind (b.before, one_more) (b.name, two_more) (b.context, three_more)) _ _ (part_again 60 to_text_behind b.value four_more k _ refl)
-    (bind_step _ (back_end (b.before, one_more) (b.name, two_more) (b.context, three_more) (b.value, four_more)) _ _ (part_last 60 to_end b.behind l _ refl)
+    let four_more = b.behind ++ fixed.to_end in
+    let three_more = b.value ++ (fixed.to_text_behind ++ four_more) in
+    let two_more = b.context ++ (fixed.to_value ++ three_more) in
+    let one_more = b.name ++ (fixed.to_context_ref ++ two_more) in
+    bind_step _ back_name _ _ (part_again 60 fixed.to_name b.before one_more h _ refl)
+    (bind_step _ (back_context (b.before, one_more)) _ _ (part_again 34 fixed.to_context_ref b.name two_more i _ refl)
+    (bind_step _ (back_value (b.before, one_more) (b.name, two_more)) _ _ (part_again 34 fixed.to_value b.context three_more j _ refl)
+    (bind_step _ (back_behind (b.before, one_more) (b.name, two_more) (b.context, three_more)) _ _ (part_again 60 fixed.to_text_behind b.value four_more k _ refl)
+    (bind_step _ (back_end (b.before, one_more) (b.name, two_more) (b.context, three_more) (b.value, four_more)) _ _ (part_last 60 fixed.to_end b.behind l _ refl)
     refl))))
 
 -- The tests of the parts.

@@ -57,3 +57,11 @@ stops_in_time None left bytes h l = tt
 stops_in_time (Some b) left bytes h l = rw h.2 (
     let e : length b ≡ length bytes + length h.0 = ap length h.1 ∙ length-append bytes h.0 in
     omega arith)
+
+-- a page that isn't in the first form was read as one that isn't
+not_first_read : (b v : List ℕ) → IsRead b v → NotFirst b → NotFirst v
+not_first_read b v read none p f = none p (subst (λ t. IsFirst t p) (read.all f.short) f)
+
+pub broken_of_read : (o : Option (List ℕ)) (v : List ℕ) (same : Type 0) → IfSome o (λ b. IsRead b v) → (NotFirst v → same) → IfSome o (λ b. NotFirst b → same)
+broken_of_read None v same read broken = tt
+broken_of_read (Some b) v same read broken = λ none. broken (not_first_read b v read none)

@@ -7,39 +7,36 @@ use Rattle.ix_base.specs.declared.content.Content.{Content}
 use Rattle.instance_out.specs.Writable.{one_fact}
 use Rattle.ixds_run.specs.ReferenceText.{IsText, Says}
 
--- the eleven fixed texts, in their order
+-- the fixed text in front of the first part
 unfoldable pub to_schema : List ℕ
 to_schema = codes "<html xmlns=\"http://www.w3.org/1999/xhtml\" xmlns:ix=\"http://www.xbrl.org/2013/inlineXBRL\" xmlns:ixt=\"http://www.xbrl.org/inlineXBRL/transformation/2020-02-12\" xmlns:link=\"http://www.xbrl.org/2003/linkbase\" xmlns:xlink=\"http://www.w3.org/1999/xlink\" xmlns:xbrli=\"http://www.xbrl.org/2003/instance\" xmlns:xsi=\"http://www.w3.org/2001/XMLSchema-instance\" xmlns:iso4217=\"http://www.xbrl.org/2003/iso4217\" xmlns:e=\"http://example.com/e\"><body><ix:header><ix:references><link:schemaRef xlink:type=\"simple\" xlink:href=\""
 
-unfoldable pub to_context : List ℕ
-to_context = codes "\"/></ix:references><ix:resources><xbrli:context id=\""
+-- the fixed texts behind the parts
+pub record FixedTexts : Type 0 where
+  pub to_context : List ℕ
+  pub to_scheme : List ℕ
+  pub to_identifier : List ℕ
+  pub to_date : List ℕ
+  pub to_text : List ℕ
+  pub to_name : List ℕ
+  pub to_context_ref : List ℕ
+  pub to_value : List ℕ
+  pub to_text_behind : List ℕ
+  pub to_end : List ℕ
 
-unfoldable pub to_scheme : List ℕ
-to_scheme = codes "\"><xbrli:entity><xbrli:identifier scheme=\""
-
-unfoldable pub to_identifier : List ℕ
-to_identifier = codes "\">"
-
-unfoldable pub to_date : List ℕ
-to_date = codes "</xbrli:identifier></xbrli:entity><xbrli:period><xbrli:instant>"
-
-unfoldable pub to_text : List ℕ
-to_text = codes "</xbrli:instant></xbrli:period></xbrli:context></ix:resources></ix:header><p>"
-
-unfoldable pub to_name : List ℕ
-to_name = codes "<ix:nonNumeric name=\"e:"
-
-unfoldable pub to_context_ref : List ℕ
-to_context_ref = codes "\" contextRef=\""
-
-unfoldable pub to_value : List ℕ
-to_value = codes "\">"
-
-unfoldable pub to_text_behind : List ℕ
-to_text_behind = codes "</ix:nonNumeric>"
-
-unfoldable pub to_end : List ℕ
-to_end = codes "</p></body></html>"
+unfoldable pub fixed : FixedTexts
+fixed = record {
+  to_context = codes "\"/></ix:references><ix:resources><xbrli:context id=\"";
+  to_scheme = codes "\"><xbrli:entity><xbrli:identifier scheme=\"";
+  to_identifier = codes "\">";
+  to_date = codes "</xbrli:identifier></xbrli:entity><xbrli:period><xbrli:instant>";
+  to_text = codes "</xbrli:instant></xbrli:period></xbrli:context></ix:resources></ix:header><p>";
+  to_name = codes "<ix:nonNumeric name=\"e:";
+  to_context_ref = codes "\" contextRef=\"";
+  to_value = codes "\">";
+  to_text_behind = codes "</ix:nonNumeric>";
+  to_end = codes "</p></body></html>";
+}
 
 -- the parts between them; the context stands in the page twice
 pub record Parts : Type 0 where
@@ -67,16 +64,16 @@ joined (x ∷ xs) = x ++ joined xs
 abbrev pub spelled : Parts → List ℕ
 spelled p = joined (
     to_schema ∷ p.schema
-    ∷ to_context ∷ p.context
-    ∷ to_scheme ∷ p.scheme
-    ∷ to_identifier ∷ p.identifier
-    ∷ to_date ∷ dashed p.year p.month p.day
-    ∷ to_text ∷ p.before
-    ∷ to_name ∷ p.name
-    ∷ to_context_ref ∷ p.context
-    ∷ to_value ∷ p.value
-    ∷ to_text_behind ∷ p.behind
-    ∷ to_end ∷ [])
+    ∷ fixed.to_context ∷ p.context
+    ∷ fixed.to_scheme ∷ p.scheme
+    ∷ fixed.to_identifier ∷ p.identifier
+    ∷ fixed.to_date ∷ dashed p.year p.month p.day
+    ∷ fixed.to_text ∷ p.before
+    ∷ fixed.to_name ∷ p.name
+    ∷ fixed.to_context_ref ∷ p.context
+    ∷ fixed.to_value ∷ p.value
+    ∷ fixed.to_text_behind ∷ p.behind
+    ∷ fixed.to_end ∷ [])
 
 -- ASCII letters, and with them digits
 abbrev pub is_letter : ℕ → Bool

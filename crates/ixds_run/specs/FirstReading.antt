@@ -2,7 +2,7 @@
 use Rattle.std.specs.Prelude.{◌≡◌, ℕ, zero, suc, ◌+◌, ◌-◌, ◌*◌, Bool, true, false, ◌&&◌, ◌==◌, nat_le, nat_lt, List, [], ◌∷◌, ◌++◌, length, take, drop, Option, Some, None, if◌then◌else◌, bytes_eq, codes, is_some}
 use Rattle.std.specs.List.{list_all, position_or_len}
 use Rattle.ixds_run.specs.ReferenceText.{is_plain, reference}
-use Rattle.ixds_run.specs.FirstForm.{Parts, is_letter, is_letter_or_digit, is_name_byte, is_address_byte, to_schema, to_context, to_scheme, to_identifier, to_date, to_text, to_name, to_context_ref, to_value, to_text_behind, to_end}
+use Rattle.ixds_run.specs.FirstForm.{Parts, is_letter, is_letter_or_digit, is_name_byte, is_address_byte, to_schema, fixed}
 
 infixl 10 ◌>>=◌
 abbrev pub ◌>>=◌ : {A B : Type 0} → Option A → (A → Option B) → Option B
@@ -46,26 +46,26 @@ pub record Back : Type 0 where
 unfoldable pub front_at : List ℕ → Option (Front × List ℕ)
 front_at bytes = do
   rest ← text_at to_schema bytes
-  schema ← part_at 34 to_context rest
-  context ← part_at 34 to_scheme schema.1
-  scheme ← part_at 34 to_identifier context.1
+  schema ← part_at 34 fixed.to_context rest
+  context ← part_at 34 fixed.to_scheme schema.1
+  scheme ← part_at 34 fixed.to_identifier context.1
   Some (record { schema = schema.0; context = context.0; scheme = scheme.0 }, scheme.1)
 
 unfoldable pub middle_at : List ℕ → Option (Middle × List ℕ)
 middle_at bytes = do
-  identifier ← part_at 60 to_date bytes
+  identifier ← part_at 60 fixed.to_date bytes
   year ← part_at 45 (45 ∷ []) identifier.1
   month ← part_at 45 (45 ∷ []) year.1
-  day ← part_at 60 to_text month.1
+  day ← part_at 60 fixed.to_text month.1
   Some (record { identifier = identifier.0; year = year.0; month = month.0; day = day.0 }, day.1)
 
 unfoldable pub back_at : List ℕ → Option Back
 back_at bytes = do
-  before ← part_at 60 to_name bytes
-  name ← part_at 34 to_context_ref before.1
-  context ← part_at 34 to_value name.1
-  value ← part_at 60 to_text_behind context.1
-  behind ← part_at 60 to_end value.1
+  before ← part_at 60 fixed.to_name bytes
+  name ← part_at 34 fixed.to_context_ref before.1
+  context ← part_at 34 fixed.to_value name.1
+  value ← part_at 60 fixed.to_text_behind context.1
+  behind ← part_at 60 fixed.to_end value.1
   if length behind.1 == 0
       then Some (record { before = before.0; name = name.0; context = context.0; value = value.0; behind = behind.0 })
       else None

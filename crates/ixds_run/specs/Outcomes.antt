@@ -2,7 +2,8 @@
 use Rattle.std.specs.Prelude.{◌≡◌, ◌⊎◌, ℕ, ◌+◌, ◌<◌, ◌≤◌, Bool, true, false, List, [], ◌∷◌, ◌++◌, length, take, Option, Some, None, IfSome, option_map, codes}
 use Rattle.ix_base.specs.Outside.{Begun, TextGainsFront}
 use Rattle.ix_base.specs.declared.content.Content.{Content}
-use Rattle.instance_out.specs.Canonical.{canon}
+use Rattle.std.specs.List.{concat}
+use Rattle.instance_out.specs.Canonical.{canon_lines}
 use Rattle.ixds_run.specs.Commands.{dir_of, page_of}
 use Rattle.ixds_run.specs.FirstForm.{First, NotFirst}
 use Rattle.ixds_run.specs.declared.command.Command.{Command}
@@ -41,8 +42,12 @@ pub record Outcome : Type 0 where
 abbrev pub default_target : List ℕ → List ℕ → Begun
 default_target dir bytes = record { dir = dir; name = []; bytes = bytes; finished = true }
 
+-- the one target that is due, with its lines
+abbrev pub target_due : List ℕ → List (List ℕ) → List Begun
+target_due dir lines = default_target dir (concat lines) ∷ []
+
 abbrev pub done_with : Command → Content → Outcome
-done_with c content = record { status = Done; text = summary_line; targets = default_target (dir_of c) (canon content) ∷ [] }
+done_with c content = record { status = Done; text = summary_line; targets = target_due (dir_of c) (canon_lines content) }
 
 abbrev pub broken_by : Command → Outcome
 broken_by c = record { status = Broken; text = not_first_line (page_of c); targets = [] }

@@ -2,6 +2,7 @@
 ghost use Rattle.std.specs.Prelude.{◌≡◌, ◌⊎◌, ◌+◌, ◌^◌, ◌<◌, [], IfSome};
 ghost use Rattle.ix_base.specs.Outside.{TextGainsFront};
 ghost use Rattle.ixds_run.specs.Commands.{HasOnePage, dir_of, page_of};
+ghost use Rattle.ixds_run.specs.FirstForm.{NotFirst};
 ghost use Rattle.ixds_run.specs.Outcomes.{Gives, GivesPart, GivesFront, GainsText, not_first_line};
 
 use crate::Status;
@@ -28,10 +29,13 @@ pub fn answer<S: TargetSink, T: TextSink>(
     ensures read { ¬ (result ≡ Status.ReadFault) }
     ensures memory { result ≡ Status.NoMemory → (sink.new ≡ sink.old) × (out.new ≡ out.old) }
     ensures done { result ≡ Status.Done
-        → Gives Status.Done (S.targets sink.old) (S.targets sink.new) (T.taken out.old) (T.taken out.new) command.now bytes.now }
+        → Gives Status.Done (S.targets sink.old) (S.targets sink.new) (T.taken out.old) (T.taken out.new)
+        command.now bytes.now }
     ensures broken { result ≡ Status.Broken
-        → Gives Status.Broken (S.targets sink.old) (S.targets sink.new) (T.taken out.old) (T.taken out.new) command.now bytes.now }
+        → Gives Status.Broken (S.targets sink.old) (S.targets sink.new) (T.taken out.old) (T.taken out.new)
+        command.now bytes.now }
     ensures untouched { result ≡ Status.Broken → sink.new ≡ sink.old }
+    ensures broken_page { NotFirst bytes.now → sink.new ≡ sink.old }
     ensures quiet { result ≡ Status.Done
         → (S.faults sink.new ≡ S.faults sink.old) × (T.faults out.new ≡ T.faults out.old) }
     ensures quiet_broken { result ≡ Status.Broken → T.faults out.new ≡ T.faults out.old }
@@ -42,7 +46,8 @@ pub fn answer<S: TargetSink, T: TextSink>(
     ensures part { result ≡ Status.WriteFault → S.faults sink.old < S.faults sink.new
         → (out.new ≡ out.old) × GivesPart (S.targets sink.old) (S.targets sink.new) command.now bytes.now }
     ensures all { result ≡ Status.WriteFault → S.faults sink.new ≡ S.faults sink.old
-        → GivesFront (S.targets sink.old) (S.targets sink.new) (T.taken out.old) (T.taken out.new) command.now bytes.now }
+        → GivesFront (S.targets sink.old) (S.targets sink.new) (T.taken out.old) (T.taken out.new)
+        command.now bytes.now }
 {
     match first_form(alloc, bytes) {
         Err(_) => Status::NoMemory,

@@ -1,8 +1,7 @@
 //! Writing what is due.
-ghost use Rattle.std.specs.Prelude.{◌≡◌, ◌⊎◌, ◌+◌, ◌^◌, ◌<◌, ◌∷◌, [], OnOk, OnErr, IfSome};
-ghost use Rattle.std.specs.List.{concat};
+ghost use Rattle.std.specs.Prelude.{◌≡◌, ◌⊎◌, ◌+◌, ◌^◌, ◌<◌, [], OnOk, OnErr, IfSome};
 ghost use Rattle.ix_base.specs.Outside.{TextGainsFront};
-ghost use Rattle.ixds_run.specs.Outcomes.{default_target, GainsAll, GainsPart, GainsText, summary_line};
+ghost use Rattle.ixds_run.specs.Outcomes.{target_due, GainsAll, GainsPart, GainsText, summary_line};
 
 use crate::Status;
 use crate::lines::summary;
@@ -12,8 +11,8 @@ use ix_base::{Failed, TargetSink, TextSink};
 /// Writes the default target.
 fn put_target<S: TargetSink>(prepared: &Prepared, dir: &str, sink: &mut S) -> Result<(), Failed>
     requires { S.faults sink.old + 1 < 2 ^ 64 }
-    ensures ok { OnOk result (GainsAll (default_target dir.now (concat prepared.now) ∷ []) (S.targets sink.old) (S.targets sink.new)) }
-    ensures err { OnErr result (GainsPart (default_target dir.now (concat prepared.now) ∷ []) (S.targets sink.old) (S.targets sink.new)) }
+    ensures ok { OnOk result (GainsAll (target_due dir.now prepared.now) (S.targets sink.old) (S.targets sink.new)) }
+    ensures err { OnErr result (GainsPart (target_due dir.now prepared.now) (S.targets sink.old) (S.targets sink.new)) }
     ensures faults { OnOk result (S.faults sink.new ≡ S.faults sink.old) }
     ensures failed { OnErr result (S.faults sink.old < S.faults sink.new) }
     ensures words { IfSome (S.asked sink.new) (λ w. w ≡ (dir.now, [])) }
@@ -34,7 +33,7 @@ pub fn deliver<S: TargetSink, T: TextSink>(
     requires out { T.faults out.old + 1 < 2 ^ 64 }
     ensures either { (result ≡ Status.Done) ⊎ (result ≡ Status.WriteFault) }
     ensures done { result ≡ Status.Done
-        → GainsAll (default_target dir.now (concat prepared.now) ∷ []) (S.targets sink.old) (S.targets sink.new) }
+        → GainsAll (target_due dir.now prepared.now) (S.targets sink.old) (S.targets sink.new) }
     ensures told { result ≡ Status.Done → GainsText summary_line (T.taken out.old) (T.taken out.new) }
     ensures quiet { result ≡ Status.Done
         → (S.faults sink.new ≡ S.faults sink.old) × (T.faults out.new ≡ T.faults out.old) }
@@ -42,9 +41,10 @@ pub fn deliver<S: TargetSink, T: TextSink>(
     ensures cause { result ≡ Status.WriteFault
         → (S.faults sink.old < S.faults sink.new) ⊎ (T.faults out.old < T.faults out.new) }
     ensures part { result ≡ Status.WriteFault → S.faults sink.old < S.faults sink.new
-        → (out.new ≡ out.old) × GainsPart (default_target dir.now (concat prepared.now) ∷ []) (S.targets sink.old) (S.targets sink.new) }
+        → (out.new ≡ out.old)
+        × GainsPart (target_due dir.now prepared.now) (S.targets sink.old) (S.targets sink.new) }
     ensures all { result ≡ Status.WriteFault → S.faults sink.new ≡ S.faults sink.old
-        → GainsAll (default_target dir.now (concat prepared.now) ∷ []) (S.targets sink.old) (S.targets sink.new)
+        → GainsAll (target_due dir.now prepared.now) (S.targets sink.old) (S.targets sink.new)
         × TextGainsFront summary_line (T.taken out.old) (T.taken out.new) }
 {
     if put_target(prepared, dir, sink).is_err() {

@@ -2,6 +2,7 @@
 ghost use Rattle.std.specs.Prelude.{◌≡◌, ◌⊎◌, ◌+◌, ◌^◌, ◌<◌, [], IfSome};
 ghost use Rattle.ix_base.specs.Outside.{TextGainsFront};
 ghost use Rattle.ixds_run.specs.Commands.{HasOnePage, dir_of, page_of};
+ghost use Rattle.ixds_run.specs.FirstForm.{NotFirst};
 ghost use Rattle.ixds_run.specs.Outcomes.{Gives, GivesPart, GivesFront, GainsText, cannot_read_line, StopsInTime};
 
 use crate::Status;
@@ -12,8 +13,8 @@ use crate::reading::{ReadError, read_page};
 use ix_base::{PageSource, TargetSink, TextSink};
 use std::alloc::Global;
 
-/// Reads the command's page and answers it. The line for a page that can't be read is made first, so that want of memory
-/// hides no read fault.
+/// Reads the command's page and answers it. The line for a page that can't be read is made first, so that want of
+/// memory hides no read fault.
 pub fn extract<P: PageSource, S: TargetSink, T: TextSink>(
     alloc: Global,
     command: &Command,
@@ -29,16 +30,19 @@ pub fn extract<P: PageSource, S: TargetSink, T: TextSink>(
     ensures memory { result ≡ Status.NoMemory → (sink.new ≡ sink.old) × (out.new ≡ out.old) }
     ensures memory_pages { result ≡ Status.NoMemory → P.faults pages.new ≡ P.faults pages.old }
     ensures done { result ≡ Status.Done → IfSome (P.page pages.old (page_of command.now))
-        (Gives Status.Done (S.targets sink.old) (S.targets sink.new) (T.taken out.old) (T.taken out.new) command.now) }
+        (Gives Status.Done (S.targets sink.old) (S.targets sink.new) (T.taken out.old) (T.taken out.new)
+        command.now) }
     ensures broken { result ≡ Status.Broken → IfSome (P.page pages.old (page_of command.now))
-        (Gives Status.Broken (S.targets sink.old) (S.targets sink.new) (T.taken out.old) (T.taken out.new) command.now) }
+        (Gives Status.Broken (S.targets sink.old) (S.targets sink.new) (T.taken out.old) (T.taken out.new)
+        command.now) }
     ensures untouched { result ≡ Status.Broken → sink.new ≡ sink.old }
+    ensures broken_page { IfSome (P.page pages.old (page_of command.now)) (λ b. NotFirst b → sink.new ≡ sink.old) }
     ensures named { (pages.new ≡ pages.old) ⊎ IfSome (P.asked pages.new) (λ n. n ≡ page_of command.now) }
     ensures pages { P.page pages.new ≡ P.page pages.old }
     ensures stops { (result ≡ Status.Done) ⊎ (result ≡ Status.Broken)
         → StopsInTime (P.page pages.old (page_of command.now)) (P.left pages.new) }
-    ensures quiet { result ≡ Status.Done
-        → (P.faults pages.new ≡ P.faults pages.old) × (S.faults sink.new ≡ S.faults sink.old) × (T.faults out.new ≡ T.faults out.old) }
+    ensures quiet { result ≡ Status.Done → (P.faults pages.new ≡ P.faults pages.old)
+        × (S.faults sink.new ≡ S.faults sink.old) × (T.faults out.new ≡ T.faults out.old) }
     ensures quiet_broken { result ≡ Status.Broken
         → (P.faults pages.new ≡ P.faults pages.old) × (T.faults out.new ≡ T.faults out.old) }
     ensures quiet_read { result ≡ Status.ReadFault → T.faults out.new ≡ T.faults out.old }
@@ -49,14 +53,14 @@ pub fn extract<P: PageSource, S: TargetSink, T: TextSink>(
     ensures cause { result ≡ Status.WriteFault
         → (S.faults sink.old < S.faults sink.new) ⊎ (T.faults out.old < T.faults out.new) }
     ensures part { result ≡ Status.WriteFault → S.faults sink.old < S.faults sink.new
-        → (out.new ≡ out.old) ×
-        IfSome (P.page pages.old (page_of command.now)) (GivesPart (S.targets sink.old) (S.targets sink.new) command.now) }
+        → (out.new ≡ out.old) × IfSome (P.page pages.old (page_of command.now))
+        (GivesPart (S.targets sink.old) (S.targets sink.new) command.now) }
     ensures all { result ≡ Status.WriteFault → S.faults sink.new ≡ S.faults sink.old
-        → P.faults pages.new ≡ P.faults pages.old
-        → IfSome (P.page pages.old (page_of command.now))
+        → P.faults pages.new ≡ P.faults pages.old → IfSome (P.page pages.old (page_of command.now))
         (GivesFront (S.targets sink.old) (S.targets sink.new) (T.taken out.old) (T.taken out.new) command.now) }
     ensures line { result ≡ Status.WriteFault → P.faults pages.old < P.faults pages.new
-        → (sink.new ≡ sink.old) × TextGainsFront (cannot_read_line (page_of command.now)) (T.taken out.old) (T.taken out.new) }
+        → (sink.new ≡ sink.old)
+        × TextGainsFront (cannot_read_line (page_of command.now)) (T.taken out.old) (T.taken out.new) }
 {
     let Ok(line) = cannot_read(alloc, command.page()) else {
         return Status::NoMemory;

@@ -121,7 +121,7 @@ fn behind_opening(bytes: &[u8]) -> Option<&[u8]>
     behind(bytes, TO_SCHEMA)
 }
 
-#[tactic(auto, unfolding(crate::specs::FirstReading::front_at, crate::specs::FirstForm::to_context, crate::specs::FirstForm::to_scheme, crate::specs::FirstForm::to_identifier,))]
+#[tactic(auto, unfolding(crate::specs::FirstReading::front_at, crate::specs::FirstForm::fixed))]
 fn front_of(bytes: &[u8]) -> Option<(Front<'_>, &[u8])>
     ensures { option_map (λ f. (front_seen f.0, f.1.now)) result ≡ front_at bytes.now }
 {
@@ -137,7 +137,7 @@ fn front_of(bytes: &[u8]) -> Option<(Front<'_>, &[u8])>
     Some((front, rest))
 }
 
-#[tactic(auto, unfolding(crate::specs::FirstReading::middle_at, crate::specs::FirstForm::to_date, crate::specs::FirstForm::to_text,))]
+#[tactic(auto, unfolding(crate::specs::FirstReading::middle_at, crate::specs::FirstForm::fixed))]
 fn middle_of(bytes: &[u8]) -> Option<(Middle<'_>, &[u8])>
     ensures { option_map (λ m. (middle_seen m.0, m.1.now)) result ≡ middle_at bytes.now }
 {
@@ -154,7 +154,7 @@ fn middle_of(bytes: &[u8]) -> Option<(Middle<'_>, &[u8])>
     Some((middle, rest))
 }
 
-#[tactic(auto, unfolding(crate::specs::FirstReading::back_at, crate::specs::FirstForm::to_name, crate::specs::FirstForm::to_context_ref, crate::specs::FirstForm::to_value, crate::specs::FirstForm::to_text_behind, crate::specs::FirstForm::to_end,))]
+#[tactic(auto, unfolding(crate::specs::FirstReading::back_at, crate::specs::FirstForm::fixed))]
 fn back_of(bytes: &[u8]) -> Option<Back<'_>>
     ensures { option_map back_seen result ≡ back_at bytes.now }
 {

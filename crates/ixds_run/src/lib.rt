@@ -4,7 +4,9 @@
 ghost use Rattle.std.specs.Prelude.{◌≡◌, ◌⊎◌, ◌+◌, ◌^◌, ◌<◌, [], IfSome};
 ghost use Rattle.ix_base.specs.Outside.{TextGainsFront};
 ghost use Rattle.ixds_run.specs.Commands.{command_of, dir_of, page_of};
-ghost use Rattle.ixds_run.specs.Outcomes.{IfTold, Gives, GivesPart, GivesFront, GainsText, usage_line, cannot_read_line, StopsInTime};
+ghost use Rattle.ixds_run.specs.FirstForm.{NotFirst};
+ghost use Rattle.ixds_run.specs.Outcomes.{IfTold, Gives, GivesPart, GivesFront, GainsText, StopsInTime};
+ghost use Rattle.ixds_run.specs.Outcomes.{usage_line, cannot_read_line};
 
 mod answer;
 mod command;
@@ -28,8 +30,7 @@ use std::alloc::Global;
 /// Runs the words of a command line, without the program's name.
 ///
 /// The order of work is fixed: the words, then reading, then the rules, then writing. All memory is taken before the
-/// first call of `sink` or of `out`, and a call of the outside that fails ends the run, but for the line after a read
-/// fault.
+/// first call of `sink` or of `out`. A call of the outside that fails ends the run, but for the line after a read fault.
 pub fn run<P: PageSource, S: TargetSink, T: TextSink>(
     alloc: Global,
     words: &[Text],
@@ -41,10 +42,11 @@ pub fn run<P: PageSource, S: TargetSink, T: TextSink>(
     requires sink { S.faults sink.old + 1 < 2 ^ 64 }
     requires out { T.faults out.old + 1 < 2 ^ 64 }
 
-    // Where the words give a command, the source tells the page's bytes and no count of faults rose: all that is due is
-    // given, with its status, or memory is wanted and both sinks are untouched.
+    // Where the words give a command, the source tells the page's bytes and no count of faults rose, all that is due is
+    // given, with its status; or memory is wanted, and both sinks are untouched.
     ensures complete { IfTold (command_of words.now) (P.page pages.old) (λ c b.
-        P.faults pages.new ≡ P.faults pages.old → S.faults sink.new ≡ S.faults sink.old → T.faults out.new ≡ T.faults out.old
+        P.faults pages.new ≡ P.faults pages.old → S.faults sink.new ≡ S.faults sink.old
+        → T.faults out.new ≡ T.faults out.old
         → Gives result (S.targets sink.old) (S.targets sink.new) (T.taken out.old) (T.taken out.new) c b
         ⊎ ((result ≡ Status.NoMemory) × (sink.new ≡ sink.old) × (out.new ≡ out.old))) }
 
@@ -52,10 +54,12 @@ pub fn run<P: PageSource, S: TargetSink, T: TextSink>(
     ensures done { result ≡ Status.Done → IfTold (command_of words.now) (P.page pages.old)
         (Gives Status.Done (S.targets sink.old) (S.targets sink.new) (T.taken out.old) (T.taken out.new)) }
 
-    // Broken: the page isn't in the first form. `out` took the report.
+    // Broken: the page isn't in the first form, and `out` took the report. For such a page no target is begun, whatever
+    // the status.
     ensures broken { result ≡ Status.Broken → IfTold (command_of words.now) (P.page pages.old)
         (Gives Status.Broken (S.targets sink.old) (S.targets sink.new) (T.taken out.old) (T.taken out.new)) }
     ensures broken_sink { result ≡ Status.Broken → sink.new ≡ sink.old }
+    ensures broken_page { IfTold (command_of words.now) (P.page pages.old) (λ c b. NotFirst b → sink.new ≡ sink.old) }
 
     // Usage: the words give no command, and then no other status comes but for a failed put and want of memory.
     ensures usage { result ≡ Status.Usage
@@ -65,22 +69,24 @@ pub fn run<P: PageSource, S: TargetSink, T: TextSink>(
         → (result ≡ Status.Usage) ⊎ ((result ≡ Status.WriteFault) ⊎ (result ≡ Status.NoMemory)) }
 
     // ReadFault: the count of the pages rose in this call. The line names the page.
-    ensures read_fault { result ≡ Status.ReadFault → (P.faults pages.old < P.faults pages.new) × (sink.new ≡ sink.old)
-        × IfSome (command_of words.now) (λ c. GainsText (cannot_read_line (page_of c)) (T.taken out.old) (T.taken out.new)) }
+    ensures read_fault { result ≡ Status.ReadFault
+        → (P.faults pages.old < P.faults pages.new) × (sink.new ≡ sink.old) × IfSome (command_of words.now)
+        (λ c. GainsText (cannot_read_line (page_of c)) (T.taken out.old) (T.taken out.new)) }
 
-    // WriteFault: the count of the sink or of the text rose in this call. Of what was due a part stands.
+    // WriteFault: the count of the sink or of the text rose in this call. Of what was due a part stands: where the sink's
+    // count rose, a part of the targets; else, all targets and a front of the text, which after a read fault is its line
+    // and without a command the usage line.
     ensures write_fault { result ≡ Status.WriteFault
         → (S.faults sink.old < S.faults sink.new) ⊎ (T.faults out.old < T.faults out.new) }
     ensures write_fault_sink { result ≡ Status.WriteFault → S.faults sink.old < S.faults sink.new
-        → (out.new ≡ out.old) ×
-        IfTold (command_of words.now) (P.page pages.old) (GivesPart (S.targets sink.old) (S.targets sink.new)) }
+        → (out.new ≡ out.old) × IfTold (command_of words.now) (P.page pages.old)
+        (GivesPart (S.targets sink.old) (S.targets sink.new)) }
     ensures write_fault_out { result ≡ Status.WriteFault → S.faults sink.new ≡ S.faults sink.old
-        → P.faults pages.new ≡ P.faults pages.old
-        →
-        IfTold (command_of words.now) (P.page pages.old) (GivesFront (S.targets sink.old) (S.targets sink.new) (T.taken out.old) (T.taken out.new)) }
+        → P.faults pages.new ≡ P.faults pages.old → IfTold (command_of words.now) (P.page pages.old)
+        (GivesFront (S.targets sink.old) (S.targets sink.new) (T.taken out.old) (T.taken out.new)) }
     ensures write_fault_line { result ≡ Status.WriteFault → P.faults pages.old < P.faults pages.new
-        → (sink.new ≡ sink.old)
-        × IfSome (command_of words.now) (λ c. TextGainsFront (cannot_read_line (page_of c)) (T.taken out.old) (T.taken out.new)) }
+        → (sink.new ≡ sink.old) × IfSome (command_of words.now)
+        (λ c. TextGainsFront (cannot_read_line (page_of c)) (T.taken out.old) (T.taken out.new)) }
     ensures write_fault_usage { result ≡ Status.WriteFault → command_of words.now ≡ None
         → (pages.new ≡ pages.old) × (sink.new ≡ sink.old)
         × TextGainsFront usage_line (T.taken out.old) (T.taken out.new) }
@@ -90,7 +96,8 @@ pub fn run<P: PageSource, S: TargetSink, T: TextSink>(
     ensures no_memory_pages { result ≡ Status.NoMemory → P.faults pages.new ≡ P.faults pages.old }
 
     // The page and the target that were asked for are the command's, and reading stops in time.
-    ensures asked_page { IfSome (command_of words.now) (λ c. (pages.new ≡ pages.old) ⊎ IfSome (P.asked pages.new) (λ n. n ≡ page_of c)) }
+    ensures asked_page { IfSome (command_of words.now)
+        (λ c. (pages.new ≡ pages.old) ⊎ IfSome (P.asked pages.new) (λ n. n ≡ page_of c)) }
     ensures asked_target { result ≡ Status.WriteFault → S.faults sink.old < S.faults sink.new
         → IfSome (command_of words.now) (λ c. IfSome (S.asked sink.new) (λ w. w ≡ (dir_of c, []))) }
     ensures same_pages { P.page pages.new ≡ P.page pages.old }
@@ -98,11 +105,12 @@ pub fn run<P: PageSource, S: TargetSink, T: TextSink>(
         → IfSome (command_of words.now) (λ c. StopsInTime (P.page pages.old (page_of c)) (P.left pages.new)) }
 
     // A failed call ends the run: each other status comes with no fault but its own.
-    ensures quiet_done { result ≡ Status.Done
-        → (P.faults pages.new ≡ P.faults pages.old) × (S.faults sink.new ≡ S.faults sink.old) × (T.faults out.new ≡ T.faults out.old) }
+    ensures quiet_done { result ≡ Status.Done → (P.faults pages.new ≡ P.faults pages.old)
+        × (S.faults sink.new ≡ S.faults sink.old) × (T.faults out.new ≡ T.faults out.old) }
     ensures quiet_broken { result ≡ Status.Broken
         → (P.faults pages.new ≡ P.faults pages.old) × (T.faults out.new ≡ T.faults out.old) }
-    ensures quiet_out { (result ≡ Status.Usage) ⊎ (result ≡ Status.ReadFault) → T.faults out.new ≡ T.faults out.old }
+    ensures quiet_out { (result ≡ Status.Usage) ⊎ (result ≡ Status.ReadFault)
+        → T.faults out.new ≡ T.faults out.old }
 {
     match command::command_of(alloc, words) {
         Err(_) => Status::NoMemory,

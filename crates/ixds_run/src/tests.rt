@@ -343,7 +343,10 @@ fn each_call_of_the_sink_fails_in_turn(rt: HostRuntime) -> Result<(), Fail> {
             "call {k}"
         );
         assert!(rt; !end.sink.object.finished(""), "call {k}");
-        assert!(rt; end.sink.calls == k && end.out.calls == 0, "call {k}");
+        assert!(rt;
+            end.pages.calls == 3 && end.sink.calls == k && end.out.calls == 0,
+            "call {k}"
+        );
         if k == 1 {
             assert!(rt; end.sink.object.taken("").is_none());
         } else {
@@ -406,12 +409,13 @@ fn the_call_of_out_fails(rt: HostRuntime) -> Result<(), Fail> {
         assert!(rt; end.status == Status::WriteFault);
         assert!(rt; end.sink.object.taken("") == Some(instance.as_slice()));
         assert!(rt; end.sink.object.finished(""));
-        assert!(rt; end.out.object.taken() == text && end.out.calls == 1);
+        assert!(rt; end.out.object.taken() == text);
+        assert!(rt; end.pages.calls == 3 && end.sink.calls == 8 && end.out.calls == 1);
     }
     let faults = Faults { out: &[1], ..NONE };
     let broken = run_over(alloc, &PLAIN, Vec::new(alloc), 65_536, faults)?;
     assert!(rt; broken.status == Status::WriteFault && broken.out.object.taken().is_empty());
-    assert!(rt; broken.sink.calls == 0 && broken.out.calls == 1);
+    assert!(rt; broken.pages.calls == 2 && broken.sink.calls == 0 && broken.out.calls == 1);
     let usage = run_over(alloc, &[], Vec::new(alloc), 65_536, faults)?;
     assert!(rt; usage.status == Status::WriteFault && usage.out.object.taken().is_empty());
     assert!(rt; usage.pages.calls == 0 && usage.sink.calls == 0 && usage.out.calls == 1);
