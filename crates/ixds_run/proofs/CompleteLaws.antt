@@ -1,5 +1,5 @@
 -- With no fault, a run gives all that is due, or wants memory.
-use Rattle.std.proofs.Common.{◌≡◌, ◌⊎◌, ℕ, ◌+◌, ◌<◌, List, Option, Some, None, IfSome, sym, refl, subst, inl, inr, arith}
+use Rattle.std.proofs.Common.{◌≡◌, ◌⊎◌, ℕ, ◌<◌, List, Option, Some, None, IfSome, refl, subst, inl, inr, arith}
 use Rattle.ix_base.specs.Outside.{Begun}
 use Rattle.ixds_run.specs.Commands.{page_of}
 use Rattle.ixds_run.specs.Outcomes.{IfTold, Gives}

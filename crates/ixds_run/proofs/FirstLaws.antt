@@ -1,5 +1,5 @@
 -- Reading a page in the first form gives its parts, and only such a page gives any.
-use Rattle.std.proofs.Common.{◌≡◌, ◌∙◌, ap, sym, subst, ℕ, zero, suc, ◌+◌, ◌<◌, ◌≤◌, Bool, true, false, not, cond, ◌&&◌, ◌||◌, ◌==◌, nat_lt, nat_le, List, [], ◌∷◌, ◌++◌, length, Option, Some, None, is_some, refl, append_assoc, append-nil, arith, IsTrue, bytes_eq, codes, ℤ}
+use Rattle.std.proofs.Common.{◌≡◌, ◌∙◌, ap, sym, subst, ℕ, zero, suc, ◌≤◌, Bool, true, false, not, cond, ◌&&◌, ◌==◌, nat_lt, nat_le, List, [], ◌∷◌, ◌++◌, length, Option, Some, None, is_some, refl, append_assoc, append-nil, arith, bytes_eq, codes, ℤ}
 use Rattle.std.proofs.lemmas.Bool.{ltb-true, lt-ltb, and_parts, and_from, leb-true, le-leb}
 use Rattle.std.proofs.lemmas.Bool.Decides.{nat_tests}
 use Rattle.std.proofs.lemmas.List.Folds.{list_all-append}
@@ -9,7 +9,7 @@ use Rattle.ix_base.specs.Days.{day_end}
 use Rattle.ix_base.specs.Decimals.{AreDigits, number_in}
 use Rattle.ix_base.specs.declared.content.Content.{Content}
 use Rattle.ix_base.specs.declared.content.Period.TheVariants as period
-use Rattle.ixds_run.specs.ReferenceText.{IsText, Says}
+use Rattle.ixds_run.specs.ReferenceText.{IsText}
 use Rattle.ixds_run.specs.FirstForm.{Parts, IsFirst, First, NotFirst, IsDate, first_content, spelled, dashed, AreSome, IsAddressUnder, IsName, is_letter, is_letter_or_digit, is_name_byte, is_address_byte, to_schema, fixed}
 use Rattle.ixds_run.specs.FirstReading.{Front, Middle, Back, front_at, middle_at, back_at, text_at, part_at, is_path, is_address_under, is_name, is_identifier, is_front, is_back, are_parts, parts_of, parts_at, value_of, is_below_128, is_digit, ◌>>=◌}
 use Rattle.ixds_run.proofs.PartLaws.{same_bytes, same_from_eq, text_again, text_ok, part_again, part_ok, chosen, bind_ok, bind_step, some_inj, lacks, none_left, all_pass}

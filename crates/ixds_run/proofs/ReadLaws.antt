@@ -1,5 +1,5 @@
 -- Reading a page piece by piece.
-use Rattle.std.proofs.Common.{◌≡◌, ◌∙◌, ap, sym, ℕ, List, [], ◌∷◌, ◌++◌, length, take, drop, Option, Some, None, IfSome, option_map, refl, append_assoc, append-nil, subst, ◌+◌, ◌≤◌, arith, length-append, inl, inr}
+use Rattle.std.proofs.Common.{◌≡◌, ◌∙◌, ap, sym, ℕ, List, ◌++◌, length, take, drop, Option, Some, None, IfSome, option_map, append_assoc, append-nil, subst, ◌+◌, ◌≤◌, arith, length-append, inl, inr}
 use Rattle.ix_base.specs.Outside.{Begun}
 use Rattle.ix_base.specs.declared.content.Content.{Content}
 use Rattle.ixds_run.specs.declared.command.Command.{Command}

@@ -1,9 +1,9 @@
 -- What the calls of a sink make of the target begun last.
-use Rattle.std.proofs.Common.{◌≡◌, ◌∙◌, ap, sym, ℕ, List, [], ◌∷◌, ◌++◌, length, take, Option, Some, None, Bool, true, false, option_map, refl, inl, inr}
+use Rattle.std.proofs.Common.{◌≡◌, ◌∙◌, ap, sym, ℕ, List, [], ◌∷◌, ◌++◌, length, take, Option, Some, None, true, false, option_map, refl, inr}
 use Rattle.std.proofs.Math.Seq.{take-length}
 use Rattle.std.proofs.lemmas.List.{append-nil}
 use Rattle.ix_base.specs.Outside.{Begun, begun, last_grown, last_finished, GainsFront}
-use Rattle.ixds_run.specs.Outcomes.{default_target, IsPartOf, GainsAll, GainsPart}
+use Rattle.ixds_run.specs.Outcomes.{default_target, GainsAll, GainsPart}
 
 -- the default target with these bytes, unfinished
 abbrev pub unfinished : List ℕ → List ℕ → Begun

@@ -1,5 +1,5 @@
 -- The content of a page in the first form, made step by step.
-use Rattle.std.specs.Prelude.{◌≡◌, ℕ, List, [], ◌∷◌, None, IsTrue, codes}
+use Rattle.std.specs.Prelude.{ℕ, List, [], ◌∷◌, None, IsTrue, codes}
 use Rattle.std.specs.List.{list_all}
 use Rattle.ix_base.specs.declared.content.Content.{Content}
 use Rattle.ix_base.specs.declared.content.Context.{Context}

@@ -1,5 +1,5 @@
 -- Reading a page in the first form: each part ends at the first byte that it can't hold, where a fixed text stands.
-use Rattle.std.specs.Prelude.{◌≡◌, ℕ, zero, suc, ◌+◌, ◌-◌, ◌*◌, Bool, true, false, ◌&&◌, ◌==◌, nat_le, nat_lt, List, [], ◌∷◌, ◌++◌, length, take, drop, Option, Some, None, if◌then◌else◌, bytes_eq, codes, is_some}
+use Rattle.std.specs.Prelude.{ℕ, zero, suc, ◌+◌, ◌-◌, ◌*◌, Bool, false, ◌&&◌, ◌==◌, nat_le, nat_lt, List, [], ◌∷◌, length, take, drop, Option, Some, None, if◌then◌else◌, bytes_eq, codes, is_some}
 use Rattle.std.specs.List.{list_all, position_or_len}
 use Rattle.ixds_run.specs.ReferenceText.{is_plain, reference}
 use Rattle.ixds_run.specs.FirstForm.{Parts, is_letter, is_letter_or_digit, is_name_byte, is_address_byte, to_schema, fixed}

@@ -1,5 +1,5 @@
 -- What a run gives: a status, a text for `out`, and targets.
-use Rattle.std.specs.Prelude.{◌≡◌, ◌⊎◌, ℕ, ◌+◌, ◌<◌, ◌≤◌, Bool, true, false, List, [], ◌∷◌, ◌++◌, length, take, Option, Some, None, IfSome, option_map, codes}
+use Rattle.std.specs.Prelude.{◌≡◌, ◌⊎◌, ℕ, ◌+◌, ◌≤◌, true, false, List, [], ◌∷◌, ◌++◌, length, take, Option, IfSome, option_map, codes}
 use Rattle.ix_base.specs.Outside.{Begun, TextGainsFront}
 use Rattle.ix_base.specs.declared.content.Content.{Content}
 use Rattle.std.specs.List.{concat}

@@ -1,6 +1,6 @@
 -- A text of characters that stand as themselves and of references to the five characters that XML names
 -- (XML 1.0, sections 2.4 and 4.6).
-use Rattle.std.specs.Prelude.{◌≡◌, ℕ, Bool, true, false, ◌&&◌, ◌||◌, ◌==◌, not, nat_le, List, [], ◌∷◌, ◌++◌, map, if◌then◌else◌, IsTrue, codes}
+use Rattle.std.specs.Prelude.{◌≡◌, ℕ, Bool, true, false, ◌&&◌, ◌||◌, ◌==◌, not, nat_le, List, [], ◌∷◌, map, if◌then◌else◌, IsTrue, codes}
 use Rattle.std.specs.List.{list_all, flat_map}
 
 -- from U+0020 to U+007E, other than `<`, `>`, `&` and `]`

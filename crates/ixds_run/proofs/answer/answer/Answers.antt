@@ -1,6 +1,5 @@
-use Rattle.std.proofs.Common.{◌≡◌, sym, refl, subst, inl, inr, ◌∷◌, [], List, ℕ}
+use Rattle.std.proofs.Common.{◌≡◌, refl, subst, inl, inr, ◌∷◌, []}
 use Rattle.std.specs.List.{concat}
-use Rattle.ix_base.specs.Outside.{Begun}
 use Rattle.instance_out.specs.Canonical.{canon}
 use Rattle.ixds_run.specs.Commands.{dir_of}
 use Rattle.ixds_run.specs.Outcomes.{default_target, done_with, broken_by, GainsPart}

@@ -1,5 +1,5 @@
-use Rattle.std.proofs.Common.{◌≡◌, sym}
-use Rattle.ixds_run.proofs.DateLaws.{date_answer, no_year, no_month, no_day}
+use Rattle.std.proofs.Common.{sym}
+use Rattle.ixds_run.proofs.DateLaws.{date_answer}
 use Rattle.ixds_run.proofs.dates.end_of.Goals as goal
 
 pub returns-clause-value : goal.returns-clause-value

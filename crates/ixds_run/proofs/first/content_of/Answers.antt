@@ -1,4 +1,4 @@
-use Rattle.std.proofs.Common.{◌≡◌, refl}
+use Rattle.std.proofs.Common.{refl}
 use Rattle.ixds_run.proofs.first.content_of.Goals as goal
 
 pub returns : goal.returns

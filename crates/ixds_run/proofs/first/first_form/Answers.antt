@@ -1,4 +1,4 @@
-use Rattle.std.proofs.Common.{◌≡◌, ◌∙◌, ap, sym, ℕ, Vec, Global, option_map, w64, FitsSigned}
+use Rattle.std.proofs.Common.{◌∙◌, ap, sym, ℕ, Vec, Global, option_map, w64, FitsSigned}
 use Rattle.std.proofs.lemmas.Int.{to_z-of_z}
 use Rattle.ixds_run.specs.PartsView.{parts_seen}
 use Rattle.ixds_run.proofs.FirstLaws.{none_at, no_date_at, no_text_at, ascii_parts, ascii_value, first_is}

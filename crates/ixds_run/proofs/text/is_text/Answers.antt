@@ -1,4 +1,4 @@
-use Rattle.std.proofs.Common.{◌≡◌, ◌≤◌, ◌∙◌, sym, arith, length}
+use Rattle.std.proofs.Common.{◌≤◌, ◌∙◌, sym, arith, length}
 use Rattle.std.proofs.lemmas.Grind.{common_steps}
 use Rattle.ixds_run.proofs.TextLaws.{next_is}
 use Rattle.ixds_run.proofs.text.is_text.Goals as goal
