@@ -9,7 +9,13 @@ use Rattle.ixds_run.specs.ReferenceText.{IsText, Says}
 
 -- the fixed text in front of the first part
 unfoldable pub to_schema : List ℕ
-to_schema = codes "<html xmlns=\"http://www.w3.org/1999/xhtml\" xmlns:ix=\"http://www.xbrl.org/2013/inlineXBRL\" xmlns:ixt=\"http://www.xbrl.org/inlineXBRL/transformation/2020-02-12\" xmlns:link=\"http://www.xbrl.org/2003/linkbase\" xmlns:xlink=\"http://www.w3.org/1999/xlink\" xmlns:xbrli=\"http://www.xbrl.org/2003/instance\" xmlns:xsi=\"http://www.w3.org/2001/XMLSchema-instance\" xmlns:iso4217=\"http://www.xbrl.org/2003/iso4217\" xmlns:e=\"http://example.com/e\"><body><ix:header><ix:references><link:schemaRef xlink:type=\"simple\" xlink:href=\""
+to_schema =
+    codes "<html xmlns=\"http://www.w3.org/1999/xhtml\" xmlns:ix=\"http://www.xbrl.org/2013/inlineXBRL\""
+    ++ (codes " xmlns:ixt=\"http://www.xbrl.org/inlineXBRL/transformation/2020-02-12\""
+    ++ (codes " xmlns:link=\"http://www.xbrl.org/2003/linkbase\" xmlns:xlink=\"http://www.w3.org/1999/xlink\""
+    ++ (codes " xmlns:xbrli=\"http://www.xbrl.org/2003/instance\" xmlns:xsi=\"http://www.w3.org/2001/XMLSchema-instance\""
+    ++ (codes " xmlns:iso4217=\"http://www.xbrl.org/2003/iso4217\" xmlns:e=\"http://example.com/e\">"
+    ++ codes "<body><ix:header><ix:references><link:schemaRef xlink:type=\"simple\" xlink:href=\""))))
 
 -- the fixed texts behind the parts
 pub record FixedTexts : Type 0 where

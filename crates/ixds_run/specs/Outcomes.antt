@@ -47,14 +47,19 @@ abbrev pub target_due : List ℕ → List (List ℕ) → List Begun
 target_due dir lines = default_target dir (concat lines) ∷ []
 
 abbrev pub done_with : Command → Content → Outcome
-done_with c content = record { status = Done; text = summary_line; targets = target_due (dir_of c) (canon_lines content) }
+done_with c content = record {
+  status = Done;
+  text = summary_line;
+  targets = target_due (dir_of c) (canon_lines content);
+}
 
 abbrev pub broken_by : Command → Outcome
 broken_by c = record { status = Broken; text = not_first_line (page_of c); targets = [] }
 
 -- what is due where the page has these bytes: its content where it is in the first form, and else the breach
 abbrev pub IsOutcome : Command → List ℕ → Outcome → Type 0
-IsOutcome c bytes due = ((content : Content) × First bytes content × (due ≡ done_with c content)) ⊎ (NotFirst bytes × (due ≡ broken_by c))
+IsOutcome c bytes due =
+    ((content : Content) × First bytes content × (due ≡ done_with c content)) ⊎ (NotFirst bytes × (due ≡ broken_by c))
 
 -- all of these targets were added, and nothing else
 abbrev pub GainsAll : List Begun → Option (List Begun) → Option (List Begun) → Type 0
@@ -65,7 +70,8 @@ GainsAll due old new = new ≡ option_map (λ ts. ts ++ due) old
 abbrev pub IsPartOf : List Begun → List Begun → Type 0
 IsPartOf [] ts = ⊥
 IsPartOf (d ∷ due) [] = Unit {0}
-IsPartOf (d ∷ due) (t ∷ []) = ((t ≡ d) × IsPartOf due []) ⊎ ((n : ℕ) × (t ≡ record d { bytes = take n d.bytes; finished = false }))
+IsPartOf (d ∷ due) (t ∷ []) =
+    ((t ≡ d) × IsPartOf due []) ⊎ ((n : ℕ) × (t ≡ record d { bytes = take n d.bytes; finished = false }))
 IsPartOf (d ∷ due) (t ∷ u ∷ ts) = (t ≡ d) × IsPartOf due (u ∷ ts)
 
 -- a part of these targets was added, and nothing else
@@ -81,18 +87,23 @@ abbrev pub IfTold : Option Command → (List ℕ → Option (List ℕ)) → (Com
 IfTold command page fact = IfSome command (λ c. IfSome (page (page_of c)) (fact c))
 
 -- what is due with this status was given, all of it
-abbrev pub Gives : Status → (targets targets' : Option (List Begun)) → (taken taken' : Option (List ℕ)) → Command → List ℕ → Type 0
+abbrev pub Gives : Status → (targets targets' : Option (List Begun)) → (taken taken' : Option (List ℕ))
+    → Command → List ℕ → Type 0
 Gives status targets targets' taken taken' c bytes =
-    (due : Outcome) × IsOutcome c bytes due × (due.status ≡ status) × GainsAll due.targets targets targets' × GainsText due.text taken taken'
+    (due : Outcome) × IsOutcome c bytes due × (due.status ≡ status)
+    × GainsAll due.targets targets targets' × GainsText due.text taken taken'
 
 -- of the targets that are due a part was given
 abbrev pub GivesPart : (targets targets' : Option (List Begun)) → Command → List ℕ → Type 0
-GivesPart targets targets' c bytes = (due : Outcome) × IsOutcome c bytes due × GainsPart due.targets targets targets'
+GivesPart targets targets' c bytes =
+    (due : Outcome) × IsOutcome c bytes due × GainsPart due.targets targets targets'
 
 -- the targets that are due were given, all of them, and of the text a front
-abbrev pub GivesFront : (targets targets' : Option (List Begun)) → (taken taken' : Option (List ℕ)) → Command → List ℕ → Type 0
+abbrev pub GivesFront : (targets targets' : Option (List Begun)) → (taken taken' : Option (List ℕ))
+    → Command → List ℕ → Type 0
 GivesFront targets targets' taken taken' c bytes =
-    (due : Outcome) × IsOutcome c bytes due × GainsAll due.targets targets targets' × TextGainsFront due.text taken taken'
+    (due : Outcome) × IsOutcome c bytes due
+    × GainsAll due.targets targets targets' × TextGainsFront due.text taken taken'
 
 -- of the page, where the source tells it, at most the limit and one buffer was read
 abbrev pub StopsInTime : Option (List ℕ) → Option (List ℕ) → Type 0

@@ -13,7 +13,13 @@ abbrev pub middle_seen : MiddleSlices → Middle
 middle_seen m = record { identifier = m.identifier.now; year = m.year.now; month = m.month.now; day = m.day.now }
 
 abbrev pub back_seen : BackSlices → Back
-back_seen b = record { before = b.before.now; name = b.name.now; context = b.context.now; value = b.value.now; behind = b.behind.now }
+back_seen b = record {
+  before = b.before.now;
+  name = b.name.now;
+  context = b.context.now;
+  value = b.value.now;
+  behind = b.behind.now;
+}
 
 abbrev pub parts_seen : PartSlices → Parts
 parts_seen p = record {

@@ -31,7 +31,8 @@ may_stand (c, true) = has_reference c
 
 -- these bytes are such a text, and with its references read it says this
 abbrev pub Says : List ℕ → List ℕ → Type 0
-Says raw value = (cs : List (ℕ × Bool)) × IsTrue (list_all may_stand cs) × (raw ≡ flat_map written cs) × (value ≡ map (λ c. c.0) cs)
+Says raw value =
+    (cs : List (ℕ × Bool)) × IsTrue (list_all may_stand cs) × (raw ≡ flat_map written cs) × (value ≡ map (λ c. c.0) cs)
 
 -- these bytes are such a text
 abbrev pub IsText : List ℕ → Type 0

@@ -1,7 +1,8 @@
 //! The words of the command line.
 ghost use Rattle.std.specs.Prelude.{◌≡◌, ◌∷◌, [], ◌≤◌, length, IsTrue, IfOk, IfSome};
 ghost use Rattle.std.specs.List.{list_all};
-ghost use Rattle.ixds_run.specs.Commands.{command_of as command_of_words, is_page_name as is_page_name_of, may_stand_in_name, is_extract as is_extract_of, is_web_address as is_web_address_of, HasOnePage, dir_of, page_of};
+ghost use Rattle.ixds_run.specs.Commands.{may_stand_in_name, HasOnePage, dir_of, page_of};
+ghost use Rattle.ixds_run.specs.Commands as spec;
 ghost use Rattle.ixds_run.specs.declared.command.Command.TheVariants.{Extract};
 
 use ix_base::{List, NoMemory, Text};
@@ -42,7 +43,7 @@ fn all_may_stand(name: &[u8]) -> bool
 }
 
 fn is_page_name(name: &str) -> bool
-    ensures value { result ≡ is_page_name_of name.now }
+    ensures value { result ≡ spec.is_page_name name.now }
     ensures short { IsTrue result → length name.now ≤ 4096 }
 {
     !name.is_empty() && name.len() <= 4096 && all_may_stand(name.as_bytes())
@@ -50,7 +51,7 @@ fn is_page_name(name: &str) -> bool
 
 #[tactic(auto, unfolding(crate::specs::Commands::is_web_address))]
 fn is_web_address(url: &str) -> bool
-    ensures { result ≡ is_web_address_of url.now }
+    ensures { result ≡ spec.is_web_address url.now }
 {
     let url = url.as_bytes();
     url.starts_with(b"http://") || url.starts_with(b"https://")
@@ -58,7 +59,7 @@ fn is_web_address(url: &str) -> bool
 
 /// The command that the words of the command line give, without the program's name, or none where they give none.
 pub fn command_of(alloc: Global, words: &[Text]) -> Result<Option<Command>, NoMemory>
-    ensures value { IfOk result (λ c. c ≡ command_of_words words.now) }
+    ensures value { IfOk result (λ c. c ≡ spec.command_of words.now) }
     ensures page { IfOk result (λ o. IfSome o HasOnePage) }
 {
     let [word, base, url, out, dir, page] = words else {
@@ -81,7 +82,7 @@ pub fn command_of(alloc: Global, words: &[Text]) -> Result<Option<Command>, NoMe
 
 #[tactic(auto, unfolding(crate::specs::Commands::is_extract))]
 fn is_extract(word: &str, base: &str, url: &str, out: &str, dir: &str, page: &str) -> bool
-    ensures value { result ≡ is_extract_of word.now base.now url.now out.now dir.now page.now }
+    ensures value { result ≡ spec.is_extract word.now base.now url.now out.now dir.now page.now }
     ensures short { IsTrue result → length page.now ≤ 4096 }
 {
     word == "extract"

@@ -1,10 +1,14 @@
 //! The first form of a page.
-ghost use Rattle.std.specs.Prelude.{◌≡◌, ◌∷◌, [], ℕ, List as Items, IsTrue, ◌≤◌, ◌==◌, position, length, IfOk, MatchOption, option_map, codes};
+ghost use Rattle.std.specs.Prelude.{◌≡◌, ◌∷◌, [], ◌≤◌, ◌==◌, ℕ, List as Items, IsTrue, IfOk, MatchOption};
+ghost use Rattle.std.specs.Prelude.{position, length, option_map};
 ghost use Rattle.std.specs.List.{list_all};
 ghost use Rattle.ix_base.specs.declared.content.Content.{Content as ContentOf};
 ghost use Rattle.ixds_run.specs.FirstContent.{AreAscii, first_context, first_item, content_at};
-ghost use Rattle.ixds_run.specs.FirstForm.{First, NotFirst, is_letter as is_letter_of, is_letter_or_digit as is_letter_or_digit_of, is_name_byte as is_name_byte_of, is_address_byte as is_address_byte_of, to_schema};
-ghost use Rattle.ixds_run.specs.FirstReading.{count_before, text_at, part_at, front_at, middle_at, back_at, is_address_under as is_address_under_of, is_name as is_name_of, is_identifier as is_identifier_of, is_front as is_front_of, is_back as is_back_of, are_parts as are_parts_of, parts_at, is_below_128};
+ghost use Rattle.ixds_run.specs.FirstForm.{First, NotFirst, to_schema};
+ghost use Rattle.ixds_run.specs.FirstForm as form;
+ghost use Rattle.ixds_run.specs.FirstReading.{count_before, text_at, part_at, front_at, middle_at, back_at, parts_at};
+ghost use Rattle.ixds_run.specs.FirstReading.{is_below_128};
+ghost use Rattle.ixds_run.specs.FirstReading as reading;
 ghost use Rattle.ixds_run.specs.PartsView.{front_seen, middle_seen, back_seen, parts_seen};
 
 use crate::dates::end_of;
@@ -177,37 +181,37 @@ fn back_of(bytes: &[u8]) -> Option<Back<'_>>
 }
 
 fn is_letter(b: u8) -> bool
-    ensures { result ≡ is_letter_of b }
+    ensures { result ≡ form.is_letter b }
 {
     matches!(b, b'A'..=b'Z' | b'a'..=b'z')
 }
 
 fn is_letter_or_digit(b: u8) -> bool
-    ensures { result ≡ is_letter_or_digit_of b }
+    ensures { result ≡ form.is_letter_or_digit b }
 {
     is_letter(b) || matches!(b, b'0'..=b'9')
 }
 
 fn is_name_byte(b: u8) -> bool
-    ensures { result ≡ is_name_byte_of b }
+    ensures { result ≡ form.is_name_byte b }
 {
     is_letter_or_digit(b) || matches!(b, b'-' | b'_' | b'.')
 }
 
 fn is_address_byte(b: u8) -> bool
-    ensures { result ≡ is_address_byte_of b }
+    ensures { result ≡ form.is_address_byte b }
 {
     is_name_byte(b) || b == b'/'
 }
 
 fn all_address_bytes(bytes: &[u8]) -> bool
-    ensures { result ≡ list_all is_address_byte_of bytes.now }
+    ensures { result ≡ list_all form.is_address_byte bytes.now }
 {
     bytes.iter().all(|b| is_address_byte(*b))
 }
 
 fn is_address_under(site: &[u8], bytes: &[u8]) -> bool
-    ensures { result ≡ is_address_under_of site.now bytes.now }
+    ensures { result ≡ reading.is_address_under site.now bytes.now }
 {
     match behind(bytes, site) {
         Some(path) => !path.is_empty() && all_address_bytes(path),
@@ -216,13 +220,13 @@ fn is_address_under(site: &[u8], bytes: &[u8]) -> bool
 }
 
 fn all_name_bytes(bytes: &[u8]) -> bool
-    ensures { result ≡ list_all is_name_byte_of bytes.now }
+    ensures { result ≡ list_all form.is_name_byte bytes.now }
 {
     bytes.iter().all(|b| is_name_byte(*b))
 }
 
 fn is_name(bytes: &[u8]) -> bool
-    ensures { result ≡ is_name_of bytes.now }
+    ensures { result ≡ reading.is_name bytes.now }
 {
     match bytes {
         [head, tail @ ..] => is_letter(*head) && all_name_bytes(tail),
@@ -231,20 +235,20 @@ fn is_name(bytes: &[u8]) -> bool
 }
 
 fn all_letters_or_digits(bytes: &[u8]) -> bool
-    ensures { result ≡ list_all is_letter_or_digit_of bytes.now }
+    ensures { result ≡ list_all form.is_letter_or_digit bytes.now }
 {
     bytes.iter().all(|b| is_letter_or_digit(*b))
 }
 
 fn is_identifier(bytes: &[u8]) -> bool
-    ensures { result ≡ is_identifier_of bytes.now }
+    ensures { result ≡ reading.is_identifier bytes.now }
 {
     !bytes.is_empty() && all_letters_or_digits(bytes)
 }
 
 #[tactic(auto, unfolding(crate::specs::FirstReading::is_front))]
 fn is_front(front: &Front) -> bool
-    ensures { result ≡ is_front_of (front_seen front.now) }
+    ensures { result ≡ reading.is_front (front_seen front.now) }
 {
     is_address_under(SITE, front.schema)
         && is_name(front.context)
@@ -253,14 +257,14 @@ fn is_front(front: &Front) -> bool
 
 #[tactic(auto, unfolding(crate::specs::FirstReading::is_back))]
 fn is_back(context: &[u8], back: &Back) -> bool
-    ensures { result ≡ is_back_of context.now (back_seen back.now) }
+    ensures { result ≡ reading.is_back context.now (back_seen back.now) }
 {
     is_text(back.before) && is_name(back.name) && back.context == context && is_text(back.behind)
 }
 
 #[tactic(auto, unfolding(crate::specs::FirstReading::are_parts))]
 fn are_parts(bytes: &[u8], front: &Front, middle: &Middle, back: &Back) -> bool
-    ensures { result ≡ are_parts_of bytes.now (front_seen front.now) (middle_seen middle.now) (back_seen back.now) }
+    ensures { result ≡ reading.are_parts bytes.now (front_seen front.now) (middle_seen middle.now) (back_seen back.now) }
 {
     bytes.len() <= LONGEST
         && is_front(front)

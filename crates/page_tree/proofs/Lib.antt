@@ -28,3 +28,4 @@ pub mod RisingOffsets
 pub mod SoundPages
 pub mod SpelledTags
 pub mod SpelledCuts
+pub mod SpelledRuns

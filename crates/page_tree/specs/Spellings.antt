@@ -1,5 +1,6 @@
--- Tags that are written from markup.
-use Rattle.std.specs.Prelude.{◌≡◌, ℕ, true, List, ◌∷◌, map, Some}
+-- Tags, texts and references that are written from markup.
+use Rattle.std.specs.Prelude.{◌≡◌, ℕ, ◌==◌, Bool, true, ◌||◌, List, ◌∷◌, map, Some}
+use Rattle.ix_base.specs.NcName.{is_white}
 use Rattle.ix_base.specs.Scope.{is_qname}
 use Rattle.ix_base.specs.Written as written
 use Rattle.page_tree.specs.Constructs.{Construct, Cut}
@@ -20,3 +21,11 @@ tag_at at name attrs = record { offset = at; name = name; attrs = map read attrs
 -- a construct before others
 abbrev pub put_first : Construct → Cut → Cut
 put_first c cut_ = record { constructs = c ∷ cut_.constructs; rest = cut_.rest }
+
+-- `<` and `&`
+abbrev pub is_markup : ℕ → Bool
+is_markup c = c == 60 || c == 38
+
+-- what ends a reference, with it or before it
+abbrev pub ends_reference : ℕ → Bool
+ends_reference c = c == 59 || (is_white c || c == 60 || c == 38)

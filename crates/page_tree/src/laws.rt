@@ -1,15 +1,18 @@
 //! Laws of the page grammar, for the crates that rest on it.
-ghost use Rattle.std.specs.Prelude.{◌≡◌, ◌++◌, ℕ, Bool, List, Some, None, All, true, length};
+ghost use Rattle.std.specs.Prelude.{◌≡◌, ◌++◌, ℕ, Bool, List, Some, None, All, true, false, length, ◌∷◌, []};
+ghost use Rattle.std.specs.Prelude.{codes};
+ghost use Rattle.std.specs.List.{list_any};
 ghost use Rattle.ix_base.specs.Trees.{Tree};
 ghost use Rattle.page_tree.specs.Break.{Fault, w};
 ghost use Rattle.ix_base.specs.Scope.{is_qname};
 ghost use Rattle.ix_base.specs.Sound.{IsSoundTree};
 ghost use Rattle.ix_base.specs.Written.{Attribute, start_text, leaf_text, close_text};
 ghost use Rattle.page_tree.specs.Constructs.{Byte, values, offset_of, kind_of, size, finished, settled, continued};
-ghost use Rattle.page_tree.specs.Forms.{HasForm};
-ghost use Rattle.page_tree.specs.Spellings.{HasName, tag_at, put_first};
-ghost use Rattle.page_tree.specs.Tokens.{start, empty, close};
-ghost use Rattle.page_tree.specs.declared.kind.Kind.TheVariants.{StartTag, EndTag};
+ghost use Rattle.page_tree.specs.Forms.{HasForm, holds};
+ghost use Rattle.page_tree.specs.Spellings.{HasName, tag_at, put_first, is_markup, ends_reference};
+ghost use Rattle.page_tree.specs.Values.{spelled, referred};
+ghost use Rattle.page_tree.specs.Tokens.{start, empty, close, words, refer};
+ghost use Rattle.page_tree.specs.declared.kind.Kind.TheVariants.{StartTag, EndTag, Reference, Text};
 ghost use Rattle.page_tree.specs.Page.{page};
 
 /// A construct that ends stays what it is and ends where it does, whatever follows it.
@@ -78,5 +81,21 @@ pub fn written_end_tag()
     ensures cut { (first : Bool) (name rest : List ℕ) → is_qname name ≡ true
         → (kind_of first (close_text name ++ rest) ≡ EndTag) × (size first (close_text name ++ rest) ≡ Some (length (close_text name))) }
     ensures means { (at : ℕ) (name : List ℕ) → is_qname name ≡ true → HasForm EndTag at (close_text name) (close name) }
+{
+}
+
+/// A text without `<` and `&` goes on to the next of them, and means itself unless it holds `]]>`.
+pub fn written_text()
+    ensures cut { (first : Bool) (c : ℕ) (text : List ℕ) (next : ℕ) (rest : List ℕ) → list_any is_markup (c ∷ text) ≡ false → is_markup next ≡ true
+        → (kind_of first ((c ∷ text) ++ next ∷ rest) ≡ Text) × (size first ((c ∷ text) ++ next ∷ rest) ≡ Some (length (c ∷ text))) }
+    ensures means { (at : ℕ) (text : List ℕ) → holds (codes "]]>") text ≡ false → HasForm Text at text (words text) }
+{
+}
+
+/// A reference ends with its `;`, whatever follows, and means its character.
+pub fn written_reference()
+    ensures cut { (first : Bool) (inner rest : List ℕ) → list_any ends_reference inner ≡ false
+        → (kind_of first ((38 ∷ (inner ++ 59 ∷ [])) ++ rest) ≡ Reference) × (size first ((38 ∷ (inner ++ 59 ∷ [])) ++ rest) ≡ Some (length (38 ∷ (inner ++ 59 ∷ [])))) }
+    ensures means { (at : ℕ) (inner : List ℕ) → HasForm Reference at (38 ∷ (inner ++ 59 ∷ [])) (refer (spelled (referred inner))) }
 {
 }
