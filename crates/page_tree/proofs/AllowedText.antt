@@ -1,5 +1,5 @@
 -- Texts of allowed characters, put together and parted.
-use Rattle.std.proofs.Common.{◌≡◌, ◌≢◌, ℕ, suc, zero, ◌+◌, ◌<◌, ◌≤◌, Bool, true, false, ◌&&◌, ◌⊎◌, inl, inr, List, [], ◌∷◌, ◌++◌, length, take, drop, get_or, refl, sym, ap, ◌∙◌, arith, subst, if◌then◌else◌, length-append, append-nil, nat_lt, encode_utf8}
+use Rattle.std.proofs.Common.{◌≡◌, ℕ, ◌<◌, ◌≤◌, Bool, true, false, ◌&&◌, ◌⊎◌, inl, inr, List, [], ◌∷◌, ◌++◌, length, get_or, refl, sym, ap, ◌∙◌, arith, subst, if◌then◌else◌, length-append, append-nil, nat_lt, encode_utf8}
 use Rattle.std.specs.Char.{IsScalar}
 use Rattle.std.proofs.Math.Dec.{ltb, leb}
 use Rattle.std.proofs.lemmas.Bool.{lt-ltb, le-leb}
@@ -71,22 +71,23 @@ pub allowed-through : (a : List ℕ) (c : ℕ) (b : List ℕ) → c < 128 → ar
 allowed-through a c b l p =
     let z = allowed-before a c b l p in
     allowed-append a (c ∷ []) z.0 (allowed-one c b l z.1) where
-  allowed-one : (c : ℕ) (b : List ℕ) → c < 128 → are_allowed (c ∷ b) ≡ true → are_allowed (c ∷ []) ≡ true
-  allowed-one c b l p =
-      let x = allowed-to (c ∷ b) p in
-      let first : IsAscii (c ∷ []) = IsAscii-cons c [] l IsAscii-nil in
-      let y = all-parts is_allowed (chars (c ∷ [])) (chars b) (ap (list_all is_allowed) (sym (chars-append (c ∷ []) b (IsUtf8-from_ascii (c ∷ []) first))) ∙ x.1) in
-      allowed-from (c ∷ []) (IsUtf8-from_ascii (c ∷ []) first) y.0
+      allowed-one : (c : ℕ) (b : List ℕ) → c < 128 → are_allowed (c ∷ b) ≡ true → are_allowed (c ∷ []) ≡ true
+      allowed-one c b l p =
+          let x = allowed-to (c ∷ b) p in
+          let first : IsAscii (c ∷ []) = IsAscii-cons c [] l IsAscii-nil in
+          let y = all-parts is_allowed (chars (c ∷ [])) (chars b) (ap (list_all is_allowed) (sym (chars-append (c ∷ []) b (IsUtf8-from_ascii (c ∷ []) first))) ∙ x.1) in
+          allowed-from (c ∷ []) (IsUtf8-from_ascii (c ∷ []) first) y.0
 
 -- a character
 allowed-scalar : (c : ℕ) → is_allowed c ≡ true → IsScalar c
 unfolding is_allowed
 allowed-scalar c h = elim (parted c h) as (λ x. IsScalar c) [
-    | inl l ↦ rw (lt-ltb c 55296 l) refl
-    | inr l ↦ by_low (ltb c 55296) (lt-ltb c 1114112 l.1) (le-leb 57344 c l.0)
-  ] where
+  | inl l ↦ rw (lt-ltb c 55296 l) refl
+  | inr l ↦ by_low (ltb c 55296) (lt-ltb c 1114112 l.1) (le-leb 57344 c l.0)
+] where
   parted : (c : ℕ) → is_allowed c ≡ true → (c < 55296) ⊎ ((57344 ≤ c) × (c < 1114112))
   parted c h = grind (arith, nat_tests)
+
   by_low : (b : Bool) → ltb c 1114112 ≡ true → leb 57344 c ≡ true → (if b then true else (leb 57344 c && ltb c 1114112)) ≡ true
   by_low true x y = refl
   by_low false x y = and_both (leb 57344 c) (ltb c 1114112) y x

@@ -1,5 +1,5 @@
 -- What the machine builds, the constructs spell.
-use Rattle.std.proofs.Common.{◌≡◌, ◌≢◌, ℕ, suc, ◌-◌, ◌<◌, inl, inr, Bool, true, false, ◌&&◌, not, List, [], ◌∷◌, ◌++◌, length, map, Option, Some, None, option_and_then, refl, sym, ap, ◌∙◌, arith, append_assoc, append-nil, subst}
+use Rattle.std.proofs.Common.{◌≡◌, ◌≢◌, ℕ, suc, ◌-◌, ◌<◌, inl, inr, Bool, true, false, ◌&&◌, not, List, [], ◌∷◌, ◌++◌, length, Option, Some, None, option_and_then, refl, sym, ap, ◌∙◌, arith, append_assoc, append-nil, subst}
 use Rattle.std.specs.List.{list_all}
 use Rattle.ix_base.specs.NcName.{is_white}
 use Rattle.ix_base.specs.Sound.{IsApart}
@@ -7,10 +7,10 @@ use Rattle.ix_base.specs.Scope.{outermost}
 use Rattle.ix_base.specs.Trees.{Head, Bound, Nodes, none, chars, elem, Tree}
 use Rattle.ix_base.specs.declared.rule.Rule.{Rule}
 use Rattle.page_tree.specs.Tokens.{Tag, Token, start, empty, close, words, refer, section, declaration, doctype, silent}
-use Rattle.page_tree.specs.Tags.{opened, head_of, is_fair}
+use Rattle.page_tree.specs.Tags.{opened, head_of}
 use Rattle.page_tree.specs.Page.{is_within, AreRuns, AreBefore, AreBehind, Joins, IsElement, Spells, SpellsPage}
 use Rattle.page_tree.specs.Break.{broken_or, broken_by, broken_by_tag, matches}
-use Rattle.page_tree.specs.Machine.{Frame, State, begin, outlined, outline_of, is_rooted, append, flush, flushed, scope_in, closed, moved, unless_broken, step, steps, whole, built}
+use Rattle.page_tree.specs.Machine.{Frame, State, begin, outline_of, is_rooted, append, flush, flushed, scope_in, closed, moved, unless_broken, step, steps, whole, built}
 use Rattle.page_tree.proofs.TagLaws.{tag_kept, or_none, not_false, fair-opened, one_name}
 use Rattle.page_tree.proofs.Spelled.{st, scope-outlined, length-outlined, length-flushed, scope-flushed, MayBegin}
 
@@ -224,6 +224,7 @@ module _ (n : ℕ) where
   words-step [] text None d ts cs r e = opens-more d d ts (words cs) r (λ us b. before-white d us b) where
     white : list_all is_white cs ≡ true
     white = not_false (list_all is_white cs) (or_none (not (list_all is_white cs)) _ _ e).0
+
     before-white : (d : Bool) (us : List Token) → AreBefore d us → AreBefore d (words cs ∷ us)
     before-white true us b = (white, b)
     before-white false us b = (white, b)
@@ -297,8 +298,7 @@ module _ (n : ℕ) where
   unfolding broken_by moved
   start-step fs text root d ts t r e =
       let b = begins fs text root d t e in
-      let p = placed fs text root d ts r b.first in
-      (
+      let p = placed fs text root d ts r b.first in (
         p.1,
         tt,
         record {

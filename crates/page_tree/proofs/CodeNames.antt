@@ -1,8 +1,7 @@
 -- How the code splits written names.
-use Rattle.std.proofs.Common.{◌≡◌, ℕ, suc, ◌+◌, ◌<◌, Bool, true, false, ◌||◌, not, if◌then◌else◌, List, [], ◌∷◌, length, Option, Some, None, MatchOption, option_map, refl, sym, ap, ◌∙◌, arith, Bor, ◌⊎◌, inl, inr}
+use Rattle.std.proofs.Common.{◌≡◌, ℕ, ◌+◌, ◌<◌, Bool, true, false, List, [], ◌∷◌, length, Option, Some, None, MatchOption, option_map, refl, arith, Bor, ◌⊎◌, inl, inr}
 use Rattle.std.specs.List.{list_any, position_or_len, before_first, after_first}
-use Rattle.std.proofs.lemmas.Bool.{cases_Bool}
-use Rattle.ix_base.specs.Scope.{is_colon, has_prefix, prefix_of, local_of}
+use Rattle.ix_base.specs.Scope.{is_colon}
 use Rattle.page_tree.specs.Names.{name_parts}
 use Rattle.page_tree.proofs.SpanLaws.{either}
 

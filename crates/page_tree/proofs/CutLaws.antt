@@ -1,13 +1,13 @@
 -- Constructs that end stay as they are, whatever follows.
-use Rattle.std.proofs.Common.{◌≡◌, ◌≢◌, ℕ, suc, zero, ◌+◌, ◌-◌, ◌<◌, ◌≤◌, ◌==◌, Bool, true, false, ◌&&◌, ◌||◌, not, if◌then◌else◌, ◌⊎◌, inl, inr, List, [], ◌∷◌, ◌++◌, length, take, drop, map, Option, Some, None, option_map, is_none, refl, sym, ap, ◌∙◌, arith, subst, append_assoc, append-nil, length-append, length-drop, codes}
+use Rattle.std.proofs.Common.{◌≡◌, ℕ, suc, ◌+◌, ◌<◌, ◌≤◌, ◌==◌, Bool, true, false, ◌&&◌, ◌||◌, if◌then◌else◌, ◌⊎◌, inl, inr, List, [], ◌∷◌, ◌++◌, length, drop, map, Option, Some, None, option_map, is_none, refl, sym, ap, ◌∙◌, arith, subst, append-nil, length-drop, codes}
 use Rattle.std.specs.List.{list_all}
-use Rattle.std.proofs.lemmas.List.{drop-append-le, take-append-drop}
+use Rattle.std.proofs.lemmas.List.{drop-append-le}
 use Rattle.std.proofs.lemmas.Bool.{and_parts}
 use Rattle.ix_base.specs.NcName.{is_white}
 use Rattle.page_tree.specs.Constructs.{starts, after, after_tag, text_size, reference_size, starts_white, kind_of, behind, size_by, size}
 use Rattle.page_tree.specs.declared.kind.Kind.{Kind}
 use Rattle.page_tree.specs.declared.kind.Kind.TheVariants.{Declaration, Instruction, Comment, Cdata, Doctype, Unknown, EndTag, StartTag, Reference, Text}
-use Rattle.page_tree.proofs.SpanLaws.{clash, either, one_number, starts-front, drop-front}
+use Rattle.page_tree.proofs.SpanLaws.{clash, one_number, starts-front}
 
 -- a length that is found stays found
 abbrev pub Stays : Option ℕ → Option ℕ → Type 0
@@ -158,9 +158,11 @@ module _ (first : Bool) (cs more : List ℕ) (k : ℕ) (e : size first cs ≡ So
   same-white = by_start (starts (codes "<?xml") cs) refl where
     same : starts (codes "<?xml") (cs ++ more) ≡ starts (codes "<?xml") cs
     same = same-start (codes "<?xml") (fronts-instruction first)
+
     behind_front : (r : List ℕ) → cs ≡ codes "<?xml" ++ r → starts_white (drop 5 (cs ++ more)) ≡ starts_white (drop 5 cs)
     behind_front [] q = absurd (let z : size first cs ≡ None = ap (size first) (q ∙ append-nil (codes "<?xml")) ∙ declared-unended first in cc)
     behind_front (c ∷ r) q = ap (λ x. starts_white (drop 5 (x ++ more))) q ∙ sym (ap (λ x. starts_white (drop 5 x)) q)
+
     by_start : (b : Bool) → starts (codes "<?xml") cs ≡ b → (starts (codes "<?xml") (cs ++ more) && starts_white (drop 5 (cs ++ more))) ≡ (starts (codes "<?xml") cs && starts_white (drop 5 cs))
     by_start true t = rw (same, t) (behind_front (drop 5 cs) (starts-front (codes "<?xml") cs t))
     by_start false t = rw (same, t) refl
@@ -174,9 +176,17 @@ module _ (first : Bool) (cs more : List ℕ) (k : ℕ) (e : size first cs ≡ So
   pub kind_of-append : kind_of first (cs ++ more) ≡ kind_of first cs
   unfolding kind_of
   kind_of-append =
-      rw (same-declared, same-start (codes "<?") (fronts-two first 63), same-start (codes "<!--") (fronts-comment first), same-start (codes "<![CDATA[") (fronts-cdata first),
-      same-start (codes "<!DOCTYPE") (fronts-doctype first), same-start (codes "<!") (fronts-two first 33), same-start (codes "</") (fronts-two first 47),
-      same-start (codes "<") (fronts-one first 60), same-start (codes "&") (fronts-one first 38)) refl
+      rw (
+        same-declared,
+        same-start (codes "<?") (fronts-two first 63),
+        same-start (codes "<!--") (fronts-comment first),
+        same-start (codes "<![CDATA[") (fronts-cdata first),
+        same-start (codes "<!DOCTYPE") (fronts-doctype first),
+        same-start (codes "<!") (fronts-two first 33),
+        same-start (codes "</") (fronts-two first 47),
+        same-start (codes "<") (fronts-one first 60),
+        same-start (codes "&") (fronts-one first 38),
+      ) refl
 
   pub size-append : size first (cs ++ more) ≡ Some k
   size-append = ap (λ x. size_by x (cs ++ more)) kind_of-append ∙ size_by-append (kind_of first cs) cs more k e
@@ -219,6 +229,7 @@ takes-behind f nothing w n cs k e = long (drop (suc n) cs) refl k e where
   found : (o : Option ℕ) (m : ℕ) → suc n + m ≤ length cs → Within o m → (k : ℕ) → behind (suc n) o ≡ Some k → (0 < k) × (k ≤ length cs)
   found None m l v k q = absurd (cc)
   found (Some j) m l v k q = let s : j + suc n ≡ k = cc in let b = v j refl in (omega arith, omega arith)
+
   long : (r : List ℕ) → drop (suc n) cs ≡ r → (k : ℕ) → behind (suc n) (f r) ≡ Some k → (0 < k) × (k ≤ length cs)
   long [] d k q = absurd (let z : behind (suc n) (f []) ≡ None = ap (behind (suc n)) nothing in cc)
   long (c ∷ r) d k q =

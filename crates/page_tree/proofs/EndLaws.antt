@@ -1,13 +1,12 @@
 -- A construct that is cut begins and ends as its kind says.
-use Rattle.std.proofs.Common.{◌≡◌, ◌≢◌, ℕ, suc, zero, ◌+◌, ◌-◌, ◌<◌, ◌≤◌, ◌==◌, Bool, true, false, ◌&&◌, ◌||◌, not, if◌then◌else◌, ◌⊎◌, inl, inr, List, [], ◌∷◌, ◌++◌, length, take, drop, map, Option, Some, None, option_map, is_none, refl, sym, ap, ◌∙◌, arith, subst, append_assoc, append-nil, length-append, length-drop, codes}
+use Rattle.std.proofs.Common.{◌≡◌, ℕ, suc, ◌+◌, ◌==◌, Bool, true, false, ◌&&◌, ◌||◌, if◌then◌else◌, inl, inr, List, [], ◌∷◌, ◌++◌, length, take, drop, Option, Some, None, option_map, refl, sym, ap, ◌∙◌, arith, subst, append_assoc, length-append, codes}
 use Rattle.std.proofs.lemmas.Bool.Decides.{Decides-eqb}
-use Rattle.std.proofs.lemmas.Bool.{and_parts, cases_Bool}
-use Rattle.ix_base.specs.NcName.{is_white}
-use Rattle.page_tree.specs.Constructs.{starts, after, after_tag, text_size, reference_size, starts_white, kind_of, behind, size_by, size, is_run, settled_or, whole_size}
+use Rattle.std.proofs.lemmas.Bool.{and_parts}
+use Rattle.page_tree.specs.Constructs.{starts, after, after_tag, starts_white, kind_of, behind, size_by, size, is_run, settled_or, whole_size}
 use Rattle.page_tree.specs.Forms.{between}
 use Rattle.page_tree.specs.declared.kind.Kind.{Kind}
 use Rattle.page_tree.specs.declared.kind.Kind.TheVariants.{Declaration, Instruction, Comment, Cdata, Doctype, Unknown, EndTag, StartTag, Reference, Text}
-use Rattle.page_tree.proofs.SpanLaws.{clash, either, one_number, starts-front, take-front, drop-front}
+use Rattle.page_tree.proofs.SpanLaws.{clash, one_number, starts-front, take-front}
 use Rattle.page_tree.proofs.FormLaws.{HasEnds}
 
 -- where the first end is found
@@ -43,6 +42,7 @@ tag-found None (c ∷ cs) k e = by_end (λ o j. tag-found o cs j) (c == 62) refl
   by_quote : ((o : Option ℕ) (j : ℕ) → after_tag o cs ≡ Some j → Found (62 ∷ []) cs j) → (b : Bool) → (j : ℕ) × ((if b then after_tag (Some c) cs else after_tag None cs) ≡ Some j) × (suc j ≡ k) → Found (62 ∷ []) (c ∷ cs) k
   by_quote ih true m = subst (λ x. Found (62 ∷ []) (c ∷ cs) x) m.2 (found-next (62 ∷ []) c cs m.0 (ih (Some c) m.0 m.1))
   by_quote ih false m = subst (λ x. Found (62 ∷ []) (c ∷ cs) x) m.2 (found-next (62 ∷ []) c cs m.0 (ih None m.0 m.1))
+
   by_end : ((o : Option ℕ) (j : ℕ) → after_tag o cs ≡ Some j → Found (62 ∷ []) cs j) → (b : Bool) → (c == 62) ≡ b → (if b then Some 1 else option_map suc (if c == 34 || c == 39 then after_tag (Some c) cs else after_tag None cs)) ≡ Some k → Found (62 ∷ []) (c ∷ cs) k
   by_end ih true t q = record { front = []; rest = cs; splits = ap (λ x. x ∷ cs) (one_number c 62 t); size = let z : 1 ≡ k = cc in omega arith }
   by_end ih false t q = by_quote ih (c == 34 || c == 39) (map-suc _ k q)
@@ -72,30 +72,39 @@ unfolding kind_of
 kind-starts first cs = by1 (starts (codes "<?") cs) refl where
   Goal : Kind → Type 0
   Goal k = starts (front_of k) cs ≡ true
+
   by0 : (b : Bool) → (first && starts (codes "<?xml") cs && starts_white (drop 5 cs)) ≡ b → starts (codes "<?") cs ≡ true → Goal (if b then Declaration else Instruction)
   by0 true t s = (and_parts first (starts (codes "<?xml") cs) (and_parts (first && starts (codes "<?xml") cs) (starts_white (drop 5 cs)) t).0).1
   by0 false t s = s
+
   by9 : (b : Bool) → starts (codes "&") cs ≡ b → Goal (if b then Reference else Text)
   by9 true t = t
   by9 false t = refl
+
   by8 : (b : Bool) → starts (codes "<") cs ≡ b → Goal (if b then StartTag else (if starts (codes "&") cs then Reference else Text))
   by8 true t = t
   by8 false t = by9 (starts (codes "&") cs) refl
+
   by7 : (b : Bool) → starts (codes "</") cs ≡ b → Goal (if b then EndTag else (if starts (codes "<") cs then StartTag else (if starts (codes "&") cs then Reference else Text)))
   by7 true t = t
   by7 false t = by8 (starts (codes "<") cs) refl
+
   by6 : (b : Bool) → starts (codes "<!") cs ≡ b → Goal (if b then Unknown else (if starts (codes "</") cs then EndTag else (if starts (codes "<") cs then StartTag else (if starts (codes "&") cs then Reference else Text))))
   by6 true t = t
   by6 false t = by7 (starts (codes "</") cs) refl
+
   by5 : (b : Bool) → starts (codes "<!DOCTYPE") cs ≡ b → Goal (if b then Doctype else (if starts (codes "<!") cs then Unknown else (if starts (codes "</") cs then EndTag else (if starts (codes "<") cs then StartTag else (if starts (codes "&") cs then Reference else Text)))))
   by5 true t = t
   by5 false t = by6 (starts (codes "<!") cs) refl
+
   by4 : (b : Bool) → starts (codes "<![CDATA[") cs ≡ b → Goal (if b then Cdata else (if starts (codes "<!DOCTYPE") cs then Doctype else (if starts (codes "<!") cs then Unknown else (if starts (codes "</") cs then EndTag else (if starts (codes "<") cs then StartTag else (if starts (codes "&") cs then Reference else Text))))))
   by4 true t = t
   by4 false t = by5 (starts (codes "<!DOCTYPE") cs) refl
+
   by3 : (b : Bool) → starts (codes "<!--") cs ≡ b → Goal (if b then Comment else (if starts (codes "<![CDATA[") cs then Cdata else (if starts (codes "<!DOCTYPE") cs then Doctype else (if starts (codes "<!") cs then Unknown else (if starts (codes "</") cs then EndTag else (if starts (codes "<") cs then StartTag else (if starts (codes "&") cs then Reference else Text)))))))
   by3 true t = t
   by3 false t = by4 (starts (codes "<![CDATA[") cs) refl
+
   by1 : (b : Bool) → starts (codes "<?") cs ≡ b → Goal (if b then (if first && starts (codes "<?xml") cs && starts_white (drop 5 cs) then Declaration else Instruction) else (if starts (codes "<!--") cs then Comment else (if starts (codes "<![CDATA[") cs then Cdata else (if starts (codes "<!DOCTYPE") cs then Doctype else (if starts (codes "<!") cs then Unknown else (if starts (codes "</") cs then EndTag else (if starts (codes "<") cs then StartTag else (if starts (codes "&") cs then Reference else Text))))))))
   by1 true t = by0 (first && starts (codes "<?xml") cs && starts_white (drop 5 cs)) refl t
   by1 false t = by3 (starts (codes "<!--") cs) refl
@@ -158,8 +167,10 @@ module _ (cs : List ℕ) (k : ℕ) where
   instruction-ends s e = by_front m.front m.splits m.piece where
     tail_of : cs ≡ 60 ∷ 63 ∷ drop 2 cs
     tail_of = starts-front (codes "<?") cs s
+
     m : Marked cs k
     m = marked cs k (ap (starts (codes "<")) tail_of) e
+
     by_front : (u : List ℕ) → drop 1 cs ≡ u ++ (63 ∷ 62 ∷ m.rest) → take k cs ≡ 60 ∷ (u ++ codes "?>") → HasEnds Instruction (take k cs)
     by_front [] q p = inr p
     by_front (c ∷ u) q p =
@@ -173,6 +184,7 @@ module _ (cs : List ℕ) (k : ℕ) where
     where
       tail_of : cs ≡ 60 ∷ 63 ∷ 120 ∷ 109 ∷ 108 ∷ drop 5 cs
       tail_of = starts-front (codes "<?xml") cs s
+
       m : Marked cs k
       m = marked cs k (ap (starts (codes "<")) tail_of) e
 
@@ -196,6 +208,7 @@ run-ends first [] piece h = absurd (cc)
 run-ends first (c ∷ cs) piece h = rw (not_less) (by_and (c == 38)) where
   not_less : (c == 60) ≡ false
   not_less = Rattle.page_tree.proofs.TagLaws.not_true (c == 60) h
+
   by_and : (b : Bool) → HasEnds (if b && true then Reference else Text) piece
   by_and true = tt
   by_and false = tt
@@ -205,6 +218,7 @@ whole-ends ended first cs k e = by_size (size first cs) refl e where
   by_run : (b : Bool) → (ended && is_run cs) ≡ b → (if b then Some (length cs) else None) ≡ Some k → HasEnds (kind_of first cs) (take k cs)
   by_run true t q = run-ends first cs (take k cs) (and_parts ended (is_run cs) t).1
   by_run false t q = absurd (cc)
+
   by_size : (o : Option ℕ) → size first cs ≡ o → settled_or o (ended && is_run cs) (length cs) ≡ Some k → HasEnds (kind_of first cs) (take k cs)
   by_size (Some j) s q = let same : j ≡ k = cc in kind-ends cs k (kind_of first cs) (kind-starts first cs) (s ∙ ap Some same)
   by_size None s q = by_run (ended && is_run cs) refl q

@@ -1,18 +1,18 @@
 -- A construct's form, and how it is read: the reading finds what the form says.
-use Rattle.std.proofs.Common.{◌≡◌, ◌≢◌, ℕ, suc, zero, ◌+◌, ◌-◌, ◌<◌, ◌≤◌, ◌==◌, nat_lt, Bool, true, false, ◌&&◌, ◌||◌, not, if◌then◌else◌, ◌⊎◌, inl, inr, List, [], ◌∷◌, ◌++◌, length, take, drop, map, Option, Some, None, option_map, refl, sym, ap, ◌∙◌, arith, subst, append_assoc, append-nil, length-append, bytes_eq, codes}
-use Rattle.std.specs.List.{list_all, list_any}
+use Rattle.std.proofs.Common.{◌≡◌, ◌≢◌, ℕ, ◌-◌, ◌<◌, ◌==◌, nat_lt, Bool, true, false, ◌&&◌, ◌||◌, not, if◌then◌else◌, ◌⊎◌, inl, inr, List, [], ◌∷◌, ◌++◌, length, take, map, Option, Some, None, refl, sym, ap, ◌∙◌, arith, subst, append_assoc, append-nil, length-append, bytes_eq, codes}
+use Rattle.std.specs.List.{list_all}
 use Rattle.std.specs.Char.{to_ascii_lowercase}
-use Rattle.std.proofs.lemmas.Bool.{lt-ltb, ltb-true, and_parts, or_cases, not-true, not-false}
+use Rattle.std.proofs.lemmas.Bool.{lt-ltb, and_parts, or_cases, not-true}
 use Rattle.ix_base.specs.NcName.{is_white, is_ncname}
 use Rattle.ix_base.specs.Scope.{is_qname}
-use Rattle.page_tree.specs.Constructs.{starts, Construct}
-use Rattle.page_tree.specs.Forms.{AreWhite, has, holds, is_quote, has_bracket, between, IsEqual, IsPart, IsStandalone, IsDeclared, IsInstruction, IsInTag, HasForm, Means}
-use Rattle.page_tree.specs.Meanings.{given, ◌>>=◌, before, from, is_dark, behind_white, is_white_text, behind, equalled, inside, slash, tag, start_tag, end_tag, part_at, is_answer, ends_standalone, ends_declaration, declared_behind, declared, instructed, commented, doctyped, meant_by, meant}
-use Rattle.page_tree.specs.Tokens.{Attribute, Tag, Token, start, empty, close, words, refer, section, declaration, doctype, silent}
+use Rattle.page_tree.specs.Constructs.{starts}
+use Rattle.page_tree.specs.Forms.{AreWhite, holds, has_bracket, between, IsPart, IsStandalone, IsDeclared, IsInstruction, IsInTag, HasForm}
+use Rattle.page_tree.specs.Meanings.{given, ◌>>=◌, before, from, is_dark, behind_white, is_white_text, behind, equalled, inside, slash, tag, start_tag, end_tag, part_at, is_answer, ends_standalone, ends_declaration, declared_behind, declared, instructed, commented, doctyped, meant_by}
+use Rattle.page_tree.specs.Tokens.{Tag, Token, start, empty, close, words, refer, section, declaration, doctype, silent}
 use Rattle.page_tree.specs.Values.{referred_by}
 use Rattle.page_tree.specs.declared.kind.Kind.{Kind}
 use Rattle.page_tree.specs.declared.kind.Kind.TheVariants.{Declaration, Instruction, Comment, Cdata, Doctype, Unknown, EndTag, StartTag, Reference, Text}
-use Rattle.page_tree.proofs.SpanLaws.{clash, either, and_both, NoneStops, Stops, before-span, from-span, before-from, before-none, from-stops, none-all, all-none, bind-some, given-some, starts-front, starts-append, drop-front, take-front, bytes-one, bytes-same, bytes-apart}
+use Rattle.page_tree.proofs.SpanLaws.{and_both, NoneStops, Stops, before-span, from-span, before-from, before-none, from-stops, none-all, bind-some, given-some, starts-append, drop-front, take-front}
 use Rattle.page_tree.proofs.NameBytes.{is_name_byte, is_qname_byte, ncname-bytes, ncname-some, qname-bytes, name-not-white}
 use Rattle.page_tree.proofs.TagForms.{white-dark, dark-white, equal-in, equal-out, behind-is, some-same, end_of, tag-in, tag-out, white-some}
 
@@ -72,6 +72,7 @@ standalone-out text h = cases (or_cases (is_white_text text) (ends_standalone (p
   found (Some p) e q =
       let k = and_parts (is_answer p.0) (is_white_text p.1) q in
       inr (p.0, p.1, part-out (codes "standalone") text p e, k.0, k.1)
+
   cases : (is_white_text text ≡ true) ⊎ (ends_standalone (part_at (codes "standalone") text) ≡ true) → IsStandalone text
   cases (inl w) = inl w
   cases (inr q) = found (part_at (codes "standalone") text) refl q
@@ -115,9 +116,11 @@ declared-out inner token e =
     without : (v : List ℕ × List ℕ) → IsPart (codes "version") v.0 v.1 inner → (b : Bool) → ends_declaration v.1 ≡ b → (if b then Some (declaration v.0 None) else None) ≡ Some token → WasDeclared inner token
     without v p false b q = absurd (cc)
     without v p true b q = record { version = v.0; encoding = None; is = sym (some-same (declaration v.0 None) token q); form = (v.1, p, standalone-out v.1 b) }
+
     with_ : (v c : List ℕ × List ℕ) → IsPart (codes "version") v.0 v.1 inner → IsPart (codes "encoding") c.0 c.1 v.1 → (b : Bool) → ends_declaration c.1 ≡ b → (if b then Some (declaration v.0 (Some c.0)) else None) ≡ Some token → WasDeclared inner token
     with_ v c p k false b q = absurd (cc)
     with_ v c p k true b q = record { version = v.0; encoding = Some c.0; is = sym (some-same (declaration v.0 (Some c.0)) token q); form = (v.1, c.1, p, k, standalone-out c.1 b) }
+
     behind_version : (v : List ℕ × List ℕ) → IsPart (codes "version") v.0 v.1 inner → (o : Option (List ℕ × List ℕ)) → part_at (codes "encoding") v.1 ≡ o → declared_behind v.0 v.1 o ≡ Some token → WasDeclared inner token
     behind_version v p None o q = without v p (ends_declaration v.1) refl q
     behind_version v p (Some c) o q = with_ v c p (part-out (codes "encoding") v.1 c o) (ends_declaration c.1) refl q
@@ -139,18 +142,21 @@ instructed-out inner token e = found (is_ncname (before is_white inner) && not (
   ends : (rest : List ℕ) → Stops is_white rest → (rest ≡ []) ⊎ ((c : ℕ) × (more : List ℕ) × (rest ≡ c ∷ more) × (is_white c ≡ true))
   ends [] s = inl refl
   ends (c ∷ rest) s = inr (c, rest, refl, s)
+
   found : (b : Bool) → (is_ncname (before is_white inner) && not (bytes_eq (map to_ascii_lowercase (before is_white inner)) (codes "xml"))) ≡ b → (if b then Some silent else None) ≡ Some token → (token ≡ silent) × IsInstruction inner
   found false b q = absurd (cc)
   found true b q =
-      let k = and_parts (is_ncname (before is_white inner)) (not (bytes_eq (map to_ascii_lowercase (before is_white inner)) (codes "xml"))) b in
-      (sym (some-same silent token q), record {
-        target = before is_white inner;
-        rest = from is_white inner;
-        splits = before-from is_white inner;
-        name = k.0;
-        plain = not-true (bytes_eq (map to_ascii_lowercase (before is_white inner)) (codes "xml")) k.1;
-        apart = ends (from is_white inner) (from-stops is_white inner);
-      })
+      let k = and_parts (is_ncname (before is_white inner)) (not (bytes_eq (map to_ascii_lowercase (before is_white inner)) (codes "xml"))) b in (
+        sym (some-same silent token q),
+        record {
+          target = before is_white inner;
+          rest = from is_white inner;
+          splits = before-from is_white inner;
+          name = k.0;
+          plain = not-true (bytes_eq (map to_ascii_lowercase (before is_white inner)) (codes "xml")) k.1;
+          apart = ends (from is_white inner) (from-stops is_white inner);
+        },
+      )
 
 qname-dark : (t : List ℕ) → is_qname t ≡ true → NoneStops is_white t
 qname-dark t h = none-all is_white is_qname_byte (λ c k. name-not-white c k) t (qname-bytes t h)
@@ -216,18 +222,19 @@ instruction-form at text token (inr h) e =
     let d = instructed-out (inside 2 2 text) token e in
     let i : inside 2 2 text ≡ [] = ap (inside 2 2) h in
     absurd (no-instruction (subst IsInstruction i d.1)) where
-  no-instruction : IsInstruction [] → ⊥
-  no-instruction i = nothing i.target i.rest i.splits i.name
-    where
-      nothing : (t r : List ℕ) → [] ≡ t ++ r → is_ncname t ≡ true → ⊥
-      nothing [] r s n = ncname-some [] n refl
-      nothing (c ∷ t) r s n = cc
+      no-instruction : IsInstruction [] → ⊥
+      no-instruction i = nothing i.target i.rest i.splits i.name
+        where
+          nothing : (t r : List ℕ) → [] ≡ t ++ r → is_ncname t ≡ true → ⊥
+          nothing [] r s n = ncname-some [] n refl
+          nothing (c ∷ t) r s n = cc
 
 comment-form : (at : ℕ) (text : List ℕ) (token : Token) → HasEnds Comment text → meant_by Comment at text ≡ Some token → HasForm Comment at text token
 unfolding meant_by
 comment-form at text token h e = found (holds (codes "--") (inside 4 3 text ++ codes "-")) refl e where
   i : inside 4 3 text ≡ h.0
   i = ap (inside 4 3) h.1 ∙ inside-between (codes "<!--") h.0 (codes "-->")
+
   found : (b : Bool) → holds (codes "--") (inside 4 3 text ++ codes "-") ≡ b → (if b then None else Some silent) ≡ Some token → HasForm Comment at text token
   found true b q = absurd (cc)
   found false b q = subst (HasForm Comment at text) (some-same silent token q) (h.0, h.1, ap (λ x. holds (codes "--") (x ++ codes "-")) (sym i) ∙ b)

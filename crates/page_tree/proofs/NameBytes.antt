@@ -1,14 +1,13 @@
 -- Which bytes a name has.
-use Rattle.std.proofs.Common.{◌≡◌, ◌≢◌, ℕ, suc, ◌+◌, ◌/◌, ◌%◌, ◌<◌, ◌≤◌, ◌==◌, nat_lt, nat_le, Bool, true, false, ◌&&◌, ◌||◌, not, if◌then◌else◌, cond, ◌⊎◌, inl, inr, List, [], ◌∷◌, ◌++◌, length, take, drop, refl, sym, ap, ◌∙◌, arith, subst, bytes_eq}
+use Rattle.std.proofs.Common.{◌≡◌, ◌≢◌, ℕ, suc, ◌+◌, ◌/◌, ◌%◌, ◌≤◌, ◌==◌, nat_lt, nat_le, Bool, true, false, ◌&&◌, ◌||◌, if◌then◌else◌, cond, inl, inr, List, [], ◌∷◌, ◌++◌, take, drop, refl, sym, ap, ◌∙◌, arith, subst}
 use lib.Utf8.{encode, encodes}
 use Rattle.std.specs.List.{list_all, list_any, before_first, after_first, position_or_len}
 use Rattle.std.specs.Str.{chars, is_utf8}
-use Rattle.std.proofs.lemmas.Bool.{le-leb, and_parts, cases_Bool, or_cases}
+use Rattle.std.proofs.lemmas.Bool.{le-leb, and_parts}
 use Rattle.std.proofs.lemmas.Str.{IsUtf8-from_is_utf8, encodes-chars}
-use Rattle.std.proofs.lemmas.List.Sums.{split_at_first}
 use Rattle.ix_base.specs.NcName.{is_white, is_name_start, is_name_char, is_name_of, is_ncname}
 use Rattle.ix_base.specs.Scope.{is_colon, has_prefix, prefix_of, local_of, is_qname}
-use Rattle.page_tree.proofs.SpanLaws.{clash, not_this, and_both, either, same_or}
+use Rattle.page_tree.proofs.SpanLaws.{not_this, and_both, either, same_or}
 
 -- a byte of a name without a colon: of a character from U+0080 on, or a character of a name
 unfoldable pub is_name_byte : ℕ → Bool
@@ -83,14 +82,14 @@ widen (b ∷ t) h =
 split-first : (t : List ℕ) → list_any is_colon t ≡ true → t ≡ before_first is_colon t ++ 58 ∷ after_first is_colon t
 split-first [] h = absurd (cc)
 split-first (c ∷ t) h = elim (same_or c 58) as (λ x. c ∷ t ≡ before_first is_colon (c ∷ t) ++ 58 ∷ after_first is_colon (c ∷ t)) [
-    | inl e ↦ rw e refl
-    | inr n ↦
-        let rest : list_any is_colon t ≡ true = rw n at h in
-        let k = position_or_len is_colon t in
-        let one : 1 + k ≡ suc k = omega arith in
-        let two : 1 + k + 1 ≡ suc (k + 1) = omega arith in
-        rw n (sym (ap (λ m. take m (c ∷ t) ++ 58 ∷ drop (1 + k + 1) (c ∷ t)) one ∙ ap (λ m. (c ∷ take k t) ++ 58 ∷ drop m (c ∷ t)) two ∙ ap (λ x. c ∷ x) (sym (split-first t rest))))
-  ]
+  | inl e ↦ rw e refl
+  | inr n ↦
+      let rest : list_any is_colon t ≡ true = rw n at h in
+      let k = position_or_len is_colon t in
+      let one : 1 + k ≡ suc k = omega arith in
+      let two : 1 + k + 1 ≡ suc (k + 1) = omega arith in
+      rw n (sym (ap (λ m. take m (c ∷ t) ++ 58 ∷ drop (1 + k + 1) (c ∷ t)) one ∙ ap (λ m. (c ∷ take k t) ++ 58 ∷ drop m (c ∷ t)) two ∙ ap (λ x. c ∷ x) (sym (split-first t rest))))
+]
 
 -- a written name with a colon is its prefix, the colon and its local part
 pub qname-splits : (t : List ℕ) → has_prefix t ≡ true → t ≡ prefix_of t ++ 58 ∷ local_of t
@@ -117,13 +116,13 @@ qname-plain t n h = cond-else (has_prefix t) (is_ncname (prefix_of t) && is_ncna
 
 pub qname-bytes : (t : List ℕ) → is_qname t ≡ true → list_all is_qname_byte t ≡ true
 qname-bytes t h = elim (either (has_prefix t)) as (λ x. list_all is_qname_byte t ≡ true) [
-    | inl y ↦
-        let p = qname-parts t y h in
-        subst (λ x. list_all is_qname_byte x ≡ true) (sym (qname-splits t y))
-        (all-append is_qname_byte (prefix_of t) (58 ∷ local_of t) (widen (prefix_of t) (ncname-bytes (prefix_of t) p.0))
-        (and_both (is_qname_byte 58) (list_all is_qname_byte (local_of t)) colon-byte (widen (local_of t) (ncname-bytes (local_of t) p.1))))
-    | inr n ↦ widen t (ncname-bytes t (qname-plain t n h))
-  ]
+  | inl y ↦
+      let p = qname-parts t y h in
+      subst (λ x. list_all is_qname_byte x ≡ true) (sym (qname-splits t y))
+      (all-append is_qname_byte (prefix_of t) (58 ∷ local_of t) (widen (prefix_of t) (ncname-bytes (prefix_of t) p.0))
+      (and_both (is_qname_byte 58) (list_all is_qname_byte (local_of t)) colon-byte (widen (local_of t) (ncname-bytes (local_of t) p.1))))
+  | inr n ↦ widen t (ncname-bytes t (qname-plain t n h))
+]
 
 pub qname-some : (t : List ℕ) → is_qname t ≡ true → t ≢ []
 qname-some t h e =

@@ -1,12 +1,10 @@
 -- A page has a tree exactly where it has no break, and then it has one.
-use Rattle.std.proofs.Common.{◌≡◌, ◌≢◌, ℕ, suc, zero, ◌<◌, Bool, true, false, List, [], ◌∷◌, ◌++◌, length, take, drop, map, Option, Some, None, is_none, refl, sym, ap, ◌∙◌, subst}
+use Rattle.std.proofs.Common.{◌≡◌, ℕ, suc, zero, Bool, true, false, List, [], ◌∷◌, drop, Some, None, is_none, refl, ap, ◌∙◌, subst}
 use Rattle.std.proofs.lemmas.List.{take-map}
 use Rattle.ix_base.specs.Trees.{Tree}
 use Rattle.page_text.specs.Characters.{stop}
 use Rattle.page_tree.specs.Constructs.{Byte, values, whole_size, construct, Construct, Cut, cut_at, cut_from, cut}
-use Rattle.page_tree.specs.Forms.{Means}
-use Rattle.page_tree.specs.Meanings.{meant}
-use Rattle.page_tree.specs.Page.{AllMean, SpellsPage, page}
+use Rattle.page_tree.specs.Page.{AllMean, page}
 use Rattle.page_tree.specs.Break.{Fault, w}
 use Rattle.page_tree.specs.Machine.{built}
 use Rattle.page_tree.specs.Tokens.{Token}
@@ -25,9 +23,9 @@ pub cut-ends : (n : ℕ) (ended first : Bool) (us : List Byte) → AllEnd (cut_f
 unfolding cut_from
 cut-ends zero ended first us = tt
 cut-ends (suc n) ended first us = (elim (whole_size ended first (values us)) as (λ o. whole_size ended first (values us) ≡ o → AllEnd (cut_at o first us (cut_from n ended false)).constructs) [
-    | None ↦ λ e. tt
-    | Some k ↦ λ e. (subst (HasEnds (Rattle.page_tree.specs.Constructs.kind_of first (values us))) (take-map (λ u. u.value) k us) (whole-ends ended first (values us) k e), cut-ends n ended false (drop k us))
-  ]) refl
+  | None ↦ λ e. tt
+  | Some k ↦ λ e. (subst (HasEnds (Rattle.page_tree.specs.Constructs.kind_of first (values us))) (take-map (λ u. u.value) k us) (whole-ends ended first (values us) k e), cut-ends n ended false (drop k us))
+]) refl
 
 pub read-mean : (cs : List Construct) (ts : List Token) → AllEnd cs → AllMeant cs ts → AllMean cs ts
 read-mean [] [] h a = tt
@@ -44,24 +42,26 @@ mean-read (c ∷ cs) (t ∷ ts) a = (form-meant c.kind c.start c.text t a.0, mea
 -- the tree of a page without a break
 pub found : (b : List ℕ) (n : ℕ) → w b n ≡ None → (t : Tree) × page b n t
 found b n e =
-    let c = clean b n e in
-    (c.tree, record {
-      good = c.good;
-      whole = c.whole;
-      tokens = c.tokens;
-      mean = read-mean (cut b).constructs c.tokens (cut-ends _ (is_none (stop b)) true _) c.meant;
-      spell = page_of_built n c.tokens c.tree c.built;
-    })
+    let c = clean b n e in (
+      c.tree,
+      record {
+        good = c.good;
+        whole = c.whole;
+        tokens = c.tokens;
+        mean = read-mean (cut b).constructs c.tokens (cut-ends _ (is_none (stop b)) true _) c.meant;
+        spell = page_of_built n c.tokens c.tree c.built;
+      },
+    )
 
 clean-page : (b : List ℕ) (n : ℕ) (t : Tree) → page b n t → Clean b n
 clean-page b n t p = record {
-    good = p.good;
-    whole = p.whole;
-    tokens = p.tokens;
-    meant = mean-read (cut b).constructs p.tokens p.mean;
-    tree = t;
-    built = page_built n p.tokens t p.spell;
-  }
+  good = p.good;
+  whole = p.whole;
+  tokens = p.tokens;
+  meant = mean-read (cut b).constructs p.tokens p.mean;
+  tree = t;
+  built = page_built n p.tokens t p.spell;
+}
 
 -- a page that has a tree has no break
 pub unbroken : (b : List ℕ) (n : ℕ) (t : Tree) → page b n t → w b n ≡ None

@@ -1,12 +1,12 @@
 -- The characters of a page are allowed ones, and stand one behind the other.
-use Rattle.std.proofs.Common.{◌≡◌, ◌≢◌, ◌⊎◌, inl, inr, ℕ, suc, zero, ◌+◌, ◌<◌, ◌≤◌, ◌==◌, Bool, true, false, ◌&&◌, ◌||◌, not, cond, nat_lt, if◌then◌else◌, List, [], ◌∷◌, ◌++◌, length, map, drop, Option, Some, None, refl, sym, ap, ◌∙◌, subst, arith, encode_utf8, slice_index}
+use Rattle.std.proofs.Common.{◌≡◌, ℕ, suc, zero, ◌+◌, ◌<◌, ◌≤◌, ◌==◌, Bool, true, false, ◌&&◌, cond, nat_lt, if◌then◌else◌, List, [], ◌∷◌, ◌++◌, length, drop, Option, Some, None, refl, sym, ap, ◌∙◌, subst, arith, encode_utf8, slice_index}
 use Rattle.std.specs.Char.{len_utf8}
 use Rattle.std.proofs.lemmas.Bool.Decides.{nat_tests}
 use Rattle.std.proofs.lemmas.List.{map-append}
 use Rattle.std.proofs.lemmas.Str.{length-encode}
 use Rattle.bstr.specs.Utf8.{Decoded, decoded, decoded_by, bad, good, second, continues, code_of_2, code_of_3, code_of_4}
 use Rattle.ix_base.specs.NcName.{is_allowed, are_allowed}
-use Rattle.page_text.specs.Characters.{mark, Scan, scan_on, scan_from, scan, shown, unified, chars}
+use Rattle.page_text.specs.Characters.{mark, Scan, scan_on, scan_from, scan, unified, chars}
 use Rattle.page_text.specs.Fronts.{front, front_on, is_part}
 use Rattle.page_text.specs.declared.Mark.{Mark}
 use Rattle.page_tree.specs.Constructs.{Byte, counted, spread, values, text_of}
@@ -87,14 +87,17 @@ scan-good (suc n) w at [] = tt
 scan-good (suc n) w at (b ∷ bs) = by_char (scan_from n w (at + (decoded (b ∷ bs)).size) (drop (decoded (b ∷ bs)).size (b ∷ bs))) (scan-good n w (at + (decoded (b ∷ bs)).size) (drop (decoded (b ∷ bs)).size (b ∷ bs))) (decoded (b ∷ bs)).char refl where
   fits : Fits (decoded (b ∷ bs))
   fits = decoded-fits (length (b ∷ bs)) (slice_index (b ∷ bs) 0) (slice_index (b ∷ bs) 1) (slice_index (b ∷ bs) 2) (slice_index (b ∷ bs) 3)
+
   by_part : (rest : Scan) (v p : Bool) → is_part (b ∷ bs) ≡ p → GoodMarks at (scan_on v at (b ∷ bs) (front_on None (b ∷ bs)) rest).marks
   by_part rest true true e = rw e tt
   by_part rest false true e = rw e tt
   by_part rest v false e = rw e tt
+
   by_allowed : (rest : Scan) → GoodMarks (at + (decoded (b ∷ bs)).size) rest.marks → (c : ℕ) → (decoded (b ∷ bs)).char ≡ Some c → (t : Bool) → Rattle.page_text.specs.Fronts.is_allowed c ≡ t
       → GoodMarks at (scan_on w at (b ∷ bs) (front_on (Some c) (b ∷ bs)) rest).marks
   by_allowed rest g c e true h = rw h (same-allowed c h, omega arith, lower-marks (at + len_utf8 c) (at + (decoded (b ∷ bs)).size) rest.marks (let z = fits c e in omega arith) g)
   by_allowed rest g c e false h = rw h tt
+
   by_char : (rest : Scan) → GoodMarks (at + (decoded (b ∷ bs)).size) rest.marks → (o : Option ℕ) → (decoded (b ∷ bs)).char ≡ o → GoodMarks at (scan_on w at (b ∷ bs) (front_on o (b ∷ bs)) rest).marks
   by_char rest g None e = by_part rest w (is_part (b ∷ bs)) refl
   by_char rest g (Some c) e = by_allowed rest g c e (Rattle.page_text.specs.Fronts.is_allowed c) refl
@@ -105,14 +108,18 @@ unified-good cr at [] g = tt
 unified-good cr at (m ∷ ms) g = by_return (unified (m.ch == 0xD) ms) (unified-good (m.ch == 0xD) (m.offset + len_utf8 m.ch) ms g.2) (m.ch == 0xD) refl where
   feed-allowed : is_allowed 0xA ≡ true
   feed-allowed = same-allowed 0xA refl
+
   gone : (rest : List Mark) → GoodMarks (m.offset + len_utf8 m.ch) rest → GoodMarks at rest
   gone rest h = lower-marks at (m.offset + len_utf8 m.ch) rest (let z = g.1 in omega arith) h
+
   by_order : (rest : List Mark) → GoodMarks (m.offset + len_utf8 m.ch) rest → (t : Bool) → GoodMarks at ((if t then [] else mark m.ch m.offset ∷ []) ++ rest)
   by_order rest h true = gone rest h
   by_order rest h false = (g.0, g.1, h)
+
   by_feed : (rest : List Mark) → GoodMarks (m.offset + len_utf8 m.ch) rest → (t : Bool) → GoodMarks at ((if t then [] else (if m.ch == 0xFEFF && m.offset == 0 then [] else mark m.ch m.offset ∷ [])) ++ rest)
   by_feed rest h true = gone rest h
   by_feed rest h false = by_order rest h (m.ch == 0xFEFF && m.offset == 0)
+
   by_return : (rest : List Mark) → GoodMarks (m.offset + len_utf8 m.ch) rest → (t : Bool) → (m.ch == 0xD) ≡ t
       → GoodMarks at ((if t then mark 0xA m.offset ∷ [] else (if cr && m.ch == 0xA then [] else (if m.ch == 0xFEFF && m.offset == 0 then [] else mark m.ch m.offset ∷ []))) ++ rest)
   by_return rest h true e =

@@ -1,7 +1,7 @@
 -- It doesn't matter in which pieces constructs are cut.
-use Rattle.std.proofs.Common.{if◌then◌else◌, ◌&&◌, ◌≡◌, ◌≢◌, ℕ, suc, zero, ◌+◌, ◌-◌, ◌<◌, ◌≤◌, Bool, true, false, List, [], ◌∷◌, ◌++◌, length, take, drop, map, Option, Some, None, refl, sym, ap, ◌∙◌, arith, subst, length-append, length-drop}
+use Rattle.std.proofs.Common.{if◌then◌else◌, ◌&&◌, ◌≡◌, ℕ, suc, zero, ◌<◌, ◌≤◌, Bool, true, false, List, [], ◌∷◌, ◌++◌, length, take, drop, Option, Some, None, refl, ap, ◌∙◌, arith, length-drop}
 use Rattle.std.proofs.lemmas.List.{take-append-le, drop-append-le, map-append}
-use Rattle.page_tree.specs.Constructs.{Byte, values, size, is_run, settled_or, whole_size, Construct, construct, offset_of, kind_of, Cut, cut_at, cut_from, settled, finished, is_first, continued}
+use Rattle.page_tree.specs.Constructs.{Byte, values, size, is_run, settled_or, whole_size, Construct, construct, offset_of, kind_of, cut_at, cut_from, settled, finished, is_first, continued}
 use Rattle.page_tree.specs.Spellings.{put_first}
 use Rattle.page_tree.proofs.CutLaws.{size_by-takes, size-append, kind_of-append}
 
@@ -15,6 +15,7 @@ whole-takes ended first cs k e = by_size (size first cs) refl e where
   by_run false ds s h q = absurd (cc)
   by_run true [] s h q = absurd (let z = h refl in cc)
   by_run true (d ∷ ds) s h q = let l : length cs ≡ suc (length ds) = ap length s in let m : length cs ≡ k = cc in (omega arith, omega arith)
+
   by_size : (o : Option ℕ) → size first cs ≡ o → settled_or o (ended && is_run cs) (length cs) ≡ Some k → (0 < k) × (k ≤ length cs)
   by_size (Some j) s q = size_by-takes (kind_of first cs) cs k (s ∙ q)
   by_size None s q = by_run (ended && is_run cs) cs refl (λ t. (Rattle.std.proofs.lemmas.Bool.and_parts ended (is_run cs) t).1) q
@@ -24,35 +25,38 @@ fuel : (n m : ℕ) (ended first : Bool) (us : List Byte) → length us ≤ n →
 unfolding cut_from
 fuel zero zero ended first us a b = refl
 fuel zero (suc m) ended first [] a b = (elim (whole_size ended first []) as (λ o. whole_size ended first [] ≡ o → record { constructs = []; rest = [] } ≡ cut_at o first [] (cut_from m ended false)) [
-    | None ↦ λ e. refl
-    | Some k ↦ λ e. absurd (let t = whole-takes ended first [] k e in omega arith)
-  ]) refl
+  | None ↦ λ e. refl
+  | Some k ↦ λ e. absurd (let t = whole-takes ended first [] k e in omega arith)
+]) refl
 fuel zero (suc m) ended first (u ∷ us) a b = absurd (omega arith)
 fuel (suc n) zero ended first [] a b = (elim (whole_size ended first []) as (λ o. whole_size ended first [] ≡ o → cut_at o first [] (cut_from n ended false) ≡ record { constructs = []; rest = [] }) [
-    | None ↦ λ e. refl
-    | Some k ↦ λ e. absurd (let t = whole-takes ended first [] k e in omega arith)
-  ]) refl
+  | None ↦ λ e. refl
+  | Some k ↦ λ e. absurd (let t = whole-takes ended first [] k e in omega arith)
+]) refl
 fuel (suc n) zero ended first (u ∷ us) a b = absurd (omega arith)
 fuel (suc n) (suc m) ended first us a b = (elim (whole_size ended first (values us)) as (λ o. whole_size ended first (values us) ≡ o → cut_at o first us (cut_from n ended false) ≡ cut_at o first us (cut_from m ended false)) [
-    | None ↦ λ e. refl
-    | Some k ↦ λ e.
-        let t = whole-takes ended first (values us) k e in
-        let l = length-values us in
-        ap (λ c. record { constructs = construct first k us ∷ c.constructs; rest = c.rest }) (fuel n m ended false (drop k us) (omega (arith, length-drop k us)) (omega (arith, length-drop k us)))
-  ]) refl
+  | None ↦ λ e. refl
+  | Some k ↦ λ e.
+      let t = whole-takes ended first (values us) k e in
+      let l = length-values us in
+      ap (λ c. record { constructs = construct first k us ∷ c.constructs; rest = c.rest }) (fuel n m ended false (drop k us) (omega (arith, length-drop k us)) (omega (arith, length-drop k us)))
+]) refl
 
 -- a construct that ends in the first piece is the same with what follows
 same-construct : (first : Bool) (k : ℕ) (a b : List Byte) → size first (values a) ≡ Some k → construct first k (a ++ b) ≡ construct first k a
 same-construct first k a b e = λ i. record { kind = kind i; start = start i; text = text i } where
   t : (0 < k) × (k ≤ length (values a))
   t = size_by-takes (kind_of first (values a)) (values a) k e
+
   kind : kind_of first (values (a ++ b)) ≡ kind_of first (values a)
   kind = ap (kind_of first) (map-append (λ u. u.value) a b) ∙ kind_of-append first (values a) (values b) k e
+
   start : offset_of (a ++ b) ≡ offset_of a
   start = by_first a (let l = length-values a in let p = t.0 in let q = t.1 in omega arith) where
     by_first : (x : List Byte) → 0 < length x → offset_of (x ++ b) ≡ offset_of x
     by_first [] h = absurd (omega arith)
     by_first (u ∷ x) h = refl
+
   text : values (take k (a ++ b)) ≡ values (take k a)
   text = ap values (take-append-le k a b (let l = length-values a in let q = t.1 in omega arith))
 
@@ -81,7 +85,7 @@ pieces-from (suc n) ended first a b h = by_size (λ k. pieces-from n ended false
       let t = size_by-takes (kind_of first (values a)) (values a) k e in
       let l = length-values a in
       let whole : whole_size ended first (values (a ++ b)) ≡ Some k =
-        ap (λ o. settled_or o (ended && is_run (values (a ++ b))) (length (values (a ++ b)))) (ap (size first) (map-append (λ u. u.value) a b) ∙ size-append first (values a) (values b) k e) in
+      ap (λ o. settled_or o (ended && is_run (values (a ++ b))) (length (values (a ++ b)))) (ap (size first) (map-append (λ u. u.value) a b) ∙ size-append first (values a) (values b) k e) in
       let r = cut_from n false false (drop k a) in
       finished-step ended first (a ++ b) k whole
       ∙ ap (λ c. put_first c (finished ended false (drop k (a ++ b)))) (same-construct first k a b e)

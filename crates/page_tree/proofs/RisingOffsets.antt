@@ -1,17 +1,16 @@
 -- The offsets of a page's elements rise in document order.
-use Rattle.std.proofs.Common.{◌≡◌, ◌≢◌, ◌⊎◌, inl, inr, ℕ, suc, zero, ◌+◌, ◌<◌, ◌≤◌, Bool, true, false, ◌&&◌, if◌then◌else◌, List, [], ◌∷◌, ◌++◌, length, map, take, drop, Option, Some, None, refl, sym, ap, ◌∙◌, subst, arith, append-nil}
-use Rattle.std.proofs.Math.Seq.{take-nil, drop-nil}
+use Rattle.std.proofs.Common.{◌≡◌, inl, inr, ℕ, suc, zero, ◌<◌, ◌≤◌, Bool, true, false, ◌&&◌, if◌then◌else◌, List, [], ◌∷◌, ◌++◌, length, map, drop, Option, Some, None, refl, sym, ap, ◌∙◌, subst, arith, append-nil}
 use Rattle.std.proofs.lemmas.Bool.{and_parts}
 use Rattle.ix_base.specs.Trees.{Bound, Head, Nodes, none, chars, elem, Tree}
 use Rattle.ix_base.specs.Sound.{Rise, offsets_of}
 use Rattle.ix_base.specs.Scope.{outermost}
-use Rattle.page_tree.specs.Constructs.{Byte, Construct, Cut, values, size, size_by, kind_of, is_run, settled_or, whole_size, cut_at, cut_from, construct}
-use Rattle.page_tree.specs.Forms.{Means, HasForm}
-use Rattle.page_tree.specs.Page.{AreRuns, AreBehind, AreBefore, Joins, HasTags, IsElement, Spells, SpellsPage, AllMean}
-use Rattle.page_tree.specs.Tags.{opened, head_of}
+use Rattle.page_tree.specs.Constructs.{Byte, Construct, values, size, kind_of, is_run, settled_or, whole_size, cut_at, cut_from, construct}
+use Rattle.page_tree.specs.Forms.{HasForm}
+use Rattle.page_tree.specs.Page.{AreRuns, AreBehind, AreBefore, HasTags, Spells, SpellsPage, AllMean}
+use Rattle.page_tree.specs.Tags.{opened}
 use Rattle.page_tree.specs.Tokens.{Tag, Token, start, empty, close, words, refer, section, declaration, doctype, silent}
 use Rattle.page_tree.specs.declared.kind.Kind.{Kind}
-use Rattle.page_tree.specs.declared.kind.Kind.TheVariants.{Declaration, Instruction, Comment, Cdata, Doctype, Unknown, EndTag, StartTag, Reference, Text}
+use Rattle.page_tree.specs.declared.kind.Kind.TheVariants.{StartTag}
 use Rattle.page_tree.proofs.CutLaws.{size_by-takes}
 use Rattle.page_tree.proofs.PageMarks.{BytesClimb}
 use Rattle.page_tree.proofs.TagLaws.{opened-fair}
@@ -42,6 +41,7 @@ whole-takes ended first cs k e = by_size (size first cs) refl e where
     some [] h z = absurd (cc)
     some (c ∷ cs) h z = omega arith
   by_run false t q = absurd (cc)
+
   by_size : (o : Option ℕ) → size first cs ≡ o → settled_or o (ended && is_run cs) (length cs) ≡ Some k → (0 < k) × (k ≤ length cs)
   by_size (Some j) s q = let same : j ≡ k = cc in size_by-takes (kind_of first cs) cs k (s ∙ ap Some same)
   by_size None s q = by_run (ended && is_run cs) refl q
@@ -58,9 +58,9 @@ pub cut-climbs : (n at : ℕ) (ended first : Bool) (us : List Byte) → BytesCli
 unfolding cut_from
 cut-climbs zero at ended first us c = tt
 cut-climbs (suc n) at ended first us c = (elim (whole_size ended first (values us)) as (λ o. whole_size ended first (values us) ≡ o → Climb at (starts_of (cut_at o first us (cut_from n ended false)).constructs)) [
-    | None ↦ λ e. tt
-    | Some k ↦ λ e. (let z = whole-takes ended first (values us) k e in by_front (λ low vs d. cut-climbs n low ended false vs d) us k c z.0 z.1)
-  ]) refl where
+  | None ↦ λ e. tt
+  | Some k ↦ λ e. (let z = whole-takes ended first (values us) k e in by_front (λ low vs d. cut-climbs n low ended false vs d) us k c z.0 z.1)
+]) refl where
   by_front : ((low : ℕ) (vs : List Byte) → BytesClimb low vs → Climb low (starts_of (cut_from n ended false vs).constructs)) → (vs : List Byte) (k : ℕ) → BytesClimb at vs → 0 < k → k ≤ length (values vs)
       → Climb at ((construct first k vs).start ∷ starts_of (cut_from n ended false (drop k vs)).constructs)
   by_front on [] k d low high = absurd (omega arith)

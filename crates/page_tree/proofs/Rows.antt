@@ -1,14 +1,14 @@
-use Rattle.std.proofs.Common.{◌≡◌, ℕ, Bool, true, false, List, [], ◌∷◌, Option, Some, None, refl, codes}
+use Rattle.std.proofs.Common.{◌≡◌, Some, None, refl, codes}
 use lib.Utf8.{encode}
 use Rattle.page_text.specs.Characters.{scan_from, unified}
 use Rattle.ix_base.specs.NcName.{is_ncname, is_name_start, is_name_char, is_allowed}
 use Rattle.ix_base.specs.Scope.{xml_namespace, xmlns_namespace}
 use Rattle.std.specs.Str.{chars, is_utf8}
-use Rattle.page_tree.specs.Constructs.{size_by, kind_of, cut_from, cut}
+use Rattle.page_tree.specs.Constructs.{size_by, kind_of, cut_from}
 use Rattle.page_tree.specs.Meanings.{attributes_in, meant_by}
 use Rattle.page_tree.specs.Values.{meant_in, referred}
 use Rattle.page_tree.specs.Break.{broken_by, outline_behind, walked, w, fault}
-use Rattle.ix_base.specs.declared.rule.Rule.TheVariants.{W1, W2, W3, W4, W5, W6, W7, W8, W9, W10, W11, W12}
+use Rattle.ix_base.specs.declared.rule.Rule.TheVariants.{W3, W4, W5, W6, W7, W8, W9, W11, W12}
 
 row0 : w (codes "<a></b>") 256 ≡ Some (fault 3 W5)
 unfolding is_utf8 scan_from unified is_ncname is_name_start is_name_char is_allowed chars size_by kind_of cut_from attributes_in meant_by meant_in referred broken_by outline_behind walked encode xml_namespace xmlns_namespace
@@ -93,4 +93,3 @@ row19 = refl
 row20 : w (codes "<a><b><c/></b></a>") 256 ≡ None
 unfolding is_utf8 scan_from unified is_ncname is_name_start is_name_char is_allowed chars size_by kind_of cut_from attributes_in meant_by meant_in referred broken_by outline_behind walked encode xml_namespace xmlns_namespace
 row20 = refl
-

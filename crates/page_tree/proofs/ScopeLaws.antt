@@ -1,5 +1,5 @@
 -- How the code binds prefixes in a scope.
-use Rattle.std.proofs.Common.{◌≡◌, ℕ, zero, suc, ◌+◌, ◌<◌, ◌≤◌, Bool, true, false, ◌||◌, not, if◌then◌else◌, List, [], ◌∷◌, ◌++◌, length, take, drop, map, get_or, refl, sym, ap, ◌∙◌, arith, ◌⊎◌, inl, inr, bytes_eq}
+use Rattle.std.proofs.Common.{◌≡◌, ℕ, zero, suc, ◌<◌, Bool, true, false, List, [], ◌∷◌, ◌++◌, length, take, drop, map, get_or, refl, sym, ap, ◌∙◌, arith, bytes_eq}
 use Rattle.std.proofs.Math.ListN.{set}
 use Rattle.std.specs.List.{insert}
 use Rattle.std.specs.Ordering.{nat_cmp, is_lt}
@@ -9,7 +9,7 @@ use Rattle.ix_base.specs.declared.tree.Binding.{Binding}
 use Rattle.ix_base.specs.Trees.{Bound, bound}
 use Rattle.ix_base.specs.Scope.{bound_over}
 use Rattle.page_tree.specs.Names.{place_of, has_at}
-use Rattle.page_tree.proofs.SpanLaws.{clash, either}
+use Rattle.page_tree.proofs.SpanLaws.{clash}
 
 pub has_at-index : (xs : List Binding) (at : ℕ) (p : List ℕ) (d : Binding) → at < length xs → has_at (map bound xs) at p ≡ bytes_eq (bound (get_or xs at d)).prefix p
 has_at-index [] at p d h = absurd (omega arith)
@@ -49,7 +49,7 @@ pub set-bound : (items one two : List Binding) (at : ℕ) (b : Binding) → one 
 set-bound items one two at b e f p h =
     let place : at ≡ place_of (map bound items) (bound b).prefix = p ∙ ap (λ x. place_of (map bound x) (bound b).prefix) e in
     let found : has_at (map bound items) (place_of (map bound items) (bound b).prefix) (bound b).prefix ≡ true =
-      ap (λ n. has_at (map bound items) n (bound b).prefix) (sym place) ∙ ap (λ x. has_at (map bound x) at (bound b).prefix) (sym f) ∙ h in
+    ap (λ n. has_at (map bound items) n (bound b).prefix) (sym place) ∙ ap (λ x. has_at (map bound x) at (bound b).prefix) (sym f) ∙ h in
     map-set bound items at b ∙ ap (λ n. set (map bound items) n (bound b)) place ∙ sym (replaced (map bound items) (bound b) found)
 
 pub insert-bound : (items one two new : List Binding) (at : ℕ) (b : Binding) → one ≡ items → two ≡ items → at ≡ place_of (map bound one) (bound b).prefix
@@ -57,5 +57,5 @@ pub insert-bound : (items one two new : List Binding) (at : ℕ) (b : Binding) �
 insert-bound items one two new at b e f p h n =
     let place : at ≡ place_of (map bound items) (bound b).prefix = p ∙ ap (λ x. place_of (map bound x) (bound b).prefix) e in
     let found : has_at (map bound items) (place_of (map bound items) (bound b).prefix) (bound b).prefix ≡ false =
-      ap (λ m. has_at (map bound items) m (bound b).prefix) (sym place) ∙ ap (λ x. has_at (map bound x) at (bound b).prefix) (sym f) ∙ h in
+    ap (λ m. has_at (map bound items) m (bound b).prefix) (sym place) ∙ ap (λ x. has_at (map bound x) at (bound b).prefix) (sym f) ∙ h in
     ap (map bound) n ∙ map-insert items at b ∙ ap (λ m. insert (map bound items) m (bound b)) place ∙ sym (inserted (map bound items) (bound b) found)

@@ -1,6 +1,6 @@
 -- How the code that finds a construct's end meets its definition.
-use Rattle.std.proofs.Common.{◌≡◌, ℕ, suc, zero, ◌+◌, ◌-◌, ◌<◌, ◌≤◌, ◌==◌, Bool, true, false, ◌&&◌, ◌||◌, not, if◌then◌else◌, List, [], ◌∷◌, ◌++◌, length, take, drop, Option, Some, None, option_map, refl, sym, ap, ◌∙◌, arith, bytes_eq, length-drop, get_or, drop-cons, add-one}
-use Rattle.page_tree.specs.Constructs.{starts, after, after_tag, text_size, reference_size}
+use Rattle.std.proofs.Common.{◌≡◌, ℕ, suc, ◌+◌, ◌<◌, ◌==◌, true, false, ◌&&◌, if◌then◌else◌, List, [], ◌∷◌, length, take, drop, Option, Some, None, option_map, refl, sym, ap, ◌∙◌, arith, bytes_eq, get_or, drop-cons, add-one}
+use Rattle.page_tree.specs.Constructs.{starts, after}
 
 pub starts_bytes : (p t : List ℕ) → starts p t ≡ bytes_eq (take (length p) t) p
 starts_bytes [] t = refl

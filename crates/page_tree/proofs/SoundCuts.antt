@@ -1,17 +1,17 @@
 -- The characters of constructs are allowed ones, where those of the page are.
-use Rattle.std.proofs.Common.{◌≡◌, ◌≢◌, ◌⊎◌, inl, inr, ℕ, suc, zero, ◌+◌, ◌<◌, ◌≤◌, ◌==◌, Bool, true, false, ◌&&◌, ◌||◌, not, if◌then◌else◌, List, [], ◌∷◌, ◌++◌, length, take, drop, map, Option, Some, None, option_map, is_none, refl, sym, ap, ◌∙◌, subst, arith, append_assoc, append-nil, codes, take-append-drop}
+use Rattle.std.proofs.Common.{◌≡◌, ◌⊎◌, inl, inr, ℕ, suc, zero, ◌+◌, ◌<◌, ◌==◌, Bool, true, false, ◌&&◌, ◌||◌, if◌then◌else◌, List, [], ◌∷◌, ◌++◌, length, take, drop, Option, Some, None, option_map, refl, sym, ap, ◌∙◌, subst, arith, append_assoc, append-nil, codes, take-append-drop}
 use Rattle.std.proofs.lemmas.List.{take-map, drop-map}
 use Rattle.std.proofs.Math.Seq.{take-nil, drop-nil, drop-length}
 use Rattle.std.proofs.lemmas.Bool.Decides.{nat_tests}
-use Rattle.ix_base.specs.NcName.{is_white, is_allowed, are_allowed}
-use Rattle.page_tree.specs.Constructs.{starts, after, after_tag, text_size, reference_size, kind_of, size_by, size, is_run, settled_or, whole_size, Byte, values, construct, Construct, Cut, cut_at, cut_from}
+use Rattle.ix_base.specs.NcName.{is_white, are_allowed}
+use Rattle.page_tree.specs.Constructs.{starts, text_size, reference_size, kind_of, size_by, size, is_run, settled_or, whole_size, Byte, values, Construct, cut_at, cut_from}
 use Rattle.page_tree.specs.Forms.{between}
 use Rattle.page_tree.specs.declared.kind.Kind.{Kind}
 use Rattle.page_tree.specs.declared.kind.Kind.TheVariants.{Declaration, Instruction, Comment, Cdata, Doctype, Unknown, EndTag, StartTag, Reference, Text}
 use Rattle.page_tree.proofs.AllowedText.{allowed-nil, allowed-before, allowed-through, allowed-behind}
 use Rattle.page_tree.proofs.EndLaws.{front_of, kind-starts, kind-ends, map-suc, map-behind, found-behind, ends-behind}
 use Rattle.page_tree.proofs.FormLaws.{HasEnds}
-use Rattle.page_tree.proofs.SpanLaws.{either, one_number, or_left, or_right}
+use Rattle.page_tree.proofs.SpanLaws.{one_number}
 
 -- the first k bytes end with an ASCII byte, or one follows them, or nothing does
 pub record Through (k : ℕ) (cs : List ℕ) : Type 0 where
@@ -48,6 +48,7 @@ text-parts [] k e = absurd (cc)
 text-parts (c ∷ cs) k e = by_stop (λ j. text-parts cs j) (c == 60 || c == 38) refl e where
   low : (c : ℕ) → (c == 60 || c == 38) ≡ true → c < 128
   low c h = grind (arith, nat_tests)
+
   by_stop : ((j : ℕ) → text_size cs ≡ Some j → Before j cs) → (b : Bool) → (c == 60 || c == 38) ≡ b → (if b then Some 0 else option_map suc (text_size cs)) ≡ Some k → Before k (c ∷ cs)
   by_stop ih true h e = let z : 0 ≡ k = cc in subst (λ n. Before n (c ∷ cs)) z (record { next = c; more = cs; low = low c h; is = refl })
   by_stop ih false h e =
@@ -59,14 +60,17 @@ reference-parts [] k e = absurd (cc)
 reference-parts (c ∷ cs) k e = by_end (λ j. reference-parts cs j) (c == 59) refl e where
   low : (c : ℕ) → (is_white c || c == 60 || c == 38) ≡ true → c < 128
   low c h = grind (arith, nat_tests)
+
   next : (j : ℕ) → Through j cs ⊎ Before j cs → Through (suc j) (c ∷ cs) ⊎ Before (suc j) (c ∷ cs)
   next j (inl y) = inl (record { front = c ∷ y.front; last = y.last; low = y.low; is = ap (λ x. c ∷ x) y.is })
   next j (inr y) = inr (record { next = y.next; more = y.more; low = y.low; is = y.is })
+
   by_stop : ((j : ℕ) → reference_size cs ≡ Some j → Through j cs ⊎ Before j cs) → (b : Bool) → (is_white c || c == 60 || c == 38) ≡ b → (if b then Some 0 else option_map suc (reference_size cs)) ≡ Some k
       → Through k (c ∷ cs) ⊎ Before k (c ∷ cs)
   by_stop ih true h e = let z : 0 ≡ k = cc in subst (λ n. Through n (c ∷ cs) ⊎ Before n (c ∷ cs)) z (inr (record { next = c; more = cs; low = low c h; is = refl }))
   by_stop ih false h e =
       let m = map-suc (reference_size cs) k e in subst (λ n. Through n (c ∷ cs) ⊎ Before n (c ∷ cs)) m.2 (next m.0 (ih m.0 m.1))
+
   by_end : ((j : ℕ) → reference_size cs ≡ Some j → Through j cs ⊎ Before j cs) → (b : Bool) → (c == 59) ≡ b
       → (if b then Some 1 else (if is_white c || c == 60 || c == 38 then Some 0 else option_map suc (reference_size cs))) ≡ Some k → Through k (c ∷ cs) ⊎ Before k (c ∷ cs)
   by_end ih true h e =
@@ -94,8 +98,12 @@ run-parts kind (c ∷ cs) k j e h = let z : suc j ≡ k = omega arith in subst (
 -- what ends with `>`
 pointed : (front inner : List ℕ) (ends : List ℕ) (k : ℕ) (cs : List ℕ) → take k cs ≡ between front inner (ends ++ 62 ∷ []) → PartsWell k cs
 pointed front inner ends k cs e =
-    inl (record { front = front ++ (inner ++ ends); last = 62; low = omega arith;
-      is = e ∙ ap (λ x. front ++ x) (sym (append_assoc inner ends (62 ∷ []))) ∙ sym (append_assoc front (inner ++ ends) (62 ∷ [])) })
+    inl (record {
+      front = front ++ (inner ++ ends);
+      last = 62;
+      low = omega arith;
+      is = e ∙ ap (λ x. front ++ x) (sym (append_assoc inner ends (62 ∷ []))) ∙ sym (append_assoc front (inner ++ ends) (62 ∷ []));
+    })
 
 size-parts : (kind : Kind) (cs : List ℕ) (k : ℕ) → starts (front_of kind) cs ≡ true → size_by kind cs ≡ Some k → PartsWell k cs
 unfolding size_by
@@ -118,6 +126,7 @@ whole-parts ended first cs k e = by_size (size first cs) refl e where
   by_run : (b : Bool) → (if b then Some (length cs) else None) ≡ Some k → PartsWell k cs
   by_run true q = let z : length cs ≡ k = cc in inr (inr (ap (λ n. drop n cs) (sym z) ∙ drop-length cs))
   by_run false q = absurd (cc)
+
   by_size : (o : Option ℕ) → size first cs ≡ o → settled_or o (ended && is_run cs) (length cs) ≡ Some k → PartsWell k cs
   by_size (Some j) s q = let same : j ≡ k = cc in size-parts (kind_of first cs) cs k (kind-starts first cs) (s ∙ ap Some same)
   by_size None s q = by_run (ended && is_run cs) q
@@ -131,7 +140,7 @@ pub cut-allowed : (n : ℕ) (ended first : Bool) (us : List Byte) → are_allowe
 unfolding cut_from
 cut-allowed zero ended first us a = tt
 cut-allowed (suc n) ended first us a = (elim (whole_size ended first (values us)) as (λ o. whole_size ended first (values us) ≡ o → AreAllowed (cut_at o first us (cut_from n ended false)).constructs) [
-    | None ↦ λ e. tt
-    | Some k ↦ λ e. (let z = parted-allowed k (values us) (whole-parts ended first (values us) k e) a in
+  | None ↦ λ e. tt
+  | Some k ↦ λ e. (let z = parted-allowed k (values us) (whole-parts ended first (values us) k e) a in
       (ap are_allowed (sym (take-map (λ u. u.value) k us)) ∙ z.0, cut-allowed n ended false (drop k us) (ap are_allowed (sym (drop-map (λ u. u.value) k us)) ∙ z.1)))
-  ]) refl
+]) refl

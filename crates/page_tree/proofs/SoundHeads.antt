@@ -1,19 +1,19 @@
 -- The head of an element is sound, where its tag keeps the rules on namespaces.
-use Rattle.std.proofs.Common.{◌≡◌, ◌≢◌, ℕ, suc, zero, Bool, true, false, ◌&&◌, ◌||◌, not, if◌then◌else◌, ◌⊎◌, inl, inr, List, [], ◌∷◌, map, Option, Some, None, is_some, is_none, unwrap_or, refl, sym, ap, ◌∙◌, subst, bytes_eq, codes, All}
-use Rattle.std.specs.List.{list_any, filter_map, before_first, after_first}
+use Rattle.std.proofs.Common.{◌≡◌, ◌≢◌, ℕ, Bool, true, false, ◌&&◌, ◌||◌, not, if◌then◌else◌, ◌⊎◌, inl, inr, List, [], ◌∷◌, map, Option, Some, None, is_some, unwrap_or, refl, sym, ap, ◌∙◌, subst, bytes_eq, codes, All}
+use Rattle.std.specs.List.{list_any, filter_map, after_first}
 use Rattle.std.proofs.lemmas.Bool.{and_parts}
 use Rattle.std.proofs.lemmas.List.Elements.{All-nil, All-cons, All-head, All-tail}
-use Rattle.ix_base.specs.NcName.{is_ncname, are_allowed}
-use Rattle.ix_base.specs.Trees.{Bound, Head, Named, Valued}
-use Rattle.ix_base.specs.Scope.{has_prefix, prefix_of, local_of, is_qname, is_colon, xml_namespace, xmlns_namespace, namespace_of, element_name, attribute_name}
+use Rattle.ix_base.specs.NcName.{are_allowed}
+use Rattle.ix_base.specs.Trees.{Bound, Head}
+use Rattle.ix_base.specs.Scope.{has_prefix, prefix_of, is_qname, is_colon, xmlns_namespace, namespace_of, element_name, attribute_name}
 use Rattle.ix_base.specs.Sound.{IsSoundBinding, IsSoundName, IsSoundAttribute, IsSoundHead, AreDistinct}
 use Rattle.page_tree.specs.Tags.{declares, binding_of, bindings, is_bad, is_bound, is_unbound, is_expanded, is_same, same_name, repeats, misrefers, misnames, is_fair, scope_of, valued, head_of, opened}
 use Rattle.page_tree.specs.Tokens.{Attribute, Tag}
 use Rattle.page_tree.proofs.AllowedText.{allowed-nil}
 use Rattle.page_tree.proofs.SoundNames.{IsFormed, qname-local, fair-binding, sound-binding}
 use Rattle.page_tree.proofs.SoundScopes.{IsSoundScope, IsFairDeclaration, under-sound}
-use Rattle.page_tree.proofs.SpanLaws.{clash, either, or_left, or_right, and_both, bytes-one, bytes-same, bytes-apart}
-use Rattle.page_tree.proofs.TagLaws.{not_true, not_false, opened-fair}
+use Rattle.page_tree.proofs.SpanLaws.{clash, either, or_left, or_right, and_both, bytes-same}
+use Rattle.page_tree.proofs.TagLaws.{not_true, opened-fair}
 
 -- a tag whose names and values are of their forms
 pub record IsFormedTag (t : Tag) : Type 0 where
@@ -30,7 +30,7 @@ fair-bindings (a ∷ as') f h = by_binding (λ q. fair-bindings as' (All-tail Is
       let z : (is_bad b || list_any is_bad (filter_map binding_of as')) ≡ false = rw e at q in
       let bad = or_left (is_bad b) (list_any is_bad (filter_map binding_of as')) z in
       rw e (All-cons IsFairDeclaration b (filter_map binding_of as') (record { fair = fair-binding b bad; sound = sound-binding a b (All-head IsFormed a as' f) e bad })
-        (ih (or_right (is_bad b) (list_any is_bad (filter_map binding_of as')) z)))
+      (ih (or_right (is_bad b) (list_any is_bad (filter_map binding_of as')) z)))
 
 -- a namespace that a sound scope knows, or none
 record IsSpace (ns : List ℕ) : Type 0 where
@@ -81,15 +81,16 @@ undeclared a d e =
 attribute-sound : (s : List Bound) (a : Attribute) → All IsSoundBinding s → IsFormed a → declares a ≡ false → is_unbound s a.name ≡ false
     → IsSoundAttribute (record { name = attribute_name s a.name; value = unwrap_or a.value [] })
 attribute-sound s a h f d u = record {
-    name = (let z = attribute-space s a.name h in record { local = qname-local a.name f.name; plain = z.plain; allowed = z.allowed });
-    undeclaring = undeclaring;
-    allowed = by_value a.value refl;
-  } where
+  name = (let z = attribute-space s a.name h in record { local = qname-local a.name f.name; plain = z.plain; allowed = z.allowed });
+  undeclaring = undeclaring;
+  allowed = by_value a.value refl;
+} where
   undeclaring : (attribute_name s a.name).ns ≡ [] → (attribute_name s a.name).local ≢ codes "xmlns"
   undeclaring e q = elim (either (has_prefix a.name)) as (λ x. ⊥) [
-      | inl p ↦ (prefixed s a.name h p u).1 e
-      | inr p ↦ undeclared a d (sym (bare s a.name p).1 ∙ q)
-    ]
+    | inl p ↦ (prefixed s a.name h p u).1 e
+    | inr p ↦ undeclared a d (sym (bare s a.name p).1 ∙ q)
+  ]
+
   by_value : (v : Option (List ℕ)) → a.value ≡ v → are_allowed (unwrap_or v []) ≡ true
   by_value None e = allowed-nil
   by_value (Some v) e = f.value v e
@@ -100,6 +101,7 @@ attributes-sound s [] h f u = All-nil IsSoundAttribute
 attributes-sound s (a ∷ as') h f u = by_kind (attributes-sound s as' h (All-tail IsFormed a as' f) (or_right (not (declares a) && is_unbound s a.name) (list_any (λ a. not (declares a) && is_unbound s a.name) as') u)) (declares a) refl where
   first : (not (declares a) && is_unbound s a.name) ≡ false
   first = or_left (not (declares a) && is_unbound s a.name) (list_any (λ a. not (declares a) && is_unbound s a.name) as') u
+
   by_kind : All IsSoundAttribute (filter_map (valued s) as') → (d : Bool) → declares a ≡ d → All IsSoundAttribute (filter_map (valued s) (a ∷ as'))
   by_kind ih true d = rw d ih
   by_kind ih false d = let z : is_unbound s a.name ≡ false = rw d at first in let y = attribute-sound s a h (All-head IsFormed a as' f) d z in
@@ -112,19 +114,21 @@ two-names s a b h d c u v n e = by_prefix (either (has_prefix a.name)) (either (
   expanded : (x : Attribute) → declares x ≡ false → is_unbound s x.name ≡ false → has_prefix x.name ≡ true → is_expanded s x ≡ true
   expanded x dx ux p =
       and_both (has_prefix x.name && not (declares x)) (is_bound s x.name) (and_both (has_prefix x.name) (not (declares x)) p (ap not dx)) (prefixed s x.name h p ux).0
+
   same : same_name (attribute_name s a.name) (attribute_name s b.name) ≡ true
   same = ap (λ m. same_name (attribute_name s a.name) m) (sym e) ∙ and_both (bytes_eq (attribute_name s a.name).ns (attribute_name s a.name).ns) (bytes_eq (attribute_name s a.name).local (attribute_name s a.name).local) (bytes-same (attribute_name s a.name).ns) (bytes-same (attribute_name s a.name).local)
+
   by_prefix : (has_prefix a.name ≡ true) ⊎ (has_prefix a.name ≡ false) → (has_prefix b.name ≡ true) ⊎ (has_prefix b.name ≡ false) → ⊥
   by_prefix (inl p) (inl q) =
       let z = or_right (bytes_eq a.name b.name) (is_expanded s a && is_expanded s b && same_name (attribute_name s a.name) (attribute_name s b.name)) n in
       clash (is_expanded s a && is_expanded s b && same_name (attribute_name s a.name) (attribute_name s b.name))
-        (and_both (is_expanded s a && is_expanded s b) (same_name (attribute_name s a.name) (attribute_name s b.name)) (and_both (is_expanded s a) (is_expanded s b) (expanded a d u p) (expanded b c v q)) same) z
+      (and_both (is_expanded s a && is_expanded s b) (same_name (attribute_name s a.name) (attribute_name s b.name)) (and_both (is_expanded s a) (is_expanded s b) (expanded a d u p) (expanded b c v q)) same) z
   by_prefix (inl p) (inr q) = (prefixed s a.name h p u).1 (ap (λ m. m.ns) e ∙ (bare s b.name q).0)
   by_prefix (inr p) (inl q) = (prefixed s b.name h q v).1 (sym (ap (λ m. m.ns) e) ∙ (bare s a.name p).0)
   by_prefix (inr p) (inr q) =
       let one : a.name ≡ b.name = sym (bare s a.name p).1 ∙ ap (λ m. m.local) e ∙ (bare s b.name q).1 in
       clash (bytes_eq a.name b.name) (ap (bytes_eq a.name) (sym one) ∙ bytes-same a.name)
-        (or_left (bytes_eq a.name b.name) (is_expanded s a && is_expanded s b && same_name (attribute_name s a.name) (attribute_name s b.name)) n)
+      (or_left (bytes_eq a.name b.name) (is_expanded s a && is_expanded s b && same_name (attribute_name s a.name) (attribute_name s b.name)) n)
 
 others-apart : (s : List Bound) (a : Attribute) (as' : List Attribute) → All IsSoundBinding s → declares a ≡ false → is_unbound s a.name ≡ false → list_any (is_same s a) as' ≡ false
     → list_any (λ a. not (declares a) && is_unbound s a.name) as' ≡ false → All (λ m. attribute_name s a.name ≢ m) (map (λ x. x.name) (filter_map (valued s) as'))
@@ -132,6 +136,7 @@ others-apart s a [] h d u n v = All-nil (λ m. attribute_name s a.name ≢ m)
 others-apart s a (b ∷ as') h d u n v = by_kind (others-apart s a as' h d u (or_right (is_same s a b) (list_any (is_same s a) as') n) (or_right (not (declares b) && is_unbound s b.name) (list_any (λ a. not (declares a) && is_unbound s a.name) as') v)) (declares b) refl where
   first : (not (declares b) && is_unbound s b.name) ≡ false
   first = or_left (not (declares b) && is_unbound s b.name) (list_any (λ a. not (declares a) && is_unbound s a.name) as') v
+
   by_kind : All (λ m. attribute_name s a.name ≢ m) (map (λ x. x.name) (filter_map (valued s) as')) → (c : Bool) → declares b ≡ c → All (λ m. attribute_name s a.name ≢ m) (map (λ x. x.name) (filter_map (valued s) (b ∷ as')))
   by_kind ih true c = rw c ih
   by_kind ih false c =
@@ -145,8 +150,10 @@ distinct s [] h r v = tt
 distinct s (a ∷ as') h r v = by_kind (distinct s as' h (or_right (list_any (is_same s a) as') (repeats s as') r) others) (declares a) refl where
   others : list_any (λ a. not (declares a) && is_unbound s a.name) as' ≡ false
   others = or_right (not (declares a) && is_unbound s a.name) (list_any (λ a. not (declares a) && is_unbound s a.name) as') v
+
   first : (not (declares a) && is_unbound s a.name) ≡ false
   first = or_left (not (declares a) && is_unbound s a.name) (list_any (λ a. not (declares a) && is_unbound s a.name) as') v
+
   by_kind : AreDistinct (map (λ x. x.name) (filter_map (valued s) as')) → (d : Bool) → declares a ≡ d → AreDistinct (map (λ x. x.name) (filter_map (valued s) (a ∷ as')))
   by_kind ih true d = rw d ih
   by_kind ih false d =

@@ -1,16 +1,15 @@
 -- What names and declarations keep.
-use Rattle.std.proofs.Common.{◌≡◌, ◌≢◌, ℕ, suc, zero, Bool, true, false, ◌&&◌, ◌||◌, not, if◌then◌else◌, ◌⊎◌, inl, inr, List, [], ◌∷◌, map, Option, Some, None, is_some, unwrap_or, refl, sym, ap, ◌∙◌, subst, bytes_eq, codes, All}
-use Rattle.std.specs.List.{list_any, filter_map, before_first, after_first}
+use Rattle.std.proofs.Common.{◌≡◌, ◌≢◌, ℕ, Bool, true, false, ◌&&◌, ◌||◌, not, if◌then◌else◌, ◌⊎◌, inl, inr, List, [], Option, Some, None, refl, sym, ap, ◌∙◌, subst, bytes_eq, codes}
+use Rattle.std.specs.List.{before_first, after_first}
 use Rattle.std.proofs.lemmas.Bool.{and_parts}
 use Rattle.ix_base.specs.NcName.{is_ncname, are_allowed}
 use Rattle.ix_base.specs.Trees.{Bound}
-use Rattle.ix_base.specs.Scope.{has_prefix, prefix_of, local_of, is_qname, is_colon, xml_namespace, xmlns_namespace, namespace_of}
+use Rattle.ix_base.specs.Scope.{has_prefix, local_of, is_qname, is_colon, xml_namespace, xmlns_namespace}
 use Rattle.ix_base.specs.Sound.{IsSoundBinding}
 use Rattle.page_tree.specs.Tags.{declares, declared, bound_to, binding_of, is_bad, is_misbound}
-use Rattle.page_tree.specs.Tokens.{Attribute, Tag}
-use Rattle.page_tree.proofs.AllowedText.{allowed-nil}
+use Rattle.page_tree.specs.Tokens.{Attribute}
 use Rattle.page_tree.proofs.SpanLaws.{clash, either, or_left, or_right, bytes-one, bytes-same, bytes-apart}
-use Rattle.page_tree.proofs.TagLaws.{not_true, not_false}
+use Rattle.page_tree.proofs.TagLaws.{not_false}
 
 pub qname-local : (n : List ℕ) → is_qname n ≡ true → is_ncname (local_of n) ≡ true
 qname-local n q = by_prefix (has_prefix n) q where
@@ -38,27 +37,32 @@ pub fair-binding : (b : Bound) → is_bad b ≡ false → Fair b
 fair-binding b h = record { plain = plain; some = some; xml = xml; others = others } where
   plain : b.ns ≢ xmlns_namespace
   plain e = clash (bytes_eq b.ns xmlns_namespace) (ap (λ x. bytes_eq x xmlns_namespace) e ∙ bytes-same xmlns_namespace) (or_left (bytes_eq b.ns xmlns_namespace) (not (bytes_eq b.prefix []) && is_misbound b.prefix b.ns) h)
+
   named : b.prefix ≢ [] → is_misbound b.prefix b.ns ≡ false
   named n =
       let z : (not (bytes_eq b.prefix []) && is_misbound b.prefix b.ns) ≡ false = or_right (bytes_eq b.ns xmlns_namespace) (not (bytes_eq b.prefix []) && is_misbound b.prefix b.ns) h in
       let e : bytes_eq b.prefix [] ≡ false = bytes-apart b.prefix [] n in
       rw e at z
+
   some : b.prefix ≢ [] → b.ns ≢ []
   some n e = clash (bytes_eq b.ns []) (ap (λ x. bytes_eq x []) e) (or_right (bytes_eq b.prefix (codes "xmlns")) (bytes_eq b.ns []) (or_left (bytes_eq b.prefix (codes "xmlns") || bytes_eq b.ns []) (is_odd b) (named n)))
+
   last : b.prefix ≢ [] → is_odd b ≡ false
   last n = or_right (bytes_eq b.prefix (codes "xmlns") || bytes_eq b.ns []) (is_odd b) (named n)
+
   xml : b.prefix ≡ codes "xml" → b.ns ≡ xml_namespace
   xml e =
       let some_ : b.prefix ≢ [] = λ x. (let z : codes "xml" ≡ [] = sym e ∙ x in absurd (cc)) in
       let s : bytes_eq b.prefix (codes "xml") ≡ true = ap (λ x. bytes_eq x (codes "xml")) e in
       let q : not (bytes_eq b.ns xml_namespace) ≡ false = ap (λ t. if t then not (bytes_eq b.ns xml_namespace) else bytes_eq b.ns xml_namespace) (sym s) ∙ last some_ in
       bytes-one b.ns xml_namespace (not_false (bytes_eq b.ns xml_namespace) q)
+
   others : b.prefix ≢ [] → b.ns ≡ xml_namespace → b.prefix ≡ codes "xml"
   others n e = elim (either (bytes_eq b.prefix (codes "xml"))) as (λ x. b.prefix ≡ codes "xml") [
-      | inl y ↦ bytes-one b.prefix (codes "xml") y
-      | inr f ↦ clash (bytes_eq b.ns xml_namespace) (ap (λ x. bytes_eq x xml_namespace) e ∙ bytes-same xml_namespace)
+    | inl y ↦ bytes-one b.prefix (codes "xml") y
+    | inr f ↦ clash (bytes_eq b.ns xml_namespace) (ap (λ x. bytes_eq x xml_namespace) e ∙ bytes-same xml_namespace)
         (ap (λ t. if t then not (bytes_eq b.ns xml_namespace) else bytes_eq b.ns xml_namespace) (sym f) ∙ last n)
-    ]
+  ]
 
 -- the binding that a declaration makes
 pub record Makes (a : Attribute) (b : Bound) : Type 0 where
@@ -87,12 +91,16 @@ pub sound-binding : (a : Attribute) (b : Bound) → IsFormed a → binding_of a 
 sound-binding a b f m h = by_prefix (either (bytes_eq b.prefix [])) (either (bytes_eq b.ns [])) where
   kept : Fair b
   kept = fair-binding b h
+
   made : Makes a b
   made = makes a b m
+
   named : (b.prefix ≡ []) ⊎ (is_ncname b.prefix ≡ true)
   named = subst (λ p. (p ≡ []) ⊎ (is_ncname p ≡ true)) (sym made.prefix) (declared-ncname a f.name)
+
   sound : b.ns ≢ [] → IsSoundBinding b
   sound s = record { prefix = named; some = s; xml = kept.others; plain = kept.plain; allowed = f.value b.ns made.value }
+
   by_prefix : (bytes_eq b.prefix [] ≡ true) ⊎ (bytes_eq b.prefix [] ≡ false) → (bytes_eq b.ns [] ≡ true) ⊎ (bytes_eq b.ns [] ≡ false) → ((b.prefix ≡ []) × (b.ns ≡ [])) ⊎ IsSoundBinding b
   by_prefix (inl p) (inl n) = inl (bytes-one b.prefix [] p, bytes-one b.ns [] n)
   by_prefix (inr p) (inl n) = absurd (kept.some (λ e. clash (bytes_eq b.prefix []) (ap (λ x. bytes_eq x []) e) p) (bytes-one b.ns [] n))

@@ -1,6 +1,6 @@
 -- Every tree of a page is sound.
-use Rattle.std.proofs.Common.{◌≡◌, ℕ, true, Bool, List, [], ◌∷◌, length, is_none, sym, ap, ◌∙◌, subst}
-use Rattle.ix_base.specs.Trees.{Nodes, none, elem, Tree}
+use Rattle.std.proofs.Common.{ℕ, true, List, [], ◌∷◌, length, is_none, sym, subst}
+use Rattle.ix_base.specs.Trees.{Tree}
 use Rattle.ix_base.specs.Sound.{IsSoundTree, Rise}
 use Rattle.page_text.specs.Characters.{stop}
 use Rattle.page_tree.specs.Constructs.{Construct, cut, text_of}

@@ -1,8 +1,7 @@
 -- Declarations put over a sound scope leave it sound.
-use Rattle.std.proofs.Common.{◌≡◌, ◌≢◌, ℕ, suc, zero, ◌==◌, Bool, true, false, ◌&&◌, ◌||◌, not, if◌then◌else◌, ◌⊎◌, inl, inr, List, [], ◌∷◌, map, filter, Option, Some, None, refl, sym, ap, ◌∙◌, subst, bytes_eq, codes, All, Ordering, Less, Equal, Greater}
+use Rattle.std.proofs.Common.{◌≡◌, ◌≢◌, ℕ, Bool, true, false, ◌&&◌, not, if◌then◌else◌, ◌⊎◌, inl, inr, List, [], ◌∷◌, filter, Some, refl, sym, ap, ◌∙◌, subst, bytes_eq, codes, All, Ordering, Less, Equal, Greater}
 use Rattle.std.specs.Ordering.{nat_cmp, is_lt, is_eq, ordering_reverse}
 use Rattle.std.specs.Cmp.Lexicographic.{slice_cmp}
-use Rattle.std.proofs.lemmas.Bool.{and_parts}
 use Rattle.std.proofs.lemmas.Cmp.{nat_list_cmp_total}
 use Rattle.std.proofs.lemmas.List.Elements.{All-nil, All-cons, All-head, All-tail, All-filter}
 use Rattle.std.proofs.lemmas.Map.Text.{is_eq-slice_cmp}
@@ -10,7 +9,7 @@ use Rattle.ix_base.specs.NcName.{is_ncname, is_name_start, is_name_char, is_allo
 use Rattle.ix_base.specs.Trees.{Bound}
 use Rattle.ix_base.specs.Scope.{xml_namespace, xmlns_namespace, namespace_of, bound_over, declared_over, scope_under, outermost}
 use Rattle.ix_base.specs.Sound.{IsSoundBinding, AreSorted}
-use Rattle.page_tree.proofs.SpanLaws.{clash, either, and_both, bytes-one, bytes-same, bytes-apart}
+use Rattle.page_tree.proofs.SpanLaws.{clash, either, bytes-one, bytes-same, bytes-apart}
 use Rattle.page_tree.proofs.AllowedText.{low-ncname, low-allowed}
 use Rattle.page_tree.proofs.SoundNames.{Fair}
 
@@ -54,6 +53,7 @@ over-sorted (x ∷ s) b h = by_tests (over-sorted s b (tail-sorted x s h)) (byte
   same : (t : List Bound) → x.prefix ≡ b.prefix → AreSorted (x ∷ t) → AreSorted (b ∷ t)
   same [] e q = tt
   same (y ∷ t) e q = (ap (λ p. is_below p y.prefix) (sym e) ∙ q.0, q.1)
+
   by_tests : AreSorted (bound_over s b) → (e c : Bool) → bytes_eq x.prefix b.prefix ≡ e → is_below b.prefix x.prefix ≡ c → AreSorted (if e then b ∷ s else (if c then b ∷ x ∷ s else x ∷ bound_over s b))
   by_tests ih true c p q = same s (bytes-one x.prefix b.prefix p) h
   by_tests ih false true p q = (q, h)
@@ -73,6 +73,7 @@ over-same [] b p e = rw e (rw (bytes-same p) refl)
 over-same (x ∷ s) b p e = by_tests (over-same s b p e) (bytes_eq x.prefix b.prefix) (is_below b.prefix x.prefix) refl where
   here : bytes_eq b.prefix p ≡ true
   here = ap (λ y. bytes_eq y p) e ∙ bytes-same p
+
   by_tests : namespace_of (bound_over s b) p ≡ Some b.ns → (t c : Bool) → bytes_eq x.prefix b.prefix ≡ t → namespace_of (if t then b ∷ s else (if c then b ∷ x ∷ s else x ∷ bound_over s b)) p ≡ Some b.ns
   by_tests ih true c q = rw here refl
   by_tests ih false true q = rw here refl
@@ -89,9 +90,9 @@ over-other (x ∷ s) b p e = by_tests (over-other s b p e) (bytes_eq x.prefix b.
 
 over-xml : (s : List Bound) (b : Bound) → Fair b → namespace_of s (codes "xml") ≡ Some xml_namespace → namespace_of (bound_over s b) (codes "xml") ≡ Some xml_namespace
 over-xml s b f h = elim (either (bytes_eq b.prefix (codes "xml"))) as (λ x. namespace_of (bound_over s b) (codes "xml") ≡ Some xml_namespace) [
-    | inl y ↦ let e = bytes-one b.prefix (codes "xml") y in over-same s b (codes "xml") e ∙ ap Some (f.xml e)
-    | inr n ↦ over-other s b (codes "xml") n ∙ h
-  ]
+  | inl y ↦ let e = bytes-one b.prefix (codes "xml") y in over-same s b (codes "xml") e ∙ ap Some (f.xml e)
+  | inr n ↦ over-other s b (codes "xml") n ∙ h
+]
 
 -- the default namespace taken away: it stands first
 abbrev keeps : Bound → Bool
@@ -128,9 +129,9 @@ declared-sound s b f (inr k) h =
     let n : bytes_eq b.ns [] ≡ false = bytes-apart b.ns [] k.some in
     let z : (bytes_eq b.prefix [] && bytes_eq b.ns []) ≡ false = ap (λ t. bytes_eq b.prefix [] && t) n ∙ and_no (bytes_eq b.prefix []) in
     rw z (record { bindings = over-sound s b k h.bindings; sorted = over-sorted s b h.sorted; xml = over-xml s b f h.xml }) where
-  and_no : (t : Bool) → (t && false) ≡ false
-  and_no true = refl
-  and_no false = refl
+      and_no : (t : Bool) → (t && false) ≡ false
+      and_no true = refl
+      and_no false = refl
 
 pub record IsFairDeclaration (b : Bound) : Type 0 where
   pub fair : Fair b
@@ -167,7 +168,7 @@ xml-bound = record { prefix = codes "xml"; ns = xml_namespace }
 -- the scope above the root
 pub outermost-sound : IsSoundScope outermost
 outermost-sound = record {
-    bindings = All-cons IsSoundBinding xml-bound [] (record { prefix = inr xml-name; some = xml-some; xml = λ n e. refl; plain = xml-plain; allowed = xml-allowed }) (All-nil IsSoundBinding);
-    sorted = tt;
-    xml = refl;
-  }
+  bindings = All-cons IsSoundBinding xml-bound [] (record { prefix = inr xml-name; some = xml-some; xml = λ n e. refl; plain = xml-plain; allowed = xml-allowed }) (All-nil IsSoundBinding);
+  sorted = tt;
+  xml = refl;
+}

@@ -1,22 +1,22 @@
 -- The names and texts of tokens are of their forms, where the characters of the constructs are allowed ones.
-use Rattle.std.proofs.Common.{◌≡◌, ◌≢◌, ◌⊎◌, inl, inr, ℕ, suc, zero, ◌+◌, ◌-◌, ◌<◌, ◌==◌, Bool, true, false, ◌&&◌, ◌||◌, not, if◌then◌else◌, List, [], ◌∷◌, ◌++◌, length, take, drop, map, Option, Some, None, option_map, refl, sym, ap, ◌∙◌, subst, arith, append_assoc, append-nil, All, codes, bytes_eq, encode_utf8}
-use Rattle.std.specs.List.{list_all, list_any}
+use Rattle.std.proofs.Common.{◌≡◌, ◌≢◌, ℕ, ◌-◌, ◌<◌, ◌==◌, Bool, true, false, ◌||◌, if◌then◌else◌, List, [], ◌∷◌, ◌++◌, length, take, drop, Option, Some, None, option_map, refl, sym, ap, ◌∙◌, subst, arith, append_assoc, All, codes, bytes_eq, encode_utf8}
+use Rattle.std.specs.List.{list_all}
 use Rattle.std.specs.Option.{option_and_then}
 use Rattle.std.proofs.lemmas.Bool.{and_parts}
 use Rattle.std.proofs.lemmas.Bool.Decides.{nat_tests}
 use Rattle.std.proofs.lemmas.List.Elements.{All-nil, All-cons}
 use Rattle.ix_base.specs.NcName.{is_white, is_allowed, are_allowed}
 use Rattle.page_tree.specs.Constructs.{starts}
-use Rattle.page_tree.specs.Forms.{AreWhite, IsEqual, IsAttribute, AreAttributes, IsInTag, HasForm, is_quote}
+use Rattle.page_tree.specs.Forms.{AreWhite, IsEqual, AreAttributes, IsInTag, HasForm, is_quote}
 use Rattle.page_tree.specs.Values.{number_in, allowed, referred, spelled, meant_in, value_of, referred_by}
 use Rattle.page_tree.specs.Tokens.{Attribute, Tag, Token, start, empty, close, words, refer, section, declaration, doctype, silent}
 use Rattle.page_tree.specs.declared.kind.Kind.{Kind}
-use Rattle.page_tree.specs.declared.kind.Kind.TheVariants.{Declaration, Instruction, Comment, Cdata, Doctype, Unknown, EndTag, StartTag, Reference, Text}
-use Rattle.page_tree.proofs.AllowedText.{allowed-nil, allowed-append, allowed-before, allowed-tail, allowed-behind, allowed-char, low-allowed, is_low}
+use Rattle.page_tree.specs.declared.kind.Kind.TheVariants.{Declaration, Instruction, Comment, Cdata, Doctype, EndTag, StartTag, Reference, Text}
+use Rattle.page_tree.proofs.AllowedText.{allowed-append, allowed-before, allowed-tail, allowed-behind, allowed-char, low-allowed, is_low}
 use Rattle.page_tree.proofs.SoundNames.{IsFormed}
 use Rattle.page_tree.proofs.SoundHeads.{IsFormedTag}
 use Rattle.page_tree.proofs.SoundTrees.{IsFormedToken}
-use Rattle.page_tree.proofs.SpanLaws.{clash, either, one_number}
+use Rattle.page_tree.proofs.SpanLaws.{one_number}
 use Rattle.page_tree.proofs.Building.{and-then-some}
 
 -- a reference means an allowed character
@@ -36,21 +36,27 @@ referred-allowed inner c = by1 (bytes_eq inner (codes "lt")) where
   by7 : (b : Bool) → (if b then option_and_then allowed (number_in 10 (drop 1 inner)) else None) ≡ Some c → is_allowed c ≡ true
   by7 true e = allowed-some (number_in 10 (drop 1 inner)) c e
   by7 false e = absurd (cc)
+
   by6 : (b : Bool) → (if b then option_and_then allowed (number_in 16 (drop 2 inner)) else (if starts (codes "#") inner then option_and_then allowed (number_in 10 (drop 1 inner)) else None)) ≡ Some c → is_allowed c ≡ true
   by6 true e = allowed-some (number_in 16 (drop 2 inner)) c e
   by6 false e = by7 (starts (codes "#") inner) e
+
   by5 : (b : Bool) → (if b then Some 34 else (if starts (codes "#x") inner then option_and_then allowed (number_in 16 (drop 2 inner)) else (if starts (codes "#") inner then option_and_then allowed (number_in 10 (drop 1 inner)) else None))) ≡ Some c → is_allowed c ≡ true
   by5 true e = known c 34 refl e
   by5 false e = by6 (starts (codes "#x") inner) e
+
   by4 : (b : Bool) → (if b then Some 39 else (if bytes_eq inner (codes "quot") then Some 34 else (if starts (codes "#x") inner then option_and_then allowed (number_in 16 (drop 2 inner)) else (if starts (codes "#") inner then option_and_then allowed (number_in 10 (drop 1 inner)) else None)))) ≡ Some c → is_allowed c ≡ true
   by4 true e = known c 39 refl e
   by4 false e = by5 (bytes_eq inner (codes "quot")) e
+
   by3 : (b : Bool) → (if b then Some 38 else (if bytes_eq inner (codes "apos") then Some 39 else (if bytes_eq inner (codes "quot") then Some 34 else (if starts (codes "#x") inner then option_and_then allowed (number_in 16 (drop 2 inner)) else (if starts (codes "#") inner then option_and_then allowed (number_in 10 (drop 1 inner)) else None))))) ≡ Some c → is_allowed c ≡ true
   by3 true e = known c 38 refl e
   by3 false e = by4 (bytes_eq inner (codes "apos")) e
+
   by2 : (b : Bool) → (if b then Some 62 else (if bytes_eq inner (codes "amp") then Some 38 else (if bytes_eq inner (codes "apos") then Some 39 else (if bytes_eq inner (codes "quot") then Some 34 else (if starts (codes "#x") inner then option_and_then allowed (number_in 16 (drop 2 inner)) else (if starts (codes "#") inner then option_and_then allowed (number_in 10 (drop 1 inner)) else None)))))) ≡ Some c → is_allowed c ≡ true
   by2 true e = known c 62 refl e
   by2 false e = by3 (bytes_eq inner (codes "amp")) e
+
   by1 : (b : Bool) → (if b then Some 60 else (if bytes_eq inner (codes "gt") then Some 62 else (if bytes_eq inner (codes "amp") then Some 38 else (if bytes_eq inner (codes "apos") then Some 39 else (if bytes_eq inner (codes "quot") then Some 34 else (if starts (codes "#x") inner then option_and_then allowed (number_in 16 (drop 2 inner)) else (if starts (codes "#") inner then option_and_then allowed (number_in 10 (drop 1 inner)) else None))))))) ≡ Some c → is_allowed c ≡ true
   by1 true e = known c 60 refl e
   by1 false e = by2 (bytes_eq inner (codes "gt")) e
@@ -113,6 +119,7 @@ meant-allowed None (c ∷ cs) p v a e = by_kind (λ q b w r. meant-allowed None 
   by_white on false h e =
       let m = mapped (λ more. c ∷ more) (meant_in None cs) v e in
       subst (λ x. are_allowed (p ++ x) ≡ true) m.2 (ap are_allowed (one-more p c m.0) ∙ on (p ++ c ∷ []) (ap are_allowed (sym (one-more p c cs)) ∙ a) m.0 m.1)
+
   by_kind : ((q : List ℕ) → are_allowed (q ++ cs) ≡ true → (w : List ℕ) → meant_in None cs ≡ Some w → are_allowed (q ++ w) ≡ true) → (are_allowed ((p ++ c ∷ []) ++ cs) ≡ true → meant_in (Some []) cs ≡ Some v → are_allowed v ≡ true)
       → (b : Bool) → (c == 38) ≡ b → (if b then meant_in (Some []) cs else option_map (λ more. (if c == 9 || c == 10 then 32 else c) ∷ more) (meant_in None cs)) ≡ Some v → are_allowed (p ++ v) ≡ true
   by_kind on ref true h e =
@@ -144,7 +151,7 @@ record Quoted (raw more : List ℕ) : Type 0 where
 equal-allowed : (name raw more behind : List ℕ) → IsEqual raw more behind → are_allowed (name ++ behind) ≡ true → Quoted raw more
 equal-allowed name raw more behind e a =
     let whole : name ++ behind ≡ (name ++ e.front) ++ 61 ∷ (e.back ++ e.quote ∷ (raw ++ e.quote ∷ more)) =
-      ap (λ x. name ++ x) e.splits ∙ sym (append_assoc name e.front (61 ∷ (e.back ++ e.quote ∷ (raw ++ e.quote ∷ more)))) in
+    ap (λ x. name ++ x) e.splits ∙ sym (append_assoc name e.front (61 ∷ (e.back ++ e.quote ∷ (raw ++ e.quote ∷ more)))) in
     let l = quote-low e.quote e.quotes in
     let x = allowed-behind (name ++ e.front) 61 (e.back ++ e.quote ∷ (raw ++ e.quote ∷ more)) (omega arith) (ap are_allowed (sym whole) ∙ a) in
     let y = allowed-tail e.quote (raw ++ e.quote ∷ more) l (behind-white e.back (e.quote ∷ (raw ++ e.quote ∷ more)) e.back_white x) in
@@ -157,7 +164,7 @@ attributes-formed (x ∷ as') text h a =
     let named = behind-white h.white (x.name ++ h.behind) h.are_white (ap are_allowed (sym h.splits) ∙ a) in
     let q = equal-allowed x.name h.raw h.more h.behind h.equal named in
     All-cons IsFormed x as' (record { name = h.name; value = λ v e. value-allowed h.raw v q.raw_allowed (sym h.value ∙ e) })
-      (attributes-formed as' h.more h.rest q.more_allowed)
+    (attributes-formed as' h.more h.rest q.more_allowed)
 
 -- attributes behind a name: the first begins with white space
 behind-name : (name : List ℕ) (as' : List Attribute) (rest : List ℕ) → AreAttributes as' rest → are_allowed (name ++ rest) ≡ true → All IsFormed as'

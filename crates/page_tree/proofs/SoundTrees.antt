@@ -1,11 +1,10 @@
 -- What the tokens of a page spell is sound.
-use Rattle.std.proofs.Common.{◌≡◌, ◌≢◌, ◌⊎◌, inl, inr, ℕ, suc, zero, ◌<◌, Bool, true, false, List, [], ◌∷◌, ◌++◌, map, Option, Some, None, refl, sym, ap, ◌∙◌, subst, All}
-use Rattle.std.proofs.lemmas.List.Elements.{All-nil, All-cons, All-head, All-tail, All-append}
+use Rattle.std.proofs.Common.{◌≡◌, ◌⊎◌, inl, inr, ℕ, true, List, [], ◌∷◌, ◌++◌, Some, None, sym, subst}
 use Rattle.ix_base.specs.NcName.{are_allowed}
 use Rattle.ix_base.specs.Trees.{Bound, Head, Nodes, none, chars, elem, Tree}
-use Rattle.ix_base.specs.Sound.{IsSoundHead, IsApart, AreSound, IsSoundBinding}
+use Rattle.ix_base.specs.Sound.{IsSoundHead, AreSound}
 use Rattle.ix_base.specs.Scope.{outermost}
-use Rattle.page_tree.specs.Page.{AreRuns, AreBehind, AreBefore, Joins, HasTags, IsElement, Spells, SpellsPage}
+use Rattle.page_tree.specs.Page.{AreRuns, HasTags, Spells, SpellsPage}
 use Rattle.page_tree.specs.Tokens.{Tag, Token, start, empty, close, words, refer, section, declaration, doctype, silent}
 use Rattle.page_tree.proofs.AllowedText.{allowed-nil, allowed-append}
 use Rattle.page_tree.proofs.SoundScopes.{IsSoundScope, outermost-sound}
@@ -73,10 +72,10 @@ nodes-sound (elem head children rest) depth scope ts s f j =
     let i = in-tags e.tag children (Spells children e.below head.scope) k.front more.0 e.tags in
     let hs = head-sound scope e.tag head s i.tag_formed e.heads in
     (e.below, e.deep, hs, by_holds e.below (λ ts' f' h'. nodes-sound children e.below head.scope ts' (scope-sound head hs) f' h') i.holds, nodes-sound rest depth scope k.rest s more.1 k.second) where
-  by_holds : (below : ℕ) → ((ts' : List Token) → AreFormed ts' → Spells children below head.scope ts' → AreSound below children)
-      → (children ≡ none) ⊎ ((inner : List Token) × AreFormed inner × Spells children below head.scope inner) → AreSound below children
-  by_holds below ih (inl e) = subst (AreSound below) (sym e) tt
-  by_holds below ih (inr x) = ih x.0 x.1 x.2
+      by_holds : (below : ℕ) → ((ts' : List Token) → AreFormed ts' → Spells children below head.scope ts' → AreSound below children)
+          → (children ≡ none) ⊎ ((inner : List Token) × AreFormed inner × Spells children below head.scope inner) → AreSound below children
+      by_holds below ih (inl e) = subst (AreSound below) (sym e) tt
+      by_holds below ih (inr x) = ih x.0 x.1 x.2
 
 pub page-nodes-sound : (t : Tree) (depth : ℕ) (ts : List Token) → AreFormed ts → SpellsPage t depth ts → AreSound depth (elem t.head t.children none)
 page-nodes-sound t depth ts f j =
@@ -87,6 +86,6 @@ page-nodes-sound t depth ts f j =
     let i = in-tags e.tag t.children (Spells t.children e.below t.head.scope) k.front more.0 e.tags in
     let hs = head-sound outermost e.tag t.head outermost-sound i.tag_formed e.heads in
     (e.below, e.deep, hs, by_holds e.below i.holds (scope-sound t.head hs), tt) where
-  by_holds : (below : ℕ) → (t.children ≡ none) ⊎ ((inner : List Token) × AreFormed inner × Spells t.children below t.head.scope inner) → IsSoundScope t.head.scope → AreSound below t.children
-  by_holds below (inl e) s = subst (AreSound below) (sym e) tt
-  by_holds below (inr x) s = nodes-sound t.children below t.head.scope x.0 s x.1 x.2
+      by_holds : (below : ℕ) → (t.children ≡ none) ⊎ ((inner : List Token) × AreFormed inner × Spells t.children below t.head.scope inner) → IsSoundScope t.head.scope → AreSound below t.children
+      by_holds below (inl e) s = subst (AreSound below) (sym e) tt
+      by_holds below (inr x) s = nodes-sound t.children below t.head.scope x.0 s x.1 x.2

@@ -1,11 +1,11 @@
 -- What stands before a byte, and names.
-use Rattle.std.proofs.Common.{◌≡◌, ◌≢◌, ℕ, suc, ◌+◌, ◌-◌, ◌<◌, ◌≤◌, ◌==◌, nat_lt, nat_le, Bool, true, false, ◌&&◌, ◌||◌, not, ◌⊎◌, inl, inr, List, [], ◌∷◌, ◌++◌, length, take, drop, Option, Some, None, refl, sym, ap, ◌∙◌, arith, subst, append_assoc, append-nil, length-append, bytes_eq}
-use Rattle.std.specs.List.{list_all, list_any}
+use Rattle.std.proofs.Common.{◌≡◌, ℕ, ◌==◌, Bool, true, false, ◌&&◌, ◌||◌, ◌⊎◌, inl, inr, List, [], ◌∷◌, ◌++◌, length, take, drop, Option, Some, None, refl, sym, ap, ◌∙◌, subst, bytes_eq}
+use Rattle.std.specs.List.{list_all}
 use Rattle.std.proofs.lemmas.Bool.Decides.{Decides-eqb}
 use Rattle.std.proofs.lemmas.Slice.Eq.{bytes_eq-Decides}
 use Rattle.page_tree.specs.Constructs.{starts}
 use Rattle.page_tree.specs.Meanings.{before, from, given, ◌>>=◌}
-use Rattle.page_tree.proofs.TagLaws.{and_left, and_right, not_true, not_false}
+use Rattle.page_tree.proofs.TagLaws.{and_left, and_right}
 
 pub clash : {A : Type 0} (b : Bool) → b ≡ true → b ≡ false → A
 clash b t f = let z : true ≡ false = sym t ∙ f in absurd (cc)
@@ -13,9 +13,9 @@ clash b t f = let z : true ≡ false = sym t ∙ f in absurd (cc)
 -- a number is this one, or the test says that it isn't
 pub same_or : (c k : ℕ) → (c ≡ k) ⊎ ((c == k) ≡ false)
 same_or c k = elim (c == k) as (λ b. (c == k) ≡ b → (c ≡ k) ⊎ ((c == k) ≡ false)) [
-    | true ↦ λ e. inl ((Decides-eqb c k).0 e)
-    | false ↦ λ e. inr e
-  ] refl
+  | true ↦ λ e. inl ((Decides-eqb c k).0 e)
+  | false ↦ λ e. inr e
+] refl
 
 pub is_same : (k : ℕ) → (k == k) ≡ true
 is_same k = (Decides-eqb k k).1 refl
@@ -26,9 +26,9 @@ one_number c k e = (Decides-eqb c k).0 e
 -- a byte that passes a test that this one doesn't is another
 pub not_this : (f : ℕ → Bool) (k c : ℕ) → f k ≡ false → f c ≡ true → (c == k) ≡ false
 not_this f k c off on = elim (same_or c k) as (λ x. (c == k) ≡ false) [
-    | inl e ↦ clash (f k) (subst (λ x. f x ≡ true) e on) off
-    | inr n ↦ n
-  ]
+  | inl e ↦ clash (f k) (subst (λ x. f x ≡ true) e on) off
+  | inr n ↦ n
+]
 
 pub or_left : (a b : Bool) → (a || b) ≡ false → a ≡ false
 or_left true b h = absurd (cc)
@@ -68,23 +68,23 @@ from-span f (c ∷ p) x n s = rw (n.0) (from-span f p x n.1 s)
 pub before-from : (f : ℕ → Bool) (t : List ℕ) → t ≡ before f t ++ from f t
 before-from f [] = refl
 before-from f (c ∷ t) = elim (either (f c)) as (λ x. c ∷ t ≡ before f (c ∷ t) ++ from f (c ∷ t)) [
-    | inl y ↦ rw y refl
-    | inr n ↦ rw n (ap (λ x. c ∷ x) (before-from f t))
-  ]
+  | inl y ↦ rw y refl
+  | inr n ↦ rw n (ap (λ x. c ∷ x) (before-from f t))
+]
 
 pub before-none : (f : ℕ → Bool) (t : List ℕ) → NoneStops f (before f t)
 before-none f [] = tt
 before-none f (c ∷ t) = elim (either (f c)) as (λ x. NoneStops f (before f (c ∷ t))) [
-    | inl y ↦ rw y tt
-    | inr n ↦ rw n (n, before-none f t)
-  ]
+  | inl y ↦ rw y tt
+  | inr n ↦ rw n (n, before-none f t)
+]
 
 pub from-stops : (f : ℕ → Bool) (t : List ℕ) → Stops f (from f t)
 from-stops f [] = tt
 from-stops f (c ∷ t) = elim (either (f c)) as (λ x. Stops f (from f (c ∷ t))) [
-    | inl y ↦ rw y y
-    | inr n ↦ rw n (from-stops f t)
-  ]
+  | inl y ↦ rw y y
+  | inr n ↦ rw n (from-stops f t)
+]
 
 pub none-all : (f g : ℕ → Bool) → ((c : ℕ) → g c ≡ true → f c ≡ false) → (t : List ℕ) → list_all g t ≡ true → NoneStops f t
 none-all f g h [] a = tt
@@ -130,6 +130,6 @@ bytes-same m = (bytes_eq-Decides m m).1 refl
 
 pub bytes-apart : (m n : List ℕ) → (m ≡ n → ⊥) → bytes_eq m n ≡ false
 bytes-apart m n h = elim (either (bytes_eq m n)) as (λ x. bytes_eq m n ≡ false) [
-    | inl y ↦ absurd (h (bytes-one m n y))
-    | inr f ↦ f
-  ]
+  | inl y ↦ absurd (h (bytes-one m n y))
+  | inr f ↦ f
+]

@@ -1,15 +1,12 @@
 -- What spells a tree, the machine builds.
-use Rattle.std.proofs.Common.{◌≡◌, ◌≢◌, ℕ, ◌+◌, ◌<◌, ◌⊎◌, inl, inr, Bool, true, false, ◌&&◌, List, [], ◌∷◌, ◌++◌, length, map, Option, Some, None, option_and_then, refl, sym, ap, ◌∙◌, arith, append_assoc, append-nil, zero-add, bytes_eq}
-use Rattle.std.specs.List.{list_all}
-use Rattle.ix_base.specs.NcName.{is_white}
+use Rattle.std.proofs.Common.{◌≡◌, ◌≢◌, ℕ, ◌+◌, ◌<◌, ◌⊎◌, inl, inr, Bool, true, false, ◌&&◌, List, [], ◌∷◌, ◌++◌, length, map, Option, Some, None, option_and_then, refl, sym, ap, ◌∙◌, arith, append_assoc, append-nil, zero-add}
 use Rattle.ix_base.specs.Sound.{IsApart}
-use Rattle.ix_base.specs.Scope.{outermost}
 use Rattle.ix_base.specs.Trees.{Head, Bound, Nodes, none, chars, elem, Tree}
 use Rattle.page_tree.specs.Tokens.{Tag, Token, start, empty, close, words, refer, section, declaration, doctype, silent}
-use Rattle.page_tree.specs.Tags.{opened, head_of, is_fair}
-use Rattle.page_tree.specs.Page.{is_within, AreRuns, AreBefore, AreBehind, IsElement, Spells, SpellsPage}
+use Rattle.page_tree.specs.Tags.{opened}
+use Rattle.page_tree.specs.Page.{AreRuns, AreBefore, AreBehind, IsElement, Spells, SpellsPage}
 use Rattle.page_tree.specs.Break.{Outline, broken_by, inner_scope}
-use Rattle.page_tree.specs.Machine.{Frame, State, begin, outlined, outline_of, is_rooted, append, flush, flushed, scope_in, closed, moved, unless_broken, step, steps, built}
+use Rattle.page_tree.specs.Machine.{Frame, State, begin, outlined, outline_of, is_rooted, append, flush, flushed, scope_in, closed, moved, step, steps, built}
 use Rattle.page_tree.proofs.TagLaws.{kept_tag, opened-fair, same_name}
 
 abbrev pub st : List Frame → List ℕ → Option Tree → Bool → State

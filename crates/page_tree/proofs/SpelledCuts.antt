@@ -1,21 +1,19 @@
 -- A construct that is written from markup ends where it was written to end, in front of anything.
-use Rattle.std.proofs.Common.{◌≡◌, ◌≢◌, ◌⊎◌, inl, inr, ℕ, suc, zero, ◌+◌, ◌<◌, ◌≤◌, ◌==◌, Bool, true, false, ◌&&◌, ◌||◌, not, if◌then◌else◌, List, [], ◌∷◌, ◌++◌, length, take, drop, map, Option, Some, None, option_map, refl, sym, ap, ◌∙◌, subst, arith, append_assoc, append-nil, length-append, All, codes}
-use Rattle.std.specs.List.{list_all, list_any}
+use Rattle.std.proofs.Common.{◌≡◌, ℕ, suc, ◌+◌, ◌==◌, Bool, true, false, ◌&&◌, ◌||◌, List, [], ◌∷◌, ◌++◌, length, take, drop, Option, Some, None, option_map, refl, sym, ap, ◌∙◌, arith, append_assoc, length-append, All}
+use Rattle.std.specs.List.{list_all}
 use Rattle.std.proofs.lemmas.Bool.{and_parts}
 use Rattle.std.proofs.lemmas.List.Elements.{All-head, All-tail}
-use Rattle.std.proofs.lemmas.List.{take-append-le, drop-append-le, map-append}
 use Rattle.ix_base.specs.Escapes.{ae}
-use Rattle.ix_base.specs.NcName.{is_white, is_name_char, is_name_start}
+use Rattle.ix_base.specs.NcName.{is_name_char, is_name_start}
 use Rattle.ix_base.specs.Scope.{is_qname}
 use Rattle.ix_base.specs.Written as written
-use Rattle.page_tree.specs.Constructs.{Byte, values, offset_of, Construct, construct, starts, after, after_tag, text_size, reference_size, kind_of, size_by, size, whole_size, settled_or, is_run, behind, finished}
+use Rattle.page_tree.specs.Constructs.{Byte, values, offset_of, after, after_tag, kind_of, size_by, size, whole_size, settled_or, is_run, behind, finished}
 use Rattle.page_tree.specs.Forms.{has}
 use Rattle.page_tree.specs.Spellings.{HasName, put_first}
-use Rattle.page_tree.specs.declared.kind.Kind.{Kind}
-use Rattle.page_tree.specs.declared.kind.Kind.TheVariants.{StartTag, EndTag, Reference, Text}
+use Rattle.page_tree.specs.declared.kind.Kind.TheVariants.{StartTag, EndTag}
 use Rattle.page_tree.proofs.NameBytes.{is_name_byte, is_qname_byte, qname-bytes, qname-some, name-not}
 use Rattle.page_tree.proofs.PieceLaws.{finished-step}
-use Rattle.page_tree.proofs.SizeLaws.{more, more-zero, more-suc}
+use Rattle.page_tree.proofs.SizeLaws.{more, more-zero}
 use Rattle.page_tree.proofs.SpanLaws.{NoneStops, none-all, either, one_number, clash, take-front, drop-front}
 use Rattle.page_tree.proofs.SpelledTags.{unquoted, attrs-end}
 
@@ -63,15 +61,15 @@ attrs-skip (a ∷ attrs) end h =
     let ih = attrs-skip attrs end (All-tail HasName a attrs h) in
     let rest = written.attrs_text attrs end in
     let q : after_tag None (34 ∷ (ae a.value ++ 34 ∷ written.attrs_text attrs end)) ≡ more (suc (length (ae a.value) + 1 + length (written.attrs_text attrs []))) (after_tag None end) =
-      ap (option_map suc) (quoted-skip (ae a.value) (written.attrs_text attrs end) (unquoted a.value) ∙ ap (more (length (ae a.value) + 1)) ih ∙ more-more (length (ae a.value) + 1) (length (written.attrs_text attrs [])) (after_tag None end))
-      ∙ suc-more (length (ae a.value) + 1 + length (written.attrs_text attrs [])) (after_tag None end) in
+    ap (option_map suc) (quoted-skip (ae a.value) (written.attrs_text attrs end) (unquoted a.value) ∙ ap (more (length (ae a.value) + 1)) ih ∙ more-more (length (ae a.value) + 1) (length (written.attrs_text attrs [])) (after_tag None end))
+    ∙ suc-more (length (ae a.value) + 1 + length (written.attrs_text attrs [])) (after_tag None end) in
     let n = name-plain a.name (All-head HasName a attrs h) in
     ap (option_map suc) (plain-skip a.name (61 ∷ 34 ∷ (ae a.value ++ 34 ∷ written.attrs_text attrs end)) n ∙ ap (more (length a.name)) (ap (option_map suc) q ∙ suc-more (suc (length (ae a.value) + 1 + length (written.attrs_text attrs []))) (after_tag None end)))
     ∙ ap (option_map suc) (more-more (length a.name) (suc (suc (length (ae a.value) + 1 + length (written.attrs_text attrs [])))) (after_tag None end))
     ∙ suc-more (length a.name + suc (suc (length (ae a.value) + 1 + length (written.attrs_text attrs [])))) (after_tag None end)
     ∙ ap (λ k. more k (after_tag None end)) (sizes a.name (ae a.value) (written.attrs_text attrs [])) where
-  sizes : (n v t : List ℕ) → suc (length n + suc (suc (length v + 1 + length t))) ≡ length (32 ∷ (n ++ 61 ∷ 34 ∷ (v ++ 34 ∷ t)))
-  sizes n v t = omega (arith, length-append n (61 ∷ 34 ∷ (v ++ 34 ∷ t)), length-append v (34 ∷ t))
+      sizes : (n v t : List ℕ) → suc (length n + suc (suc (length v + 1 + length t))) ≡ length (32 ∷ (n ++ 61 ∷ 34 ∷ (v ++ 34 ∷ t)))
+      sizes n v t = omega (arith, length-append n (61 ∷ 34 ∷ (v ++ 34 ∷ t)), length-append v (34 ∷ t))
 
 -- a tag of this name
 tag-kind : (first : Bool) (name x : List ℕ) → is_qname name ≡ true → kind_of first (60 ∷ (name ++ x)) ≡ StartTag
@@ -95,8 +93,10 @@ start-size first name attrs rest n h = parts where
   whole : written.start_text name attrs ++ rest ≡ 60 ∷ (name ++ written.attrs_text attrs (62 ∷ rest))
   whole = ap (λ x. 60 ∷ x) (append_assoc name (written.attrs_text attrs (62 ∷ [])) rest) ∙ ap (λ x. 60 ∷ (name ++ (x ++ rest))) (attrs-end attrs (62 ∷ []))
       ∙ ap (λ x. 60 ∷ (name ++ x)) (append_assoc (written.attrs_text attrs []) (62 ∷ []) rest ∙ sym (attrs-end attrs (62 ∷ rest)))
+
   long : 1 + (length name + (length (written.attrs_text attrs []) + 1)) ≡ length (written.start_text name attrs)
   long = omega (arith, length-append name (written.attrs_text attrs (62 ∷ [])), ap length (attrs-end attrs (62 ∷ [])), length-append (written.attrs_text attrs []) (62 ∷ []))
+
   parts : (kind_of first (written.start_text name attrs ++ rest) ≡ StartTag) × (size first (written.start_text name attrs ++ rest) ≡ Some (length (written.start_text name attrs)))
   parts = (ap (kind_of first) whole ∙ tag-kind first name (written.attrs_text attrs (62 ∷ rest)) n, ap (size first) whole ∙ tag-size first name attrs (62 ∷ rest) 1 n h refl ∙ ap Some long)
 
@@ -106,8 +106,10 @@ leaf-size first name attrs rest n h = parts where
   whole : written.leaf_text name attrs ++ rest ≡ 60 ∷ (name ++ written.attrs_text attrs (47 ∷ 62 ∷ rest))
   whole = ap (λ x. 60 ∷ x) (append_assoc name (written.attrs_text attrs (47 ∷ 62 ∷ [])) rest) ∙ ap (λ x. 60 ∷ (name ++ (x ++ rest))) (attrs-end attrs (47 ∷ 62 ∷ []))
       ∙ ap (λ x. 60 ∷ (name ++ x)) (append_assoc (written.attrs_text attrs []) (47 ∷ 62 ∷ []) rest ∙ sym (attrs-end attrs (47 ∷ 62 ∷ rest)))
+
   long : 1 + (length name + (length (written.attrs_text attrs []) + 2)) ≡ length (written.leaf_text name attrs)
   long = omega (arith, length-append name (written.attrs_text attrs (47 ∷ 62 ∷ [])), ap length (attrs-end attrs (47 ∷ 62 ∷ [])), length-append (written.attrs_text attrs []) (47 ∷ 62 ∷ []))
+
   parts : (kind_of first (written.leaf_text name attrs ++ rest) ≡ StartTag) × (size first (written.leaf_text name attrs ++ rest) ≡ Some (length (written.leaf_text name attrs)))
   parts = (ap (kind_of first) whole ∙ tag-kind first name (written.attrs_text attrs (47 ∷ 62 ∷ rest)) n, ap (size first) whole ∙ tag-size first name attrs (47 ∷ 62 ∷ rest) 2 n h refl ∙ ap Some long)
 
@@ -132,9 +134,10 @@ cut-front ended first us vs e =
     finished-step ended first (us ++ vs) (length us) whole
     ∙ ap (λ x. put_first (record { kind = kind_of first (values (us ++ vs)); start = offset_of (us ++ vs); text = values x }) (finished ended false (drop (length us) (us ++ vs)))) (bytes-front us vs)
     ∙ ap (λ x. put_first (record { kind = kind_of first (values (us ++ vs)); start = offset_of (us ++ vs); text = values us }) (finished ended false x)) (bytes-behind us vs) where
-  bytes-front : (us vs : List Byte) → take (length us) (us ++ vs) ≡ us
-  bytes-front [] vs = refl
-  bytes-front (u ∷ us) vs = ap (λ x. u ∷ x) (bytes-front us vs)
-  bytes-behind : (us vs : List Byte) → drop (length us) (us ++ vs) ≡ vs
-  bytes-behind [] vs = refl
-  bytes-behind (u ∷ us) vs = bytes-behind us vs
+      bytes-front : (us vs : List Byte) → take (length us) (us ++ vs) ≡ us
+      bytes-front [] vs = refl
+      bytes-front (u ∷ us) vs = ap (λ x. u ∷ x) (bytes-front us vs)
+
+      bytes-behind : (us vs : List Byte) → drop (length us) (us ++ vs) ≡ vs
+      bytes-behind [] vs = refl
+      bytes-behind (u ∷ us) vs = bytes-behind us vs

@@ -1,12 +1,12 @@
 -- Texts and references that are written end where they were written to end, and mean what they say.
-use Rattle.std.proofs.Common.{◌≡◌, ℕ, suc, zero, ◌+◌, ◌-◌, ◌==◌, Bool, true, false, ◌&&◌, ◌||◌, if◌then◌else◌, List, [], ◌∷◌, ◌++◌, length, take, drop, Option, Some, None, option_map, refl, sym, ap, ◌∙◌, arith, append_assoc, length-append, bytes_eq, codes}
+use Rattle.std.proofs.Common.{◌≡◌, ℕ, suc, ◌+◌, ◌-◌, ◌==◌, Bool, true, false, ◌||◌, if◌then◌else◌, List, [], ◌∷◌, ◌++◌, length, take, drop, Some, None, option_map, refl, sym, ap, ◌∙◌, arith, append_assoc, length-append, bytes_eq, codes}
 use Rattle.std.specs.List.{list_any}
 use Rattle.ix_base.specs.NcName.{is_white}
 use Rattle.page_tree.specs.Constructs.{text_size, reference_size, kind_of, size_by, size, behind}
 use Rattle.page_tree.specs.Forms.{HasForm, holds}
 use Rattle.page_tree.specs.Spellings.{is_markup, ends_reference}
 use Rattle.page_tree.specs.Tokens.{words, refer}
-use Rattle.page_tree.specs.Values.{spelled, referred, referred_by}
+use Rattle.page_tree.specs.Values.{spelled, referred}
 use Rattle.page_tree.specs.declared.kind.Kind.TheVariants.{Reference, Text}
 use Rattle.page_tree.proofs.SpanLaws.{or_left, or_right, take-front, drop-front}
 
@@ -22,6 +22,7 @@ unfolding kind_of size_by
 text-size first c text next rest h n = (kind, ap (λ k. size_by k (c ∷ (text ++ next ∷ rest))) kind ∙ ap (behind 1) (text-goes text next rest (or_right (is_markup c) (list_any is_markup text) h) n) ∙ ap Some (omega arith)) where
   here : is_markup c ≡ false
   here = or_left (is_markup c) (list_any is_markup text) h
+
   kind : kind_of first (c ∷ (text ++ next ∷ rest)) ≡ Text
   kind = rw (or_left (c == 60) (c == 38) here, or_right (c == 60) (c == 38) here) refl
 
@@ -46,10 +47,12 @@ pub reference-means : (at : ℕ) (inner : List ℕ) → HasForm Reference at (38
 reference-means at inner = sym (ap (λ b. if b then spelled (referred (take (length (38 ∷ (inner ++ 59 ∷ [])) - 2) (inner ++ 59 ∷ []))) else None) last ∙ ap (λ t. spelled (referred t)) front) where
   size_ : length (38 ∷ (inner ++ 59 ∷ [])) ≡ length inner + 2
   size_ = omega (arith, length-append inner (59 ∷ []))
+
   last : bytes_eq (drop (length (38 ∷ (inner ++ 59 ∷ [])) - 1) (38 ∷ (inner ++ 59 ∷ []))) (59 ∷ []) ≡ true
   last =
       let k : length (38 ∷ (inner ++ 59 ∷ [])) - 1 ≡ suc (length inner) = let s = size_ in omega arith in
       ap (λ n. bytes_eq (drop n (38 ∷ (inner ++ 59 ∷ []))) (59 ∷ [])) k ∙ ap (λ t. bytes_eq t (59 ∷ [])) (drop-front inner (59 ∷ []))
+
   front : take (length (38 ∷ (inner ++ 59 ∷ [])) - 2) (inner ++ 59 ∷ []) ≡ inner
   front =
       let k : length (38 ∷ (inner ++ 59 ∷ [])) - 2 ≡ length inner = let s = size_ in omega arith in

@@ -1,22 +1,17 @@
 -- Tags that are written from markup are cut where they end, and mean what they were written from.
-use Rattle.std.proofs.Common.{◌≡◌, ◌≢◌, ◌⊎◌, inl, inr, ℕ, suc, zero, ◌+◌, ◌<◌, ◌==◌, Bool, true, false, ◌&&◌, ◌||◌, not, if◌then◌else◌, List, [], ◌∷◌, ◌++◌, length, take, drop, map, Option, Some, None, option_map, refl, sym, ap, ◌∙◌, subst, arith, append_assoc, append-nil, length-append, All, codes}
+use Rattle.std.proofs.Common.{◌≡◌, ℕ, ◌==◌, Bool, true, false, if◌then◌else◌, List, [], ◌∷◌, ◌++◌, map, Some, None, option_map, refl, sym, ap, ◌∙◌, append_assoc, append-nil, All, codes}
 use lib.Utf8.{encode}
-use Rattle.std.specs.List.{list_all, list_any}
-use Rattle.std.proofs.lemmas.Bool.{and_parts}
 use Rattle.std.proofs.lemmas.List.Elements.{All-head, All-tail}
-use Rattle.ix_base.specs.Escapes.{ae, ae_ref, te_ref, put}
-use Rattle.ix_base.specs.NcName.{is_white, is_allowed, is_name_char, is_name_start}
+use Rattle.ix_base.specs.Escapes.{ae, te_ref, put}
+use Rattle.ix_base.specs.NcName.{is_allowed}
 use Rattle.ix_base.specs.Scope.{is_qname}
 use Rattle.ix_base.specs.Written as written
-use Rattle.page_tree.specs.Constructs.{starts, after, after_tag, kind_of, size_by, size, behind}
-use Rattle.page_tree.specs.Forms.{has, AreWhite, IsEqual, IsAttribute, AreAttributes, IsInTag, HasForm}
+use Rattle.page_tree.specs.Forms.{has, AreAttributes, IsInTag, HasForm}
 use Rattle.page_tree.specs.Spellings.{HasName, read, tag_at}
-use Rattle.page_tree.specs.Tokens.{Attribute, Tag, start, empty, close}
+use Rattle.page_tree.specs.Tokens.{start, empty, close}
 use Rattle.page_tree.specs.Values.{meant_in, referred, value_of}
 use Rattle.page_tree.specs.declared.kind.Kind.TheVariants.{StartTag, EndTag}
-use Rattle.page_tree.proofs.NameBytes.{is_name_byte, is_qname_byte, qname-bytes, qname-some, name-not}
-use Rattle.page_tree.proofs.SizeLaws.{more, more-suc}
-use Rattle.page_tree.proofs.SpanLaws.{either, one_number, clash}
+use Rattle.page_tree.proofs.SpanLaws.{one_number}
 
 -- values: what stands in the quotes has no quote and no `<`, and means the value
 escaped : (c : ℕ) (cs : List ℕ) → (P : List ℕ → Type 0) → (c ≡ 34 → P (38 ∷ (codes "quot;" ++ ae cs))) → (c ≡ 9 → P (38 ∷ (codes "#9;" ++ ae cs))) → (c ≡ 10 → P (38 ∷ (codes "#10;" ++ ae cs)))
@@ -26,22 +21,28 @@ escaped c cs P quote tab feed amp lt gt cr plain = by1 (c == 34) refl where
   by7 : (b : Bool) → (c == 13) ≡ b → (c == 34) ≡ false → (c == 9) ≡ false → (c == 10) ≡ false → (c == 38) ≡ false → (c == 60) ≡ false → P (put (if b then Some (codes "#13;") else None) c (ae cs))
   by7 true e h1 h2 h3 h4 h5 = cr (one_number c 13 e)
   by7 false e h1 h2 h3 h4 h5 = plain h1 h2 h3 h4 h5
+
   by6 : (b : Bool) → (c == 62) ≡ b → (c == 34) ≡ false → (c == 9) ≡ false → (c == 10) ≡ false → (c == 38) ≡ false → (c == 60) ≡ false → P (put (if b then Some (codes "gt;") else (if c == 13 then Some (codes "#13;") else None)) c (ae cs))
   by6 true e h1 h2 h3 h4 h5 = gt (one_number c 62 e)
   by6 false e h1 h2 h3 h4 h5 = by7 (c == 13) refl h1 h2 h3 h4 h5
+
   by5 : (b : Bool) → (c == 60) ≡ b → (c == 34) ≡ false → (c == 9) ≡ false → (c == 10) ≡ false → (c == 38) ≡ false → P (put (if b then Some (codes "lt;") else (if c == 62 then Some (codes "gt;") else (if c == 13 then Some (codes "#13;") else None))) c (ae cs))
   by5 true e h1 h2 h3 h4 = lt (one_number c 60 e)
   by5 false e h1 h2 h3 h4 = by6 (c == 62) refl h1 h2 h3 h4 e
+
   by4 : (b : Bool) → (c == 38) ≡ b → (c == 34) ≡ false → (c == 9) ≡ false → (c == 10) ≡ false
       → P (put (if b then Some (codes "amp;") else (if c == 60 then Some (codes "lt;") else (if c == 62 then Some (codes "gt;") else (if c == 13 then Some (codes "#13;") else None)))) c (ae cs))
   by4 true e h1 h2 h3 = amp (one_number c 38 e)
   by4 false e h1 h2 h3 = by5 (c == 60) refl h1 h2 h3 e
+
   by3 : (b : Bool) → (c == 10) ≡ b → (c == 34) ≡ false → (c == 9) ≡ false → P (put (if b then Some (codes "#10;") else te_ref c) c (ae cs))
   by3 true e h1 h2 = feed (one_number c 10 e)
   by3 false e h1 h2 = by4 (c == 38) refl h1 h2 e
+
   by2 : (b : Bool) → (c == 9) ≡ b → (c == 34) ≡ false → P (put (if b then Some (codes "#9;") else (if c == 10 then Some (codes "#10;") else te_ref c)) c (ae cs))
   by2 true e h1 = tab (one_number c 9 e)
   by2 false e h1 = by3 (c == 10) refl h1 e
+
   by1 : (b : Bool) → (c == 34) ≡ b → P (put (if b then Some (codes "quot;") else (if c == 9 then Some (codes "#9;") else (if c == 10 then Some (codes "#10;") else te_ref c))) c (ae cs))
   by1 true e = quote (one_number c 34 e)
   by1 false e = by2 (c == 9) refl e
@@ -64,14 +65,14 @@ unfolding meant_in referred is_allowed encode
 value-means [] = refl
 value-means (c ∷ cs) = let ih = value-means cs in
     escaped c cs (λ t. meant_in None t ≡ Some (c ∷ cs))
-      (λ e. ap (option_map (λ more. 34 ∷ more)) ih ∙ one-char c 34 cs e)
-      (λ e. ap (option_map (λ more. 9 ∷ more)) ih ∙ one-char c 9 cs e)
-      (λ e. ap (option_map (λ more. 10 ∷ more)) ih ∙ one-char c 10 cs e)
-      (λ e. ap (option_map (λ more. 38 ∷ more)) ih ∙ one-char c 38 cs e)
-      (λ e. ap (option_map (λ more. 60 ∷ more)) ih ∙ one-char c 60 cs e)
-      (λ e. ap (option_map (λ more. 62 ∷ more)) ih ∙ one-char c 62 cs e)
-      (λ e. ap (option_map (λ more. 13 ∷ more)) ih ∙ one-char c 13 cs e)
-      (λ h1 h2 h3 h4 h5. rw (h4, h2, h3) (ap (option_map (λ more. c ∷ more)) ih))
+    (λ e. ap (option_map (λ more. 34 ∷ more)) ih ∙ one-char c 34 cs e)
+    (λ e. ap (option_map (λ more. 9 ∷ more)) ih ∙ one-char c 9 cs e)
+    (λ e. ap (option_map (λ more. 10 ∷ more)) ih ∙ one-char c 10 cs e)
+    (λ e. ap (option_map (λ more. 38 ∷ more)) ih ∙ one-char c 38 cs e)
+    (λ e. ap (option_map (λ more. 60 ∷ more)) ih ∙ one-char c 60 cs e)
+    (λ e. ap (option_map (λ more. 62 ∷ more)) ih ∙ one-char c 62 cs e)
+    (λ e. ap (option_map (λ more. 13 ∷ more)) ih ∙ one-char c 13 cs e)
+    (λ h1 h2 h3 h4 h5. rw (h4, h2, h3) (ap (option_map (λ more. c ∷ more)) ih))
 
 -- attributes
 pub attrs-end : (attrs : List written.Attribute) (end : List ℕ) → written.attrs_text attrs end ≡ written.attrs_text attrs [] ++ end
@@ -84,19 +85,19 @@ attrs-end (a ∷ more') end =
 attrs-form : (attrs : List written.Attribute) → All HasName attrs → AreAttributes (map read attrs) (written.attrs_text attrs [])
 attrs-form [] h = refl
 attrs-form (a ∷ more') h = record {
-    white = 32 ∷ [];
-    behind = 61 ∷ 34 ∷ (ae a.value ++ 34 ∷ written.attrs_text more' []);
-    raw = ae a.value;
-    more = written.attrs_text more' [];
-    splits = refl;
-    apart = λ e. absurd (cc);
-    are_white = refl;
-    name = All-head HasName a more' h;
-    equal = record { front = []; back = []; quote = 34; splits = refl; front_white = refl; back_white = refl; quotes = refl; unquoted = unquoted a.value };
-    closed = unopened a.value;
-    value = sym (value-means a.value);
-    rest = attrs-form more' (All-tail HasName a more' h);
-  }
+  white = 32 ∷ [];
+  behind = 61 ∷ 34 ∷ (ae a.value ++ 34 ∷ written.attrs_text more' []);
+  raw = ae a.value;
+  more = written.attrs_text more' [];
+  splits = refl;
+  apart = λ e. absurd (cc);
+  are_white = refl;
+  name = All-head HasName a more' h;
+  equal = record { front = []; back = []; quote = 34; splits = refl; front_white = refl; back_white = refl; quotes = refl; unquoted = unquoted a.value };
+  closed = unopened a.value;
+  value = sym (value-means a.value);
+  rest = attrs-form more' (All-tail HasName a more' h);
+}
 
 in-tag : (at : ℕ) (name : List ℕ) (attrs : List written.Attribute) → is_qname name ≡ true → All HasName attrs → IsInTag (tag_at at name attrs) (name ++ written.attrs_text attrs [])
 in-tag at name attrs n h = record { rest = written.attrs_text attrs []; splits = refl; name = n; attributes = attrs-form attrs h }

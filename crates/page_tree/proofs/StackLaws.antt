@@ -1,9 +1,9 @@
 -- The innermost open element is the last of the stack.
-use Rattle.std.proofs.Common.{◌≡◌, ◌≢◌, ℕ, ◌+◌, ◌-◌, ◌<◌, ◌≤◌, Bool, List, [], ◌∷◌, ◌++◌, length, get_or, take, refl, sym, ap, ◌∙◌, arith, Option, Some, None}
+use Rattle.std.proofs.Common.{◌≡◌, ℕ, ◌+◌, Bool, List, [], ◌∷◌, ◌++◌, length, get_or, take, refl, sym, ap, ◌∙◌, arith, Option}
 use Rattle.std.proofs.lemmas.List.{take_more}
 use Rattle.std.proofs.Math.Seq.{take-length}
 use Rattle.ix_base.specs.Trees.{Head, Nodes, none, elem, Tree}
-use Rattle.page_tree.specs.Machine.{Frame, State, append, flush, flushed, closed, scope_in, running}
+use Rattle.page_tree.specs.Machine.{Frame, append, flush, flushed, closed, scope_in}
 use Rattle.page_tree.specs.Stacks.{frame, frames_onto, frames_of}
 use Rattle.page_tree.specs.declared.stack.Open.{Open}
 

@@ -1,5 +1,5 @@
 -- What stands in a tag: its form, and how it is read.
-use Rattle.std.proofs.Common.{◌≡◌, ◌≢◌, ℕ, suc, zero, ◌+◌, ◌<◌, ◌≤◌, ◌==◌, nat_lt, Bool, true, false, ◌&&◌, ◌||◌, not, if◌then◌else◌, ◌⊎◌, inl, inr, List, [], ◌∷◌, ◌++◌, length, take, drop, Option, Some, None, refl, sym, ap, ◌∙◌, arith, subst, append_assoc, append-nil, length-append, bytes_eq, codes}
+use Rattle.std.proofs.Common.{◌≡◌, ◌≢◌, ℕ, suc, zero, ◌+◌, ◌<◌, ◌==◌, nat_lt, Bool, true, false, ◌&&◌, ◌||◌, not, if◌then◌else◌, ◌⊎◌, inl, inr, List, [], ◌∷◌, ◌++◌, length, drop, Option, Some, None, refl, sym, ap, ◌∙◌, arith, subst, append_assoc, append-nil, length-append, bytes_eq, codes}
 use Rattle.std.specs.List.{list_all, list_any}
 use Rattle.std.proofs.lemmas.Bool.{lt-ltb, ltb-true, and_parts, or_cases, not-true, not-false}
 use Rattle.ix_base.specs.NcName.{is_white}
@@ -7,9 +7,9 @@ use Rattle.ix_base.specs.Scope.{is_qname}
 use Rattle.page_tree.specs.Constructs.{starts}
 use Rattle.page_tree.specs.Forms.{AreWhite, has, is_quote, IsEqual, IsAttribute, AreAttributes, IsInTag}
 use Rattle.page_tree.specs.Meanings.{given, ◌>>=◌, before, from, is_dark, behind_white, is_white_text, behind, quoted, equalled, ends_name, ends_tag_name, attribute_at, slash, attributes_in, tag, start_tag}
-use Rattle.page_tree.specs.Tokens.{Attribute, Tag, Token, start, empty}
+use Rattle.page_tree.specs.Tokens.{Attribute, Tag, Token}
 use Rattle.page_tree.specs.Values.{value_of}
-use Rattle.page_tree.proofs.SpanLaws.{clash, is_same, one_number, or_left, or_right, either, and_both, NoneStops, Stops, before-span, from-span, before-from, before-none, from-stops, none-all, all-none, bind-some, given-some, starts-front, drop-front, bytes-one, bytes-same, bytes-apart}
+use Rattle.page_tree.proofs.SpanLaws.{clash, is_same, one_number, or_left, or_right, either, NoneStops, Stops, before-span, from-span, before-from, before-none, none-all, all-none, bind-some, given-some, starts-front, bytes-one, bytes-apart}
 use Rattle.page_tree.proofs.NameBytes.{is_name_byte, is_qname_byte, qname-bytes, qname-some, name-not-white, name-not}
 
 pub any-none : (f : ℕ → Bool) (t : List ℕ) → list_any f t ≡ false → NoneStops f t
@@ -51,37 +51,37 @@ equal-in raw more text e =
 
 pub equal-longer : (raw more text tail : List ℕ) → IsEqual raw more text → IsEqual raw (more ++ tail) (text ++ tail)
 equal-longer raw more text tail e = record {
-    front = e.front;
-    back = e.back;
-    quote = e.quote;
-    splits = ap (λ x. x ++ tail) e.splits ∙ append_assoc e.front (61 ∷ (e.back ++ e.quote ∷ (raw ++ e.quote ∷ more))) tail
+  front = e.front;
+  back = e.back;
+  quote = e.quote;
+  splits = ap (λ x. x ++ tail) e.splits ∙ append_assoc e.front (61 ∷ (e.back ++ e.quote ∷ (raw ++ e.quote ∷ more))) tail
       ∙ ap (λ x. e.front ++ 61 ∷ x) (append_assoc e.back (e.quote ∷ (raw ++ e.quote ∷ more)) tail)
       ∙ ap (λ x. e.front ++ 61 ∷ (e.back ++ e.quote ∷ x)) (append_assoc raw (e.quote ∷ more) tail);
-    front_white = e.front_white;
-    back_white = e.back_white;
-    quotes = e.quotes;
-    unquoted = e.unquoted;
-  }
+  front_white = e.front_white;
+  back_white = e.back_white;
+  quotes = e.quotes;
+  unquoted = e.unquoted;
+}
 
 -- what ends behind a quoted value
 pub shorten : (raw more tail text : List ℕ) → IsEqual raw (more ++ tail) text → (front : List ℕ) × (text ≡ front ++ tail) × IsEqual raw more front
 shorten raw more tail text e = (
-    e.front ++ 61 ∷ (e.back ++ e.quote ∷ (raw ++ e.quote ∷ more)),
-    e.splits
-    ∙ ap (λ x. e.front ++ 61 ∷ (e.back ++ e.quote ∷ x)) (sym (append_assoc raw (e.quote ∷ more) tail))
-    ∙ ap (λ x. e.front ++ 61 ∷ x) (sym (append_assoc e.back (e.quote ∷ (raw ++ e.quote ∷ more)) tail))
-    ∙ sym (append_assoc e.front (61 ∷ (e.back ++ e.quote ∷ (raw ++ e.quote ∷ more))) tail),
-    record {
-      front = e.front;
-      back = e.back;
-      quote = e.quote;
-      splits = refl;
-      front_white = e.front_white;
-      back_white = e.back_white;
-      quotes = e.quotes;
-      unquoted = e.unquoted;
-    },
-  )
+  e.front ++ 61 ∷ (e.back ++ e.quote ∷ (raw ++ e.quote ∷ more)),
+  e.splits
+      ∙ ap (λ x. e.front ++ 61 ∷ (e.back ++ e.quote ∷ x)) (sym (append_assoc raw (e.quote ∷ more) tail))
+      ∙ ap (λ x. e.front ++ 61 ∷ x) (sym (append_assoc e.back (e.quote ∷ (raw ++ e.quote ∷ more)) tail))
+      ∙ sym (append_assoc e.front (61 ∷ (e.back ++ e.quote ∷ (raw ++ e.quote ∷ more))) tail),
+  record {
+    front = e.front;
+    back = e.back;
+    quote = e.quote;
+    splits = refl;
+    front_white = e.front_white;
+    back_white = e.back_white;
+    quotes = e.quotes;
+    unquoted = e.unquoted;
+  },
+)
 
 -- what a quoted value was read from
 record IsQuoted (raw more text : List ℕ) : Type 0 where
@@ -93,9 +93,9 @@ record IsQuoted (raw more text : List ℕ) : Type 0 where
 has-from : (q : ℕ) (t : List ℕ) → has q t ≡ true → from (λ c. c == q) t ≡ q ∷ drop 1 (from (λ c. c == q) t)
 has-from q [] h = absurd (cc)
 has-from q (c ∷ t) h = elim (either (c == q)) as (λ x. from (λ c. c == q) (c ∷ t) ≡ q ∷ drop 1 (from (λ c. c == q) (c ∷ t))) [
-    | inl y ↦ rw y (ap (λ x. x ∷ t) (one_number c q y))
-    | inr n ↦ rw n (has-from q t (rw n at h))
-  ]
+  | inl y ↦ rw y (ap (λ x. x ∷ t) (one_number c q y))
+  | inr n ↦ rw n (has-from q t (rw n at h))
+]
 
 quoted-out : (text : List ℕ) (p : List ℕ × List ℕ) → quoted text ≡ Some p → IsQuoted p.0 p.1 text
 quoted-out [] p e = absurd (cc)
@@ -231,8 +231,14 @@ module _ (n : ℕ) (a : Attribute) (more : List Attribute) (text : List ℕ) (s 
       let e : length (text ++ end_of s) ≡ length (h.white ++ (a.name ++ (h.behind ++ end_of s))) = ap length whole in
       let m = h.more ++ end_of s in
       let b : length (h.behind ++ end_of s) ≡ length (h.equal.front ++ 61 ∷ (h.equal.back ++ h.equal.quote ∷ (h.raw ++ h.equal.quote ∷ (h.more ++ end_of s)))) = ap length (equal-longer h.raw h.more h.behind (end_of s) h.equal).splits in
-      omega (arith, length-append h.white (a.name ++ (h.behind ++ end_of s)), length-append a.name (h.behind ++ end_of s),
-      length-append h.equal.front (61 ∷ (h.equal.back ++ h.equal.quote ∷ (h.raw ++ h.equal.quote ∷ m))), length-append h.equal.back (h.equal.quote ∷ (h.raw ++ h.equal.quote ∷ m)), length-append h.raw (h.equal.quote ∷ m))
+      omega (
+        arith,
+        length-append h.white (a.name ++ (h.behind ++ end_of s)),
+        length-append a.name (h.behind ++ end_of s),
+        length-append h.equal.front (61 ∷ (h.equal.back ++ h.equal.quote ∷ (h.raw ++ h.equal.quote ∷ m))),
+        length-append h.equal.back (h.equal.quote ∷ (h.raw ++ h.equal.quote ∷ m)),
+        length-append h.raw (h.equal.quote ∷ m),
+      )
 
   attributes-more : attributes_in n (h.more ++ end_of s) ≡ Some (more, s) → attributes_in (suc n) (text ++ end_of s) ≡ Some (a ∷ more, s)
   unfolding attributes_in
@@ -263,8 +269,7 @@ attribute-out text a more e =
     let pair = some-same (record { name = before ends_name text; value = value_of v.0.0 }, v.0.1) (a, more) c.1 in
     let same : record { name = before ends_name text; value = value_of v.0.0 } ≡ a = ap (λ p. p.0) pair in
     let rest : v.0.1 ≡ more = ap (λ p. p.1) pair in
-    let name : before ends_name text ≡ a.name = ap (λ x. x.name) same in
-    (
+    let name : before ends_name text ≡ a.name = ap (λ x. x.name) same in (
       v.0.0,
       from ends_name text,
       before-from ends_name text ∙ ap (λ x. x ++ from ends_name text) name,
@@ -300,8 +305,8 @@ by_branch n text as' s ih q =
     subst (λ p. WereRead p.0 p.1 text) pair (record {
       front = before is_dark text ++ (f.0.0.name ++ split.0);
       splits = before-from is_dark text
-        ∙ ap (λ x. before is_dark text ++ x) (one.2 ∙ ap (λ x. f.0.0.name ++ x) split.1 ∙ sym (append_assoc f.0.0.name split.0 (end_of m.0.1)))
-        ∙ sym (append_assoc (before is_dark text) (f.0.0.name ++ split.0) (end_of m.0.1));
+          ∙ ap (λ x. before is_dark text ++ x) (one.2 ∙ ap (λ x. f.0.0.name ++ x) split.1 ∙ sym (append_assoc f.0.0.name split.0 (end_of m.0.1)))
+          ∙ sym (append_assoc (before is_dark text) (f.0.0.name ++ split.0) (end_of m.0.1));
       attributes = record {
         white = before is_dark text;
         behind = split.0;
@@ -330,6 +335,7 @@ attributes-out (suc n) text as' s e = by_white (λ q. by_branch n text as' s (at
         attributes = dark-white (before is_dark text) (before-none is_dark text);
       })
   by_slash k false t q = k q
+
   by_white : (Branch n text ≡ Some (as', s) → WereRead as' s text) → (b : Bool) → is_white_text text ≡ b → (if b then Some ([], false) else (if bytes_eq (behind_white text) slash then Some ([], true) else Branch n text)) ≡ Some (as', s) → WereRead as' s text
   by_white k true t q =
       subst (λ p. WereRead p.0 p.1 text) (some-same ([], false) (as', s) q) (record { front = text; splits = sym (append-nil text); attributes = t })
@@ -350,10 +356,12 @@ tag-in at t inner s i o =
     white-stops : (p x : List ℕ) → p ≢ [] → list_all is_white p ≡ true → Stops ends_tag_name (p ++ x)
     white-stops [] x a h = absurd (a refl)
     white-stops (c ∷ p) x a h = rw (and_parts (is_white c) (list_all is_white p) h).0 refl
+
     end-stops : (p : List ℕ) (z : Bool) → list_all is_white p ≡ true → Stops ends_tag_name (p ++ end_of z)
     end-stops [] false h = tt
     end-stops [] true h = refl
     end-stops (c ∷ p) z h = rw (and_parts (is_white c) (list_all is_white p) h).0 refl
+
     tag-stops : (as' : List Attribute) (rest : List ℕ) (z : Bool) → AreAttributes as' rest → Stops ends_tag_name (rest ++ end_of z)
     tag-stops [] rest z h = end-stops rest z h
     tag-stops (a ∷ more) rest z h = subst (Stops ends_tag_name) (sym (ap (λ x. x ++ end_of z) h.splits ∙ append_assoc h.white (a.name ++ h.behind) (end_of z))) (white-stops h.white ((a.name ++ h.behind) ++ end_of z) h.apart h.are_white)
@@ -370,10 +378,14 @@ tag-out at inner token e =
     let n = given-some (is_qname (before ends_tag_name inner)) _ token e in
     let a = bind-some (attributes_in (length inner + 1) (from ends_tag_name inner)) _ token n.1 in
     let w = attributes-out (length inner + 1) (from ends_tag_name inner) a.0.0 a.0.1 a.1 in
-    let t : Tag = record { offset = at; name = before ends_tag_name inner; attrs = a.0.0 } in
-    (a.0.1, t, sym (some-same (tag a.0.1 t) token a.2), record {
-      front = before ends_tag_name inner ++ w.front;
-      splits = before-from ends_tag_name inner ∙ ap (λ x. before ends_tag_name inner ++ x) w.splits ∙ sym (append_assoc (before ends_tag_name inner) w.front (end_of a.0.1));
-      holds = record { rest = w.front; splits = refl; name = n.0; attributes = w.attributes };
-      offset = refl;
-    })
+    let t : Tag = record { offset = at; name = before ends_tag_name inner; attrs = a.0.0 } in (
+      a.0.1,
+      t,
+      sym (some-same (tag a.0.1 t) token a.2),
+      record {
+        front = before ends_tag_name inner ++ w.front;
+        splits = before-from ends_tag_name inner ∙ ap (λ x. before ends_tag_name inner ++ x) w.splits ∙ sym (append_assoc (before ends_tag_name inner) w.front (end_of a.0.1));
+        holds = record { rest = w.front; splits = refl; name = n.0; attributes = w.attributes };
+        offset = refl;
+      },
+    )

@@ -1,5 +1,5 @@
 -- When a tag breaks nothing.
-use Rattle.std.proofs.Common.{◌≡◌, ℕ, ◌<◌, nat_lt, Bool, true, false, ◌&&◌, ◌||◌, not, if◌then◌else◌, List, [], ◌∷◌, length, map, Option, Some, None, refl, sym, ap, ◌∙◌, bytes_eq}
+use Rattle.std.proofs.Common.{◌≡◌, ℕ, ◌<◌, nat_lt, Bool, true, false, ◌&&◌, not, if◌then◌else◌, List, length, Option, Some, None, refl, bytes_eq}
 use Rattle.std.proofs.lemmas.Bool.{lt-ltb, ltb-true}
 use Rattle.std.proofs.lemmas.Slice.Eq.{bytes_eq-Decides}
 use Rattle.ix_base.specs.Trees.{Bound, Head}
@@ -59,9 +59,9 @@ kept_tag n o t k =
 pub opened-fair : (scope : List Bound) (t : Tag) (h : Head) → opened scope t ≡ Some h → (is_fair scope t ≡ true) × (head_of scope t ≡ h)
 unfolding opened
 opened-fair scope t h = elim (is_fair scope t) as (λ b. is_fair scope t ≡ b → (if b then Some (head_of scope t) else None) ≡ Some h → (is_fair scope t ≡ true) × (head_of scope t ≡ h)) [
-    | true ↦ λ f. λ e. (f, cc)
-    | false ↦ λ f. λ e. absurd (cc)
-  ] refl
+  | true ↦ λ f. λ e. (f, cc)
+  | false ↦ λ f. λ e. absurd (cc)
+] refl
 
 pub fair-opened : (scope : List Bound) (t : Tag) → is_fair scope t ≡ true → opened scope t ≡ Some (head_of scope t)
 unfolding opened

@@ -1,19 +1,15 @@
 -- The walk that finds the first break goes as the machine goes.
-use Rattle.std.proofs.Common.{◌≡◌, ℕ, Bool, true, false, ◌&&◌, not, List, [], ◌∷◌, ◌++◌, length, map, Option, Some, None, option_and_then, Result, Ok, Err, refl, sym, ap, ◌∙◌, subst, ◌≢◌}
-use Rattle.ix_base.specs.Trees.{Tree, Nodes, none}
-use Rattle.ix_base.specs.declared.rule.Rule.{Rule}
-use Rattle.ix_base.specs.declared.rule.Rule.TheVariants.{W4}
+use Rattle.std.proofs.Common.{◌≡◌, ℕ, Bool, List, [], ◌∷◌, length, map, Option, Some, None, option_and_then, Result, Ok, Err, refl, sym, ap, ◌∙◌}
+use Rattle.ix_base.specs.Trees.{Tree}
 use Rattle.page_text.specs.declared.TextFault.{TextFault}
 use Rattle.page_text.specs.declared.TextFault.TheVariants.{BadBytes, BadChar, NoMemory}
 use Rattle.page_text.specs.Characters.{stop}
 use Rattle.page_tree.specs.Constructs.{Construct, Byte, cut}
 use Rattle.page_tree.specs.Meanings.{meant}
-use Rattle.page_tree.specs.Page.{SpellsPage}
-use Rattle.page_tree.specs.Tags.{scope_of, head_of}
-use Rattle.page_tree.specs.Tokens.{Tag, Token, start, empty, close, words, refer, section, declaration, doctype, silent}
-use Rattle.page_tree.specs.Break.{Outline, Opened, Fault, fault, blank, is_outside, inner_scope, broken_by, outline_behind, walk_past, walk_on, walked, ended, behind_constructs, verdict, w}
-use Rattle.page_tree.specs.Machine.{Frame, State, begin, outlined, outline_of, is_rooted, append, flush, flushed, scope_in, closed, moved, unless_broken, step, steps, whole, built}
-use Rattle.page_tree.proofs.Spelled.{st, scope-outlined, page_built}
+use Rattle.page_tree.specs.Tokens.{Token, start, empty, close, words, refer, section, declaration, doctype, silent}
+use Rattle.page_tree.specs.Break.{Outline, Fault, blank, broken_by, outline_behind, walk_past, walk_on, walked, ended, verdict, w}
+use Rattle.page_tree.specs.Machine.{Frame, State, begin, outlined, outline_of, flushed, moved, unless_broken, step, steps, whole, built}
+use Rattle.page_tree.proofs.Spelled.{st}
 use Rattle.page_tree.proofs.Building.{page_of_built, and-then-some}
 
 -- each construct means the token, as the reading finds it
@@ -61,21 +57,21 @@ pub walked-goes : (n : ℕ) (cs : List Construct) (s : State) (o : Outline) → 
 unfolding walked
 walked-goes n [] s o e = record { tokens = []; meant = tt; next = s; steps = refl; outlines = cc }
 walked-goes n (c ∷ cs) s o e = (elim (meant c) as (λ m. meant c ≡ m → walk_on n (outline_of s) c (λ p. walked n p cs) m ≡ Ok o → Goes n s (c ∷ cs) o) [
-    | None ↦ λ q. λ h. absurd (cc)
-    | Some t ↦ λ q. λ h. (elim (broken_by n (outline_of s) t) as (λ r. broken_by n (outline_of s) t ≡ r → walk_past r c (walked n (outline_behind (outline_of s) t) cs) ≡ Ok o → Goes n s (c ∷ cs) o) [
-      | Some r ↦ λ b. λ g. absurd (cc)
-      | None ↦ λ b. λ g.
-          let same = outline-moved n s.frames s.text s.root s.doctyped t b in
-          let rest = walked-goes n cs (moved s t) o (ap (λ p. walked n p cs) same ∙ g) in
-          record {
-            tokens = t ∷ rest.tokens;
-            meant = (q, rest.meant);
-            next = rest.next;
-            steps = ap (λ r. option_and_then (λ m. steps n m rest.tokens) (unless_broken r (moved s t))) b ∙ rest.steps;
-            outlines = rest.outlines;
-          }
-    ]) refl h
-  ]) refl e
+  | None ↦ λ q. λ h. absurd (cc)
+  | Some t ↦ λ q. λ h. (elim (broken_by n (outline_of s) t) as (λ r. broken_by n (outline_of s) t ≡ r → walk_past r c (walked n (outline_behind (outline_of s) t) cs) ≡ Ok o → Goes n s (c ∷ cs) o) [
+    | Some r ↦ λ b. λ g. absurd (cc)
+    | None ↦ λ b. λ g.
+        let same = outline-moved n s.frames s.text s.root s.doctyped t b in
+        let rest = walked-goes n cs (moved s t) o (ap (λ p. walked n p cs) same ∙ g) in
+        record {
+          tokens = t ∷ rest.tokens;
+          meant = (q, rest.meant);
+          next = rest.next;
+          steps = ap (λ r. option_and_then (λ m. steps n m rest.tokens) (unless_broken r (moved s t))) b ∙ rest.steps;
+          outlines = rest.outlines;
+        }
+  ]) refl h
+]) refl e
 
 pub goes-walked : (n : ℕ) (cs : List Construct) (ts : List Token) (s next : State) → AllMeant cs ts → steps n s ts ≡ Some next → walked n (outline_of s) cs ≡ Ok (outline_of next)
 unfolding walked

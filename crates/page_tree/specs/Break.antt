@@ -1,5 +1,5 @@
 -- The first break of a page: the point that is broken first, with the lowest rule.
-use Rattle.std.specs.Prelude.{ℕ, ◌==◌, nat_lt, Bool, true, false, ◌&&◌, ◌||◌, not, List, [], ◌∷◌, length, Option, Some, None, is_none, Result, Ok, Err, if◌then◌else◌, bytes_eq}
+use Rattle.std.specs.Prelude.{ℕ, nat_lt, Bool, true, false, ◌&&◌, ◌||◌, not, List, [], ◌∷◌, length, Option, Some, None, is_none, Result, Ok, Err, if◌then◌else◌, bytes_eq}
 use Rattle.std.specs.List.{list_all}
 use Rattle.ix_base.specs.NcName.{is_white}
 use Rattle.ix_base.specs.Trees.{Bound}
@@ -9,7 +9,7 @@ use Rattle.ix_base.specs.declared.rule.Rule.TheVariants.{W1, W2, W3, W4, W5, W6,
 use Rattle.page_text.specs.Characters.{stop}
 use Rattle.page_text.specs.declared.TextFault.{TextFault}
 use Rattle.page_text.specs.declared.TextFault.TheVariants.{BadBytes, BadChar, NoMemory}
-use Rattle.page_tree.specs.Constructs.{Construct, Byte, Cut, cut}
+use Rattle.page_tree.specs.Constructs.{Construct, Byte, cut}
 use Rattle.page_tree.specs.Meanings.{meant}
 use Rattle.page_tree.specs.Page.{is_within}
 use Rattle.page_tree.specs.Tags.{scope_of, repeats, misrefers, misnames}

@@ -1,6 +1,6 @@
 -- The forms of constructs (XML 1.0 productions 15 to 24, 28 and 40 to 44; Namespaces in XML 1.0 productions 7 to 15), and
 -- what a construct of its form means.
-use Rattle.std.specs.Prelude.{◌≡◌, ◌≢◌, ◌⊎◌, ℕ, ◌==◌, Bool, true, false, ◌&&◌, ◌||◌, List, [], ◌∷◌, ◌++◌, map, Option, Some, None, if◌then◌else◌, bytes_eq, codes}
+use Rattle.std.specs.Prelude.{◌≡◌, ◌≢◌, ◌⊎◌, ℕ, ◌==◌, Bool, true, false, ◌||◌, List, [], ◌∷◌, ◌++◌, map, Option, Some, None, if◌then◌else◌, bytes_eq, codes}
 use Rattle.std.specs.List.{list_all, list_any}
 use Rattle.std.specs.Char.{to_ascii_lowercase}
 use Rattle.ix_base.specs.NcName.{is_white, is_ncname}
@@ -9,7 +9,7 @@ use Rattle.page_tree.specs.Constructs.{starts, Construct}
 use Rattle.page_tree.specs.Tokens.{Attribute, Tag, Token, start, empty, close, words, refer, section, declaration, doctype, silent}
 use Rattle.page_tree.specs.Values.{value_of, referred_by}
 use Rattle.page_tree.specs.declared.kind.Kind.{Kind}
-use Rattle.page_tree.specs.declared.kind.Kind.TheVariants.{Declaration, Instruction, Comment, Cdata, Doctype, Unknown, EndTag, StartTag, Reference, Text}
+use Rattle.page_tree.specs.declared.kind.Kind.TheVariants.{Declaration, Instruction, Comment, Cdata, Doctype, EndTag, StartTag, Reference, Text}
 
 abbrev pub AreWhite : List ℕ → Type 0
 AreWhite text = list_all is_white text ≡ true

@@ -1,6 +1,6 @@
 -- The namespaces of a tag (Namespaces in XML 1.0, sections 3 to 6): its declarations, its scope, what is broken in it, and
 -- the head of its element.
-use Rattle.std.specs.Prelude.{ℕ, Bool, true, false, ◌&&◌, ◌||◌, not, List, [], ◌∷◌, filter, map, Option, Some, None, is_none, is_some, unwrap_or, if◌then◌else◌, bytes_eq, codes}
+use Rattle.std.specs.Prelude.{ℕ, Bool, false, ◌&&◌, ◌||◌, not, List, [], ◌∷◌, Option, Some, None, is_none, is_some, unwrap_or, if◌then◌else◌, bytes_eq, codes}
 use Rattle.std.specs.List.{list_any, filter_map}
 use Rattle.ix_base.specs.Trees.{Bound, Named, Valued, Head}
 use Rattle.ix_base.specs.Scope.{xml_namespace, xmlns_namespace, has_prefix, prefix_of, local_of, namespace_of, scope_under, element_name, attribute_name}

@@ -1,5 +1,5 @@
 -- References, and the values of attributes (XML 1.0 sections 3.3.3, 4.1 and 4.6). No entity but the predefined ones is known.
-use Rattle.std.specs.Prelude.{ℕ, ◌+◌, ◌-◌, ◌*◌, ◌==◌, nat_le, Bool, true, false, ◌&&◌, ◌||◌, List, [], ◌∷◌, ◌++◌, length, take, drop, Option, Some, None, option_map, if◌then◌else◌, bytes_eq, codes, encode_utf8}
+use Rattle.std.specs.Prelude.{ℕ, ◌+◌, ◌-◌, ◌*◌, ◌==◌, nat_le, ◌||◌, List, [], ◌∷◌, ◌++◌, length, take, drop, Option, Some, None, option_map, if◌then◌else◌, bytes_eq, codes, encode_utf8}
 use Rattle.std.specs.Option.{option_and_then}
 use Rattle.ix_base.specs.NcName.{lies, is_allowed}
 use Rattle.page_tree.specs.Constructs.{starts}

@@ -1,5 +1,5 @@
 -- What the code's tokens stand for.
-use Rattle.std.specs.Prelude.{List, map, option_map, encode_utf8}
+use Rattle.std.specs.Prelude.{map, option_map, encode_utf8}
 use Rattle.page_tree.specs.Tokens.{start, empty, close, words, refer, section, declaration, doctype, silent}
 use Rattle.page_tree.specs.Tokens as spec
 use Rattle.page_tree.specs.declared.token.Attribute.{Attribute}

@@ -19,43 +19,37 @@ ghost use Rattle.page_tree.specs.Page.{page};
 pub fn ended_stays()
     ensures size { (first : Bool) (cs more : List ℕ) (k : ℕ) → size first cs ≡ Some k → size first (cs ++ more) ≡ Some k }
     ensures kind { (first : Bool) (cs more : List ℕ) (k : ℕ) → size first cs ≡ Some k → kind_of first (cs ++ more) ≡ kind_of first cs }
-{
-}
+{}
 
 /// Bytes that come in two pieces are cut as they are cut at once: first the constructs of the first piece that end whatever
 /// follows, and then those of what is left of it and of the second.
 pub fn cut_in_pieces()
     ensures { (ended first : Bool) (a b : List Byte) → finished ended first (a ++ b) ≡ continued ended first (settled first a) b }
-{
-}
+{}
 
 /// A page without a break has exactly one tree.
 pub fn one_tree()
     ensures found { (b : List ℕ) (n : ℕ) → w b n ≡ None → (t : Tree) × page b n t }
     ensures one { (b : List ℕ) (n : ℕ) (t u : Tree) → page b n t → page b n u → t ≡ u }
-{
-}
+{}
 
 /// A page with a break has none.
 pub fn no_tree()
     ensures { (b : List ℕ) (n : ℕ) (f : Fault) (t : Tree) → w b n ≡ Some f → page b n t → ⊥ }
-{
-}
+{}
 
 /// Every tree of a page is sound: its names, values, texts and scopes are of their forms, none of its elements is deeper
 /// than the page allows, and their offsets rise in document order.
 pub fn sound_tree()
     ensures { (b : List ℕ) (n : ℕ) (t : Tree) → page b n t → IsSoundTree t n }
-{
-}
+{}
 
 /// A construct that ends within its bytes is cut from in front of anything: it comes first, and then what the rest gives.
 pub fn cut_in_front()
     ensures { (ended first : Bool) (us vs : List Byte) → size first (values (us ++ vs)) ≡ Some (length us)
         → finished ended first (us ++ vs) ≡ put_first (record { kind = kind_of first (values (us ++ vs)); start = offset_of (us ++ vs); text = values us })
         (finished ended false vs) }
-{
-}
+{}
 
 /// A start tag that is written from a name and attributes ends where it was written to end, whatever follows, and means
 /// these.
@@ -64,8 +58,7 @@ pub fn written_start_tag()
         → (kind_of first (start_text name attrs ++ rest) ≡ StartTag) × (size first (start_text name attrs ++ rest) ≡ Some (length (start_text name attrs))) }
     ensures means { (at : ℕ) (name : List ℕ) (attrs : List Attribute) → is_qname name ≡ true → All HasName attrs
         → HasForm StartTag at (start_text name attrs) (start (tag_at at name attrs)) }
-{
-}
+{}
 
 /// So does a tag of an element without children.
 pub fn written_leaf_tag()
@@ -73,29 +66,25 @@ pub fn written_leaf_tag()
         → (kind_of first (leaf_text name attrs ++ rest) ≡ StartTag) × (size first (leaf_text name attrs ++ rest) ≡ Some (length (leaf_text name attrs))) }
     ensures means { (at : ℕ) (name : List ℕ) (attrs : List Attribute) → is_qname name ≡ true → All HasName attrs
         → HasForm StartTag at (leaf_text name attrs) (empty (tag_at at name attrs)) }
-{
-}
+{}
 
 /// And so does an end tag.
 pub fn written_end_tag()
     ensures cut { (first : Bool) (name rest : List ℕ) → is_qname name ≡ true
         → (kind_of first (close_text name ++ rest) ≡ EndTag) × (size first (close_text name ++ rest) ≡ Some (length (close_text name))) }
     ensures means { (at : ℕ) (name : List ℕ) → is_qname name ≡ true → HasForm EndTag at (close_text name) (close name) }
-{
-}
+{}
 
 /// A text without `<` and `&` goes on to the next of them, and means itself unless it holds `]]>`.
 pub fn written_text()
     ensures cut { (first : Bool) (c : ℕ) (text : List ℕ) (next : ℕ) (rest : List ℕ) → list_any is_markup (c ∷ text) ≡ false → is_markup next ≡ true
         → (kind_of first ((c ∷ text) ++ next ∷ rest) ≡ Text) × (size first ((c ∷ text) ++ next ∷ rest) ≡ Some (length (c ∷ text))) }
     ensures means { (at : ℕ) (text : List ℕ) → holds (codes "]]>") text ≡ false → HasForm Text at text (words text) }
-{
-}
+{}
 
 /// A reference ends with its `;`, whatever follows, and means its character.
 pub fn written_reference()
     ensures cut { (first : Bool) (inner rest : List ℕ) → list_any ends_reference inner ≡ false
         → (kind_of first ((38 ∷ (inner ++ 59 ∷ [])) ++ rest) ≡ Reference) × (size first ((38 ∷ (inner ++ 59 ∷ [])) ++ rest) ≡ Some (length (38 ∷ (inner ++ 59 ∷ [])))) }
     ensures means { (at : ℕ) (inner : List ℕ) → HasForm Reference at (38 ∷ (inner ++ 59 ∷ [])) (refer (spelled (referred inner))) }
-{
-}
+{}

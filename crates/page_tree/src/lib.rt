@@ -2,10 +2,10 @@
 #![tactic(auto)]
 
 mod kind;
+pub mod laws;
 mod names;
 mod size;
 mod stack;
 mod token;
-pub mod laws;
 
 pub use kind::Kind;

@@ -14,6 +14,7 @@ use ix_base::{Attr, Binding, Name, NoMemory, Rule};
 use std::alloc::Global;
 
 const XML: &str = "http://www.w3.org/XML/1998/namespace";
+
 const XMLNS: &str = "http://www.w3.org/2000/xmlns/";
 
 /// The prefix and the local part of a written name that has a colon.
@@ -113,7 +114,11 @@ fn is_misbound(prefix: &str, ns: &str) -> bool
     if prefix == "xmlns" || ns == "" {
         return true;
     }
-    if prefix == "xml" { ns != XML } else { ns == XML }
+    if prefix == "xml" {
+        ns != XML
+    } else {
+        ns == XML
+    }
 }
 
 /// Whether a binding is one that none may make.
@@ -162,7 +167,8 @@ fn attribute_name<'a>(scope: &[Binding<'a>], name: &'a str) -> Name<'a>
 fn is_same(scope: &[Binding<'_>], a: &Attribute<'_>, b: &Attribute<'_>) -> bool
     ensures { result ≡ spec.is_same (map bound scope.now) (attribute_of a.now) (attribute_of b.now) }
 {
-    a.name == b.name || (is_expanded(scope, a) && is_expanded(scope, b) && has_same_name(scope, a, b))
+    a.name == b.name
+        || (is_expanded(scope, a) && is_expanded(scope, b) && has_same_name(scope, a, b))
 }
 
 /// Whether an attribute is no declaration and has a bound prefix.
@@ -288,10 +294,7 @@ fn bind_over<'a>(scope: &mut Vec<Binding<'a>>, binding: Binding<'a>) -> Result<(
 }
 
 /// A scope without the default namespace.
-fn without_default<'a>(
-    alloc: Global,
-    scope: &[Binding<'a>],
-) -> Result<Vec<Binding<'a>>, NoMemory>
+fn without_default<'a>(alloc: Global, scope: &[Binding<'a>]) -> Result<Vec<Binding<'a>>, NoMemory>
     ensures { IfOk result (λ v. map bound v.items ≡ filter (λ x. not (bytes_eq x.prefix [])) (map bound scope.now)) }
 {
     let mut kept = Vec::new(alloc);

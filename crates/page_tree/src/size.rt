@@ -167,7 +167,11 @@ fn size_by(kind: Kind, text: &[u8]) -> Option<usize>
     ensures within { IfSome result (λ n. n ≤ length text.now) }
 {
     match kind {
-        Kind::Declaration | Kind::Instruction => behind_more(after(behind_first(text, 1), b"?>"), 1, text),
+        Kind::Declaration | Kind::Instruction => behind_more(
+            after(behind_first(text, 1), b"?>"),
+            1,
+            text,
+        ),
         Kind::Comment => behind_more(after(behind_first(text, 4), b"-->"), 4, text),
         Kind::Cdata => behind_more(after(behind_first(text, 9), b"]]>"), 9, text),
         Kind::Doctype => behind_more(after_tag(behind_first(text, 9)), 9, text),

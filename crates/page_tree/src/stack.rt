@@ -114,10 +114,7 @@ pub(crate) fn open_element<'a>(
 }
 
 /// The element, once it has ended.
-pub(crate) fn close_element<'a>(
-    arena: &'a Bump,
-    own: Open<'a>,
-) -> Result<&'a Element<'a>, NoMemory>
+pub(crate) fn close_element<'a>(arena: &'a Bump, own: Open<'a>) -> Result<&'a Element<'a>, NoMemory>
     ensures { IfOk result (λ e. tree_of e.now ≡ record { head = (frame own.entry).head; children = (frame own.entry).done }) }
 {
     let Ok(children) = arena.try_alloc_slice_copy(own.children.as_slice()) else {

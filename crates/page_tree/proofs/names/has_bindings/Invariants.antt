@@ -1,4 +1,4 @@
-use Rattle.std.proofs.Common.{◌≡◌, drop, map, []}
+use Rattle.std.proofs.Common.{◌≡◌, drop, map}
 use Rattle.std.specs.List.{filter_map}
 use Rattle.page_tree.specs.Views.{attribute_of}
 use Rattle.page_tree.specs.Tags.{binding_of}

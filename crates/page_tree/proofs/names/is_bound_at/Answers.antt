@@ -1,4 +1,4 @@
-use Rattle.std.proofs.Common.{◌≡◌, ℕ, sym, ◌∙◌, ap, map, arith, false}
+use Rattle.std.proofs.Common.{sym, ◌∙◌, ap, map, arith}
 use Rattle.ix_base.specs.Trees.{bound}
 use Rattle.page_tree.specs.Names.{has_at}
 use Rattle.page_tree.proofs.ScopeLaws.{has_at-index, has_at-end}
