@@ -12,3 +12,5 @@ pub mod EndLaws
 pub mod PageLaws
 pub mod PieceLaws
 pub mod SizeLaws
+pub mod Parting
+pub mod Names

@@ -8,3 +8,5 @@ pub mod Page
 pub mod Break
 pub mod Machine
 pub mod Views
+pub mod Stops
+pub mod Spans

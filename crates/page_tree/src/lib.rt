@@ -2,6 +2,8 @@
 #![tactic(auto)]
 
 mod kind;
+mod meaning;
+mod ncname;
 mod size;
 mod token;
 pub mod laws;

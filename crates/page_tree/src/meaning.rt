@@ -1,0 +1,4 @@
+//! What constructs mean.
+
+mod span;
+mod value;
