@@ -14,3 +14,4 @@ pub mod PieceLaws
 pub mod SizeLaws
 pub mod Parting
 pub mod Names
+pub mod ValueLaws

@@ -16,7 +16,7 @@ use Rattle.page_tree.specs.Spans.{parted}
 use Rattle.page_tree.specs.declared.meaning.span.Stop.{Stop}
 use Rattle.page_tree.specs.declared.meaning.span.Stop.TheVariants.{White, Dark, Name, TagName, Special}
 use Rattle.page_tree.proofs.SizeLaws.{drop-next}
-use Rattle.page_tree.proofs.SpanLaws.{clash, either, same_or, is_same, NoneStops, Stops, before-span, from-span, before-from, from-stops, starts-front, starts-append, drop-front, take-front}
+use Rattle.page_tree.proofs.SpanLaws.{clash, one_number, either, same_or, is_same, NoneStops, Stops, before-span, from-span, before-from, from-stops, starts-front, starts-append, drop-front, take-front}
 
 -- the loop that looks for the first byte that stops
 pub before-next : (f : ℕ → Bool) (t : List ℕ) (i : ℕ) → i < length t → f (get_or t i 0) ≡ false → i + length (before f (drop i t)) ≡ i + 1 + length (before f (drop (i + 1) t))
@@ -37,6 +37,17 @@ before-short f (c ∷ t) = elim (either (f c)) as (λ x. length (before f (c ∷
     | inl y ↦ rw y (omega arith)
     | inr n ↦ rw n (let h = before-short f t in omega arith)
   ]
+
+pub from-short : (f : ℕ → Bool) (t : List ℕ) → length (from f t) ≤ length t
+from-short f [] = omega arith
+from-short f (c ∷ t) = elim (either (f c)) as (λ x. length (from f (c ∷ t)) ≤ length (c ∷ t)) [
+    | inl y ↦ rw y (omega arith)
+    | inr n ↦ rw n (let h = from-short f t in omega arith)
+  ]
+
+pub is-empty : (x : List ℕ) → (length x == 0) ≡ true → x ≡ []
+is-empty [] h = refl
+is-empty (c ∷ x) h = absurd (let z : suc (length x) ≡ 0 = one_number (suc (length x)) 0 h in omega arith)
 
 -- the first byte that stops
 first-stop : (f : ℕ → Bool) (t : List ℕ) → length (before f t) < length t → f (get_or t (length (before f t)) 0) ≡ true
@@ -84,7 +95,7 @@ name-low c h = grind (arith, nat_tests)
 tag-name-low : (c : ℕ) → ends_tag_name c ≡ true → c < 128
 tag-name-low c h = grind (arith, nat_tests)
 
-special-low : (c : ℕ) → is_special c ≡ true → c < 128
+pub special-low : (c : ℕ) → is_special c ≡ true → c < 128
 special-low c h = grind (arith, nat_tests)
 
 dark-low : (c : ℕ) → is_dark c ≡ false → c < 128
@@ -117,7 +128,7 @@ strip-behind front text (Some x) h =
     rw s (ap Some (h.2 ∙ ap (λ n. drop n text) size))
 
 -- a value in quotes
-index-none : (q : ℕ) (t : List ℕ) → ((i : ℕ) → i < length t → get_or t i 0 ≢ q) → NoneStops (λ c. c == q) t
+pub index-none : (q : ℕ) (t : List ℕ) → ((i : ℕ) → i < length t → get_or t i 0 ≢ q) → NoneStops (λ c. c == q) t
 index-none q [] h = tt
 index-none q (c ∷ t) h = (elim (same_or c q) as (λ x. (c == q) ≡ false) [ inl e ↦ absurd (h 0 (omega arith) e) | inr n ↦ n ], index-none q t (λ i l. h (suc i) (omega arith)))
 

@@ -1,10 +1,12 @@
 //! What references mean, and the values of attributes.
-ghost use Rattle.std.specs.Prelude.{◌≡◌, ◌≤◌, ◌<◌, ◌++◌, None, Some, length, option_map, IfOk, IfSome, encode_utf8};
+ghost use Rattle.std.specs.Prelude.{◌≡◌, ◌≤◌, ◌<◌, [], None, Some, IsTrue, length, option_map, IfOk, IfSome, encode_utf8};
 ghost use Rattle.std.specs.Option.{option_and_then};
+ghost use Rattle.std.specs.Str.{IsUtf8};
 ghost use Rattle.std.specs.String.{string_bytes};
 ghost use Rattle.ix_base.specs.NcName.{is_allowed as is_allowed_of};
 ghost use Rattle.page_tree.specs.Values.{digit as digit_of, below, number_in as number_in_of, allowed as allowed_of, referred as referred_of, meant_in, value_of as value_of_spec, referred_by as referred_by_of};
-ghost use Rattle.page_tree.specs.Spans.{up_to_beyond};
+ghost use Rattle.page_tree.specs.Spans.{up_to_beyond, after_char};
+ghost use Rattle.page_tree.specs.Stops.{begins_special};
 
 use crate::meaning::span::{Stop, split};
 use crate::size::behind_first;
@@ -99,12 +101,30 @@ fn referred(inner: &[u8]) -> Option<char>
 
 /// The character that a reference means, behind its `&`, and what is behind its `;`.
 fn referred_at(text: &str) -> Option<(char, &str)>
-    ensures value { option_and_then (λ r. option_map (λ more. encode_utf8 r.0 ++ more) (meant_in None r.1.now)) result ≡ meant_in (Some []) text.now }
+    ensures value { after_char result ≡ meant_in (Some []) text.now }
     ensures shorter { IfSome result (λ r. length r.1.now < length text.now) }
+    ensures text { IfSome result (λ r. IsUtf8 r.1.now) }
 {
     let (inner, rest) = text.split_once(';')?;
     let ch = referred(inner.as_bytes())?;
     Some((ch, rest))
+}
+
+/// The character that is meant at the front of a value that doesn't mean itself there, and what is behind: a reference
+/// means its character, and a tab or a line feed a space.
+fn special_at(text: &str) -> Option<(char, &str)>
+    requires { IsTrue (begins_special text.now) }
+    ensures value { after_char result ≡ meant_in None text.now }
+    ensures shorter { IfSome result (λ r. length r.1.now < length text.now) }
+    ensures text { IfSome result (λ r. IsUtf8 r.1.now) }
+{
+    match text.strip_prefix('&') {
+        Some(reference) => referred_at(reference),
+        None => {
+            let (_, behind) = text.split_at(1);
+            Some((' ', behind))
+        }
+    }
 }
 
 /// What is written in a value, as what it means; none where a reference is bad.
@@ -116,19 +136,15 @@ fn value_in(alloc: Global, raw: &str) -> Result<Option<String>, NoMemory>
     loop {
         let (plain, special) = split(rest, Stop::Special);
         value.push_str(plain)?;
-        let Some(first) = special.as_bytes().first() else {
+        if special.is_empty() {
             return Ok(Some(value));
-        };
-        let (_, behind) = special.split_at(1);
-        if *first == b'&' {
-            let Some((ch, more)) = referred_at(behind) else {
-                return Ok(None);
-            };
-            value.push(ch)?;
-            rest = more;
-        } else {
-            value.push(' ')?;
-            rest = behind;
+        }
+        match special_at(special) {
+            Some((ch, more)) => {
+                value.push(ch)?;
+                rest = more;
+            }
+            None => return Ok(None),
         }
     }
 }
