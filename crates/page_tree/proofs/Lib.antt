@@ -15,3 +15,4 @@ pub mod SizeLaws
 pub mod Parting
 pub mod Names
 pub mod ValueLaws
+pub mod TagReading

@@ -132,7 +132,7 @@ pub index-none : (q : ℕ) (t : List ℕ) → ((i : ℕ) → i < length t → ge
 index-none q [] h = tt
 index-none q (c ∷ t) h = (elim (same_or c q) as (λ x. (c == q) ≡ false) [ inl e ↦ absurd (h 0 (omega arith) e) | inr n ↦ n ], index-none q t (λ i l. h (suc i) (omega arith)))
 
-none-has : (q : ℕ) (t : List ℕ) → NoneStops (λ c. c == q) t → has q t ≡ false
+pub none-has : (q : ℕ) (t : List ℕ) → NoneStops (λ c. c == q) t → has q t ≡ false
 none-has q [] h = refl
 none-has q (c ∷ t) h = rw (h.0) (none-has q t h.1)
 

@@ -10,3 +10,4 @@ pub mod Machine
 pub mod Views
 pub mod Stops
 pub mod Spans
+pub mod Read

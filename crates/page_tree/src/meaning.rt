@@ -1,4 +1,6 @@
 //! What constructs mean.
 
+mod declaration;
 mod span;
+mod tag;
 mod value;
