@@ -16,3 +16,4 @@ pub mod Parting
 pub mod Names
 pub mod ValueLaws
 pub mod TagReading
+pub mod Around

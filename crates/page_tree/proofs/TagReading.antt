@@ -6,7 +6,7 @@ use Rattle.std.proofs.lemmas.Bool.Decides.{nat_tests}
 use Rattle.std.proofs.lemmas.Str.Pattern.{IsSplitOnceResult, split_parts}
 use Rattle.ix_base.specs.NcName.{is_ncname}
 use Rattle.ix_base.specs.Scope.{has_prefix, is_qname}
-use Rattle.page_tree.specs.Meanings.{◌>>=◌, is_dark, behind_white, is_white_text, equalled, slash, attribute_at, attributes_in, before, from, ends_tag_name, tag, start_tag}
+use Rattle.page_tree.specs.Meanings.{◌>>=◌, is_dark, behind_white, is_white_text, equalled, slash, attribute_at, attributes_in, before, from, ends_tag_name, tag, start_tag, behind, part_at}
 use Rattle.page_tree.specs.Tokens.{Attribute}
 use Rattle.page_tree.proofs.Parting.{index-none, none-has, from-short}
 use Rattle.page_tree.proofs.TagForms.{equal-out}
@@ -124,3 +124,7 @@ module _ (at : ℕ) (inner name rest : List ℕ) (b : before ends_tag_name inner
 
   pub tag-some : (as' : List Attribute) (s : Bool) → read ≡ Some (as', s) → Some (tag s (record { offset = at; name = name; attrs = as' })) ≡ start_tag at inner
   tag-some as' s e = let whole = sym e ∙ read-whole in rw (b, n, ← whole) refl
+
+-- a part of a declaration
+pub part-some : (name text rest : List ℕ) → nat_lt (length (behind_white text)) (length text) ≡ true → behind name (behind_white text) ≡ Some rest → equalled rest ≡ part_at name text
+part-some name text rest a e = rw (a, e) refl

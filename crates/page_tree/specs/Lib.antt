@@ -3,6 +3,7 @@ pub mod Tokens
 pub mod Values
 pub mod Forms
 pub mod Meanings
+pub mod Ends
 pub mod Tags
 pub mod Page
 pub mod Break

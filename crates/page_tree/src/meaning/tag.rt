@@ -73,7 +73,7 @@ fn attributes_in<'a>(alloc: Global, arena: &'a Bump, text: &str) -> Result<Optio
 }
 
 /// What stands in a start tag or in an empty-element tag.
-pub(crate) fn start_tag<'a, 't>(alloc: Global, arena: &'a Bump, offset: u64, inner: &str) -> Result<Option<Token<'a, 't>>, NoMemory>
+pub(crate) fn start_tag<'a, 't>(alloc: Global, arena: &'a Bump, offset: u64, inner: &'t str) -> Result<Option<Token<'a, 't>>, NoMemory>
     ensures { IfOk result (λ r. option_map token_of r ≡ start_tag_of offset inner.now) }
 {
     let (name, rest) = split(inner, Stop::TagName);
