@@ -74,25 +74,6 @@ no-dashes inner h n = elim (either (holds Dashes (inner ++ 45 ∷ []))) as (λ x
     by_split (inl f) = n f.0 f.1
     by_split (inr f) = clash (holds Dashes inner) (ap (holds Dashes) f.2 ∙ holds-within 45 (45 ∷ []) f.0 f.1) h
 
--- what stands between a front and a back
-inside-short : (front back text : List ℕ) → length text < length front + length back → [] ≡ inside (length front) (length back) text
-inside-short front back text h = let z : length text - length front - length back ≡ 0 = omega arith in ap (λ n. take n (drop (length front) text)) (sym z)
-
-pub inside-some : (front back text rest inner : List ℕ) → StripsPrefix (FindsTextPrefix front) text rest → StripsSuffix (FindsTextSuffix back) rest inner → inner ≡ inside (length front) (length back) text
-inside-some front back text rest inner p s =
-    let one : text ≡ front ++ rest = p.1.1 ∙ ap (λ x. front ++ x) (sym p.2) in
-    let two : rest ≡ inner ++ back = s.1.1 ∙ ap (λ x. x ++ back) (sym s.2) in
-    sym (ap (inside (length front) (length back)) (one ∙ ap (λ x. front ++ x) two) ∙ inside-between front inner back)
-
-pub inside-no-front : (front back text : List ℕ) → IsAround front back text → FindsTextPrefix front text None → [] ≡ inside (length front) (length back) text
-inside-no-front front back text (inl a) n = absurd (n (a.0 ++ back) a.1)
-inside-no-front front back text (inr l) n = inside-short front back text l
-
-pub inside-no-back : (front back text rest : List ℕ) → IsAround front back text → StripsPrefix (FindsTextPrefix front) text rest → FindsTextSuffix back rest None → [] ≡ inside (length front) (length back) text
-inside-no-back front back text rest (inl a) p n =
-    absurd (n a.0 (p.2 ∙ ap (λ m. drop m text) p.1.0 ∙ ap (drop (length front)) a.1 ∙ Rattle.page_tree.proofs.SpanLaws.drop-front front (a.0 ++ back)))
-inside-no-back front back text rest (inr l) p n = inside-short front back text l
-
 pub ends-around : (kind : Kind) (text : List ℕ) → HasEnds kind text → IsAround (front_around kind) (back_around kind) text
 ends-around Declaration text h = inl h
 ends-around Instruction text (inl h) = inl h

@@ -165,3 +165,6 @@ pub(crate) fn meant<'a, 't>(
         Kind::Text => Ok(worded(text)),
     }
 }
+
+#[cfg(test)]
+mod tests;
