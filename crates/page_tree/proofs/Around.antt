@@ -1,15 +1,11 @@
 -- Texts in other texts, and around them.
-use Rattle.std.proofs.Common.{◌≡◌, ◌≢◌, ℕ, suc, zero, ◌+◌, ◌-◌, ◌<◌, ◌≤◌, ◌==◌, Bool, true, false, ◌&&◌, ◌||◌, not, ◌⊎◌, inl, inr, List, [], ◌∷◌, ◌++◌, length, take, drop, Option, Some, None, refl, sym, ap, ◌∙◌, arith, subst, Bor, append_assoc, append-nil, length-append}
-use Rattle.std.specs.Option.{MatchOption}
+use Rattle.std.proofs.Common.{◌≡◌, ◌≢◌, ℕ, Bool, true, false, ◌||◌, ◌⊎◌, inl, inr, List, [], ◌∷◌, ◌++◌, length, drop, refl, sym, ap, ◌∙◌, arith, append_assoc, append-nil, length-append}
 use Rattle.std.specs.Str.Iter.{HasSubslice}
-use Rattle.std.specs.Str.Pattern.{FindsTextPrefix, StripsPrefix, FindsTextSuffix, StripsSuffix}
 use Rattle.page_tree.specs.Constructs.{starts}
 use Rattle.page_tree.specs.Ends.{HasEnds, IsAround, front_around, back_around}
-use Rattle.page_tree.specs.Forms.{holds, between}
-use Rattle.page_tree.specs.Meanings.{inside}
+use Rattle.page_tree.specs.Forms.{holds}
 use Rattle.page_tree.specs.declared.kind.Kind.{Kind}
 use Rattle.page_tree.specs.declared.kind.Kind.TheVariants.{Declaration, Instruction, Comment, Cdata, Doctype, Unknown, EndTag, StartTag, Reference, Text}
-use Rattle.page_tree.proofs.FormLaws.{inside-between}
 use Rattle.page_tree.proofs.SpanLaws.{clash, either, is_same, starts-front, starts-append}
 
 holds-within : (c : ℕ) (part a b : List ℕ) → holds (c ∷ part) (a ++ (c ∷ part ++ b)) ≡ true
@@ -27,9 +23,9 @@ pub holds-is : (part cs : List ℕ) (r : Bool) → part ≢ [] → (r ≡ true �
 holds-is [] cs r n to back = absurd (n refl)
 holds-is (c ∷ part) cs true n to back = let f = to refl in sym (ap (holds (c ∷ part)) f.2 ∙ holds-within c part f.0 f.1)
 holds-is (c ∷ part) cs false n to back = elim (either (holds (c ∷ part) cs)) as (λ x. false ≡ holds (c ∷ part) cs) [
-    | inl y ↦ absurd (let z = back (holds-found (c ∷ part) cs y) in cc)
-    | inr k ↦ sym k
-  ]
+  | inl y ↦ absurd (let z = back (holds-found (c ∷ part) cs y) in cc)
+  | inr k ↦ sym k
+]
 
 -- two dashes
 abbrev Dashes : List ℕ
@@ -66,9 +62,9 @@ dashes-split (x ∷ i) (c ∷ a) b e = more (dashes-split i a b (tails x c (i ++
 
 pub no-dashes : (inner : List ℕ) → holds Dashes inner ≡ false → ((front : List ℕ) → inner ≢ front ++ 45 ∷ []) → holds Dashes (inner ++ 45 ∷ []) ≡ false
 no-dashes inner h n = elim (either (holds Dashes (inner ++ 45 ∷ []))) as (λ x. holds Dashes (inner ++ 45 ∷ []) ≡ false) [
-    | inl y ↦ absurd (by_split (let f = holds-found Dashes (inner ++ 45 ∷ []) y in dashes-split inner f.0 f.1 f.2))
-    | inr k ↦ k
-  ]
+  | inl y ↦ absurd (by_split (let f = holds-found Dashes (inner ++ 45 ∷ []) y in dashes-split inner f.0 f.1 f.2))
+  | inr k ↦ k
+]
   where
     by_split : Splits inner → ⊥
     by_split (inl f) = n f.0 f.1

@@ -1,5 +1,5 @@
 -- How the code that parts texts meets its definitions.
-use Rattle.std.proofs.Common.{◌≡◌, ◌≢◌, ℕ, suc, zero, ◌+◌, ◌-◌, ◌<◌, ◌≤◌, ◌==◌, Bool, true, false, ◌&&◌, ◌||◌, not, if◌then◌else◌, ◌⊎◌, inl, inr, List, [], ◌∷◌, ◌++◌, length, take, drop, get_or, Option, Some, None, option_map, refl, sym, ap, ◌∙◌, arith, subst, Bor}
+use Rattle.std.proofs.Common.{◌≡◌, ◌≢◌, ℕ, suc, zero, ◌+◌, ◌<◌, ◌≤◌, ◌==◌, Bool, true, false, ◌||◌, ◌⊎◌, inl, inr, List, [], ◌∷◌, ◌++◌, length, take, drop, get_or, Option, Some, None, option_map, refl, sym, ap, ◌∙◌, arith, subst, Bor}
 use Rattle.std.specs.List.{list_all}
 use Rattle.std.specs.Option.{MatchOption}
 use Rattle.std.specs.Str.{IsUtf8, IsCharBoundary}
@@ -16,7 +16,7 @@ use Rattle.page_tree.specs.Spans.{parted}
 use Rattle.page_tree.specs.declared.meaning.span.Stop.{Stop}
 use Rattle.page_tree.specs.declared.meaning.span.Stop.TheVariants.{White, Dark, Name, TagName, Special}
 use Rattle.page_tree.proofs.SizeLaws.{drop-next}
-use Rattle.page_tree.proofs.SpanLaws.{clash, one_number, either, same_or, is_same, NoneStops, Stops, before-span, from-span, before-from, from-stops, starts-front, starts-append, drop-front, take-front}
+use Rattle.page_tree.proofs.SpanLaws.{one_number, either, same_or, is_same, NoneStops, before-span, from-span, before-from, starts-front, starts-append, drop-front, take-front}
 
 -- the loop that looks for the first byte that stops
 pub before-next : (f : ℕ → Bool) (t : List ℕ) (i : ℕ) → i < length t → f (get_or t i 0) ≡ false → i + length (before f (drop i t)) ≡ i + 1 + length (before f (drop (i + 1) t))
@@ -34,16 +34,16 @@ drop-before f t = ap (drop (length (before f t))) (before-from f t) ∙ drop-fro
 pub before-short : (f : ℕ → Bool) (t : List ℕ) → length (before f t) ≤ length t
 before-short f [] = omega arith
 before-short f (c ∷ t) = elim (either (f c)) as (λ x. length (before f (c ∷ t)) ≤ length (c ∷ t)) [
-    | inl y ↦ rw y (omega arith)
-    | inr n ↦ rw n (let h = before-short f t in omega arith)
-  ]
+  | inl y ↦ rw y (omega arith)
+  | inr n ↦ rw n (let h = before-short f t in omega arith)
+]
 
 pub from-short : (f : ℕ → Bool) (t : List ℕ) → length (from f t) ≤ length t
 from-short f [] = omega arith
 from-short f (c ∷ t) = elim (either (f c)) as (λ x. length (from f (c ∷ t)) ≤ length (c ∷ t)) [
-    | inl y ↦ rw y (omega arith)
-    | inr n ↦ rw n (let h = from-short f t in omega arith)
-  ]
+  | inl y ↦ rw y (omega arith)
+  | inr n ↦ rw n (let h = from-short f t in omega arith)
+]
 
 pub is-empty : (x : List ℕ) → (length x == 0) ≡ true → x ≡ []
 is-empty [] h = refl
@@ -53,21 +53,21 @@ is-empty (c ∷ x) h = absurd (let z : suc (length x) ≡ 0 = one_number (suc (l
 first-stop : (f : ℕ → Bool) (t : List ℕ) → length (before f t) < length t → f (get_or t (length (before f t)) 0) ≡ true
 first-stop f [] h = absurd (omega arith)
 first-stop f (c ∷ t) h = elim (either (f c)) as (λ x. f (get_or (c ∷ t) (length (before f (c ∷ t))) 0) ≡ true) [
-    | inl y ↦ rw y y
-    | inr n ↦ let k : suc (length (before f t)) < suc (length t) = rw n at h in rw n (first-stop f t (omega arith))
-  ]
+  | inl y ↦ rw y y
+  | inr n ↦ let k : suc (length (before f t)) < suc (length t) = rw n at h in rw n (first-stop f t (omega arith))
+]
 
 -- the bytes before it
 none-before : (f : ℕ → Bool) (t : List ℕ) (k : ℕ) → k < length (before f t) → f (get_or t k 0) ≡ false
 none-before f [] k h = absurd (omega arith)
 none-before f (c ∷ t) zero h = elim (either (f c)) as (λ x. f c ≡ false) [
-    | inl y ↦ let z : 0 < 0 = rw y at h in absurd (omega arith)
-    | inr n ↦ n
-  ]
+  | inl y ↦ let z : 0 < 0 = rw y at h in absurd (omega arith)
+  | inr n ↦ n
+]
 none-before f (c ∷ t) (suc k) h = elim (either (f c)) as (λ x. f (get_or t k 0) ≡ false) [
-    | inl y ↦ let z : suc k < 0 = rw y at h in absurd (omega arith)
-    | inr n ↦ let z : suc k < suc (length (before f t)) = rw n at h in none-before f t k (omega arith)
-  ]
+  | inl y ↦ let z : suc k < 0 = rw y at h in absurd (omega arith)
+  | inr n ↦ let z : suc k < suc (length (before f t)) = rw n at h in none-before f t k (omega arith)
+]
 
 white-low : (c : ℕ) → is_white c ≡ true → c < 128
 white-low c h = grind (arith, nat_tests)
@@ -111,16 +111,16 @@ cut-stop Special t u = cut-low is_special special-low t
 pub white-none : (t : List ℕ) → (length (behind_white t) == 0) ≡ is_white_text t
 white-none [] = refl
 white-none (c ∷ t) = elim (either (is_white c)) as (λ x. (length (behind_white (c ∷ t)) == 0) ≡ is_white_text (c ∷ t)) [
-    | inl y ↦ rw y (white-none t)
-    | inr n ↦ rw n (let z : (suc (length t) == 0) ≡ false = grind (arith, nat_tests) in z)
-  ]
+  | inl y ↦ rw y (white-none t)
+  | inr n ↦ rw n (let z : (suc (length t) == 0) ≡ false = grind (arith, nat_tests) in z)
+]
 
 -- a text at the front
 pub strip-behind : (front text : List ℕ) (r : Option (Bor (List ℕ))) → MatchOption r (FindsTextPrefix front text None) (λ x. StripsPrefix (FindsTextPrefix front) text x.now) → option_map (λ x. x.now) r ≡ behind front text
 strip-behind front text None h = elim (either (starts front text)) as (λ x. None ≡ behind front text) [
-    | inl y ↦ absurd (h (drop (length front) text) (starts-front front text y))
-    | inr n ↦ rw n refl
-  ]
+  | inl y ↦ absurd (h (drop (length front) text) (starts-front front text y))
+  | inr n ↦ rw n refl
+]
 strip-behind front text (Some x) h =
     let size : h.0 ≡ length front = h.1.0 in
     let splits : text ≡ front ++ drop h.0 text = h.1.1 in

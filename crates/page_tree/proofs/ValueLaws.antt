@@ -3,13 +3,13 @@ use Rattle.std.proofs.Common.{◌≡◌, ◌≢◌, ℕ, suc, zero, ◌+◌, ◌
 use Rattle.std.specs.Char.{OutOfScalarRange, encode_utf8}
 use Rattle.std.specs.Option.{MatchOption, option_and_then}
 use Rattle.std.proofs.lemmas.Bool.Decides.{nat_tests}
-use Rattle.std.proofs.lemmas.Bool.{lt-ltb, ltb-true}
+use Rattle.std.proofs.lemmas.Bool.{ltb-true}
 use Rattle.std.proofs.lemmas.Str.Pattern.{IsSplitOnceResult, split_parts}
 use Rattle.ix_base.specs.NcName.{is_allowed}
 use Rattle.page_tree.specs.Meanings.{before, from}
 use Rattle.page_tree.specs.Spans.{up_to_beyond}
 use Rattle.page_tree.specs.Stops.{is_special, begins_special}
-use Rattle.page_tree.specs.Values.{digit, below, number_behind, number_in, allowed, referred, spelled, meant_in, value_of, referred_by}
+use Rattle.page_tree.specs.Values.{digit, below, number_behind, allowed, referred, spelled, meant_in}
 use Rattle.page_tree.proofs.SizeLaws.{drop-next}
 use Rattle.page_tree.proofs.SpanLaws.{clash, either, same_or, is_same, or_left, or_right, NoneStops, before-from}
 use Rattle.page_tree.proofs.Parting.{index-none}
@@ -20,9 +20,9 @@ up-above n h = grind (arith, nat_tests)
 
 pub min-up : (n : ℕ) → min n 0x110000 ≡ up_to_beyond n
 min-up n = elim (either (nat_lt n 0x110000)) as (λ x. min n 0x110000 ≡ up_to_beyond n) [
-    | inl y ↦ rw y (let h = ltb-true n 0x110000 y in omega arith)
-    | inr k ↦ rw k (let h : 0x110000 ≤ n = grind (arith, nat_tests) in omega arith)
-  ]
+  | inl y ↦ rw y (let h = ltb-true n 0x110000 y in omega arith)
+  | inr k ↦ rw k (let h : 0x110000 ≤ n = grind (arith, nat_tests) in omega arith)
+]
 
 times-more : (b m : ℕ) → 0 < b → m ≤ m * b
 times-more zero m h = absurd (omega arith)
@@ -30,19 +30,19 @@ times-more (suc b) m h = grind arith
 
 up-step : (b m d : ℕ) → 0 < b → up_to_beyond (up_to_beyond m * b + d) ≡ up_to_beyond (m * b + d)
 up-step b m d h = elim (either (nat_lt m 0x110000)) as (λ x. up_to_beyond (up_to_beyond m * b + d) ≡ up_to_beyond (m * b + d)) [
-    | inl y ↦ ap (λ n. up_to_beyond (n * b + d)) (let z : up_to_beyond m ≡ m = rw y refl in z)
-    | inr n ↦
-        let large : 0x110000 ≤ m = grind (arith, nat_tests) in
-        let one : up_to_beyond (m * b + d) ≡ 0x110000 = up-above (m * b + d) (let t = times-more b m h in omega arith) in
-        let two : up_to_beyond (0x110000 * b + d) ≡ 0x110000 = up-above (0x110000 * b + d) (let t = times-more b 0x110000 h in omega arith) in
-        ap (λ n. up_to_beyond (n * b + d)) (up-above m large) ∙ two ∙ sym one
-  ]
+  | inl y ↦ ap (λ n. up_to_beyond (n * b + d)) (let z : up_to_beyond m ≡ m = rw y refl in z)
+  | inr n ↦
+      let large : 0x110000 ≤ m = grind (arith, nat_tests) in
+      let one : up_to_beyond (m * b + d) ≡ 0x110000 = up-above (m * b + d) (let t = times-more b m h in omega arith) in
+      let two : up_to_beyond (0x110000 * b + d) ≡ 0x110000 = up-above (0x110000 * b + d) (let t = times-more b 0x110000 h in omega arith) in
+      ap (λ n. up_to_beyond (n * b + d)) (up-above m large) ∙ two ∙ sym one
+]
 
 up-twice : (m : ℕ) → up_to_beyond (up_to_beyond m) ≡ up_to_beyond m
 up-twice m = elim (either (nat_lt m 0x110000)) as (λ x. up_to_beyond (up_to_beyond m) ≡ up_to_beyond m) [
-    | inl y ↦ ap up_to_beyond (let z : up_to_beyond m ≡ m = rw y refl in z)
-    | inr n ↦ rw n refl
-  ]
+  | inl y ↦ ap up_to_beyond (let z : up_to_beyond m ≡ m = rw y refl in z)
+  | inr n ↦ rw n refl
+]
 
 -- digits behind a number that grows no further
 up-behind : (b : ℕ) → 0 < b → (m : ℕ) (ds : List ℕ) → option_map up_to_beyond (number_behind b (up_to_beyond m) ds) ≡ option_map up_to_beyond (number_behind b m ds)
@@ -104,9 +104,10 @@ closed-at text r h = by_parts r (split_parts 59 text r h (omega arith)) where
   by_parts : (r : Option (Bor (List ℕ) × Bor (List ℕ))) → MatchOption r ((i : ℕ) → i < length text → get_or text i 0 ≢ 59) (λ x. (text ≡ x.0.now ++ (59 ∷ x.1.now)) × ((i : ℕ) → i < length x.0.now → get_or x.0.now i 0 ≢ 59))
       → MatchOption r (None ≡ meant_in (Some []) text) (λ x. (Closed x.0.now x.1.now ≡ meant_in (Some []) text) × (length x.1.now < length text))
   by_parts None k = sym (open-none [] text (index-none 59 text k))
-  by_parts (Some x) k =
-      (sym (ap (meant_in (Some [])) k.0 ∙ open-split [] x.0.now x.1.now (index-none 59 x.0.now k.1)),
-      let l = ap length k.0 in omega (arith, Rattle.std.proofs.Common.length-append x.0.now (59 ∷ x.1.now)))
+  by_parts (Some x) k = (
+    sym (ap (meant_in (Some [])) k.0 ∙ open-split [] x.0.now x.1.now (index-none 59 x.0.now k.1)),
+    let l = ap length k.0 in omega (arith, Rattle.std.proofs.Common.length-append x.0.now (59 ∷ x.1.now)),
+  )
 
 -- values
 joined : (p q : List ℕ) (o : Option (List ℕ)) → option_map (λ more. p ++ more) (option_map (λ more. q ++ more) o) ≡ option_map (λ more. (p ++ q) ++ more) o
@@ -126,9 +127,9 @@ meant-plain : (t : List ℕ) → option_map (λ more. before is_special t ++ mor
 unfolding meant_in
 meant-plain [] = refl
 meant-plain (c ∷ t) = elim (either (is_special c)) as (λ x. option_map (λ more. before is_special (c ∷ t) ++ more) (meant_in None (from is_special (c ∷ t))) ≡ meant_in None (c ∷ t)) [
-    | inl y ↦ rw y (bare (meant_in None (c ∷ t)))
-    | inr n ↦ rw n (sym (joined (c ∷ []) (before is_special t) (meant_in None (from is_special t))) ∙ ap (option_map (λ more. c ∷ more)) (meant-plain t) ∙ sym (plain-byte c t n))
-  ]
+  | inl y ↦ rw y (bare (meant_in None (c ∷ t)))
+  | inr n ↦ rw n (sym (joined (c ∷ []) (before is_special t) (meant_in None (from is_special t))) ∙ ap (option_map (λ more. c ∷ more)) (meant-plain t) ∙ sym (plain-byte c t n))
+]
   where
     bare : (o : Option (List ℕ)) → option_map (λ more. more) o ≡ o
     bare None = refl

@@ -26,7 +26,11 @@ fn is_qname(name: &str) -> bool
 }
 
 /// An attribute at the front, and what is behind it.
-fn attribute_at<'a, 't>(alloc: Global, arena: &'a Bump, text: &'t str) -> Result<Option<(Attribute<'a>, &'t str)>, NoMemory>
+fn attribute_at<'a, 't>(
+    alloc: Global,
+    arena: &'a Bump,
+    text: &'t str,
+) -> Result<Option<(Attribute<'a>, &'t str)>, NoMemory>
     ensures value { IfOk result (λ r. option_map attribute_and_more r ≡ attribute_at_of text.now) }
     ensures shorter { IfOk result (λ r. IfSome r (λ p. length p.1.now ≤ length text.now)) }
     ensures text { IfOk result (λ r. IfSome r (λ p. IsUtf8 p.1.now)) }
@@ -46,7 +50,11 @@ fn attribute_at<'a, 't>(alloc: Global, arena: &'a Bump, text: &'t str) -> Result
 }
 
 /// Attributes, each behind white space, and whether a `/` ends them.
-fn attributes_in<'a>(alloc: Global, arena: &'a Bump, text: &str) -> Result<Option<(&'a [Attribute<'a>], bool)>, NoMemory>
+fn attributes_in<'a>(
+    alloc: Global,
+    arena: &'a Bump,
+    text: &str,
+) -> Result<Option<(&'a [Attribute<'a>], bool)>, NoMemory>
     ensures { IfOk result (λ r. (n : ℕ) → length text.now < n → option_map attributes_and_end r ≡ attributes_in_of n text.now) }
 {
     let mut attrs = Vec::new(arena);
@@ -73,7 +81,12 @@ fn attributes_in<'a>(alloc: Global, arena: &'a Bump, text: &str) -> Result<Optio
 }
 
 /// What stands in a start tag or in an empty-element tag.
-pub(crate) fn start_tag<'a, 't>(alloc: Global, arena: &'a Bump, offset: u64, inner: &'t str) -> Result<Option<Token<'a, 't>>, NoMemory>
+pub(crate) fn start_tag<'a, 't>(
+    alloc: Global,
+    arena: &'a Bump,
+    offset: u64,
+    inner: &'t str,
+) -> Result<Option<Token<'a, 't>>, NoMemory>
     ensures { IfOk result (λ r. option_map token_of r ≡ start_tag_of offset inner.now) }
 {
     let (name, rest) = split(inner, Stop::TagName);
@@ -83,7 +96,11 @@ pub(crate) fn start_tag<'a, 't>(alloc: Global, arena: &'a Bump, offset: u64, inn
     match attributes_in(alloc, arena, rest)? {
         Some((attrs, is_empty)) => {
             let name = arena.try_alloc_str(name)?;
-            let tag = Tag { offset, name, attrs };
+            let tag = Tag {
+                offset,
+                name,
+                attrs,
+            };
             if is_empty {
                 Ok(Some(Token::Empty(tag)))
             } else {

@@ -5,9 +5,19 @@ use crate::size::{kind_of, whole_size};
 use std::test::Fail;
 
 /// What a text means that is one whole construct at a page's front, as if it started at 7; none where it isn't one.
-fn meaning<'a, 't>(alloc: Global, arena: &'a Bump, text: &'t str) -> Result<Option<Option<Token<'a, 't>>>, NoMemory> {
+fn meaning<'a, 't>(
+    alloc: Global,
+    arena: &'a Bump,
+    text: &'t str,
+) -> Result<Option<Option<Token<'a, 't>>>, NoMemory> {
     match whole_size(true, true, text.as_bytes()) {
-        Some(size) if size == text.len() => Ok(Some(meant(alloc, arena, kind_of(true, text.as_bytes()), 7, text)?)),
+        Some(size) if size == text.len() => Ok(Some(meant(
+            alloc,
+            arena,
+            kind_of(true, text.as_bytes()),
+            7,
+            text,
+        )?)),
         _ => Ok(None),
     }
 }
@@ -16,10 +26,16 @@ fn meaning<'a, 't>(alloc: Global, arena: &'a Bump, text: &'t str) -> Result<Opti
 const FORMS: [(&str, bool); 64] = [
     ("<?xml version='1.0'?>", true),
     ("<?xml version='1.0' ?>", true),
-    ("<?xml\tversion = \"1.1\" encoding='x' standalone='yes'\n?>", true),
+    (
+        "<?xml\tversion = \"1.1\" encoding='x' standalone='yes'\n?>",
+        true,
+    ),
     ("<?xml version='1.0' standalone='no'?>", true),
     ("<?xml version='1.0' standalone='maybe'?>", false),
-    ("<?xml version='1.0' standalone='yes' encoding='UTF-8'?>", false),
+    (
+        "<?xml version='1.0' standalone='yes' encoding='UTF-8'?>",
+        false,
+    ),
     ("<?xml version='1.0'encoding='UTF-8'?>", false),
     ("<?xml encoding='UTF-8'?>", false),
     ("<?xml version=1.0?>", false),

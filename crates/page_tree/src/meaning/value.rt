@@ -150,7 +150,11 @@ fn value_in(alloc: Global, raw: &str) -> Result<Option<String>, NoMemory>
 }
 
 /// The same, in the arena.
-pub(crate) fn value_of<'a>(alloc: Global, arena: &'a Bump, raw: &str) -> Result<Option<&'a str>, NoMemory>
+pub(crate) fn value_of<'a>(
+    alloc: Global,
+    arena: &'a Bump,
+    raw: &str,
+) -> Result<Option<&'a str>, NoMemory>
     ensures { IfOk result (λ r. option_map (λ v. v.now) r ≡ value_of_spec raw.now) }
 {
     match value_in(alloc, raw)? {

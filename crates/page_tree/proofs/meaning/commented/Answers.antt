@@ -1,7 +1,6 @@
-use Rattle.std.proofs.Common.{◌≡◌, ◌++◌, ◌∷◌, [], ℕ, List, Option, Some, None, Bool, true, false, if◌then◌else◌, sym, ap, arith, length, take, ◌-◌, refl, ◌∙◌}
+use Rattle.std.proofs.Common.{sym, arith, length, take, ◌-◌, refl, ◌∙◌}
 use Rattle.std.proofs.lemmas.Bool.{false≢true}
 use Rattle.std.proofs.lemmas.Str.Pattern.{ends_char}
-use Rattle.page_tree.specs.Tokens.{Token, silent}
 use Rattle.page_tree.proofs.Around.{dashes-inside, dashes-end, no-dashes}
 use Rattle.page_tree.proofs.meaning.commented.Goals as goal
 

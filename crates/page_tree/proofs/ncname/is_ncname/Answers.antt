@@ -1,11 +1,11 @@
-use Rattle.std.proofs.Common.{refl, sym, ap, ◌∙◌, ◌&&◌, ◌≡◌, ◌++◌, List, [], ℕ, rules, tests, true, false, length}
+use Rattle.std.proofs.Common.{refl, sym, ap, ◌∙◌, ◌&&◌, ◌≡◌, ◌++◌, rules, tests, length}
 use Rattle.std.specs.Char.{encode_utf8}
 use Rattle.std.specs.Str.{chars}
 use Rattle.std.specs.List.{list_all}
 use Rattle.std.proofs.lemmas.Iterator.{YieldsList-from_chars}
 use Rattle.std.proofs.lemmas.Iterator.Search.{all_from_yields_List}
 use Rattle.std.proofs.lemmas.Str.{IsUtf8-past_char}
-use Rattle.ix_base.specs.NcName.{is_name_char, is_ncname}
+use Rattle.ix_base.specs.NcName.{is_name_char}
 use Rattle.page_tree.proofs.Names.{ncname-first, ncname-empty}
 use Rattle.page_tree.proofs.ncname.is_ncname.Goals as goal
 

@@ -1,4 +1,4 @@
-use Rattle.std.proofs.Common.{refl, ap, arith, ◌∙◌}
+use Rattle.std.proofs.Common.{refl, arith}
 use Rattle.std.proofs.lemmas.Str.Pattern.{strip_prefix_char}
 use Rattle.page_tree.proofs.Parting.{quoted-split, quoted-none}
 use Rattle.page_tree.proofs.meaning.span.quoted.Goals as goal

@@ -1,4 +1,4 @@
-use Rattle.std.proofs.Common.{arith, ap, length, ◌∙◌}
+use Rattle.std.proofs.Common.{arith, ap, length}
 use Rattle.page_tree.specs.Meanings.{ends_name}
 use Rattle.page_tree.proofs.Parting.{from-short}
 use Rattle.page_tree.proofs.TagReading.{equalled-short}

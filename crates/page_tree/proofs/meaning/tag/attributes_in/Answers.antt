@@ -1,6 +1,5 @@
-use Rattle.std.proofs.Common.{◌≡◌, ◌++◌, ◌∷◌, [], ℕ, List, Some, None, Bool, true, false, nat_lt, arith, sym, ap, ◌∙◌, subst, map, length, bytes_eq, option_map}
-use Rattle.page_tree.specs.Meanings.{attribute_at, behind_white, is_white_text, slash}
-use Rattle.page_tree.specs.Read.{attribute_and_more}
+use Rattle.std.proofs.Common.{◌≡◌, Some, true, false, arith, sym, ap, ◌∙◌, subst, map, length, bytes_eq}
+use Rattle.page_tree.specs.Meanings.{attribute_at, behind_white, slash}
 use Rattle.page_tree.specs.Views.{attribute_of}
 use Rattle.page_tree.proofs.TagReading.{SoFar, so-far-none, so-far-more, end-white, end-slash, end-joined, end-bad, apart, joined, map-push}
 use Rattle.page_tree.proofs.meaning.tag.attributes_in.Goals as goal
@@ -38,11 +37,12 @@ loop-rest-preserved c =
     let read = rw c.in-Some.is at c.in_ok-attribute.ensures.value in
     let goes : bytes_eq (behind_white c.loop-rest.rest.now) slash ≡ false = ap (λ x. bytes_eq x slash) (sym c.behind_white-dark.ensures) ∙ sym c.if-eq.ensures in
     let behind = apart c.loop-rest.rest.now (λ e. c.if-dark-rest.false (ap length c.behind_white-dark.ensures ∙ e)) in
-    let apart_ = Rattle.std.proofs.lemmas.Bool.ltb-true _ _ behind in
-    (rw c.in-Some.is at c.in_ok-attribute.ensures.text,
-    λ n l. subst (λ x. SoFar x c.in-Some.more.now c.args.text.now n) (sym (ap (map attribute_of) c.in_ok-push-in-Some.ensures.items ∙ map-push attribute_of c.loop-rest.attrs.items c.in-Some.attribute))
-      (so-far-more (map attribute_of c.loop-rest.attrs.items) c.loop-rest.rest.now c.args.text.now n (c.loop-rest.invariant.1 n l) (attribute_of c.in-Some.attribute) c.in-Some.more.now
-      (sym c.if-is_white_text.ensures) goes behind (ap attribute_at (sym c.behind_white-dark.ensures) ∙ sym read) (omega (arith, ap length c.behind_white-dark.ensures))))
+    let apart_ = Rattle.std.proofs.lemmas.Bool.ltb-true _ _ behind in (
+      rw c.in-Some.is at c.in_ok-attribute.ensures.text,
+      λ n l. subst (λ x. SoFar x c.in-Some.more.now c.args.text.now n) (sym (ap (map attribute_of) c.in_ok-push-in-Some.ensures.items ∙ map-push attribute_of c.loop-rest.attrs.items c.in-Some.attribute))
+          (so-far-more (map attribute_of c.loop-rest.attrs.items) c.loop-rest.rest.now c.args.text.now n (c.loop-rest.invariant.1 n l) (attribute_of c.in-Some.attribute) c.in-Some.more.now
+          (sym c.if-is_white_text.ensures) goes behind (ap attribute_at (sym c.behind_white-dark.ensures) ∙ sym read) (omega (arith, ap length c.behind_white-dark.ensures))),
+    )
 
 pub returns-in-None : goal.returns-in-None
 returns-in-None c = λ n l.

@@ -1,6 +1,5 @@
 use Rattle.std.proofs.Common.{◌≡◌, Some, true, false, sym, ap, ◌∙◌, option_map, map}
 use Rattle.ix_base.specs.Scope.{is_qname}
-use Rattle.page_tree.specs.Meanings.{tag}
 use Rattle.page_tree.specs.Read.{attributes_and_end}
 use Rattle.page_tree.specs.Tokens.{start, empty}
 use Rattle.page_tree.specs.Views.{attribute_of}

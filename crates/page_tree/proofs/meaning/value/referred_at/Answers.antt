@@ -1,4 +1,4 @@
-use Rattle.std.proofs.Common.{sym, ap, ◌∙◌, ◌≡◌, Some, None}
+use Rattle.std.proofs.Common.{ap, ◌∙◌, ◌≡◌, Some, None}
 use Rattle.page_tree.specs.Spans.{after_char}
 use Rattle.page_tree.specs.Values.{referred}
 use Rattle.page_tree.proofs.ValueLaws.{closed-at, Put}

@@ -1,8 +1,7 @@
 use lib.Utf8.{encode}
-use Rattle.std.proofs.Common.{sym, ap, ◌∙◌, ◌≡◌, arith}
+use Rattle.std.proofs.Common.{◌∙◌, arith}
 use Rattle.std.proofs.lemmas.Str.{IsCharBoundary-after_ascii}
 use Rattle.std.proofs.lemmas.Str.Pattern.{strip_prefix_char}
-use Rattle.page_tree.specs.Spans.{after_char}
 use Rattle.page_tree.proofs.ValueLaws.{special-blank, special-low, special-open}
 use Rattle.page_tree.proofs.meaning.value.special_at.Goals as goal
 

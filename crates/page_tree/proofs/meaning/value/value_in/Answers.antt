@@ -28,11 +28,12 @@ pub loop-value-preserved : goal.loop-value-preserved
 loop-value-preserved c =
     let v = string_bytes c.loop-value.value in
     let rest = c.loop-value.rest.now in
-    let plain : string_bytes c.push_str.new.self ≡ v ++ before is_special rest = c.in_ok-push_str.ensures.bytes ∙ ap (λ x. v ++ x) c.split.ensures.before in
-    (c.in-Some.ensures.text,
-    ap (λ x. After x c.in-Some.more.now) (c.in_ok-push-in-Some.ensures.bytes ∙ ap (λ x. x ++ encode_utf8 c.in-Some.ch) plain)
-    ∙ after-more v rest c.in-Some.ch c.in-Some.more.now (c.in-Some.ensures.value ∙ ap (meant_in None) c.split.ensures.from)
-    ∙ c.loop-value.invariant.1)
+    let plain : string_bytes c.push_str.new.self ≡ v ++ before is_special rest = c.in_ok-push_str.ensures.bytes ∙ ap (λ x. v ++ x) c.split.ensures.before in (
+      c.in-Some.ensures.text,
+      ap (λ x. After x c.in-Some.more.now) (c.in_ok-push-in-Some.ensures.bytes ∙ ap (λ x. x ++ encode_utf8 c.in-Some.ch) plain)
+          ∙ after-more v rest c.in-Some.ch c.in-Some.more.now (c.in-Some.ensures.value ∙ ap (meant_in None) c.split.ensures.from)
+          ∙ c.loop-value.invariant.1,
+    )
 
 pub returns-in-None : goal.returns-in-None
 returns-in-None c =
