@@ -15,16 +15,9 @@ use Rattle.page_tree.specs.Stops.{stops, is_special}
 use Rattle.page_tree.specs.Spans.{parted}
 use Rattle.page_tree.specs.declared.meaning.span.Stop.{Stop}
 use Rattle.page_tree.specs.declared.meaning.span.Stop.TheVariants.{White, Dark, Name, TagName, Special}
-use Rattle.page_tree.proofs.SizeLaws.{drop-next}
 use Rattle.page_tree.proofs.SpanLaws.{one_number, either, same_or, is_same, NoneStops, before-span, from-span, before-from, starts-front, starts-append, drop-front, take-front}
 
--- the loop that looks for the first byte that stops
-pub before-next : (f : ℕ → Bool) (t : List ℕ) (i : ℕ) → i < length t → f (get_or t i 0) ≡ false → i + length (before f (drop i t)) ≡ i + 1 + length (before f (drop (i + 1) t))
-before-next f t i h s = ap (λ x. i + length (before f x)) (drop-next t i h) ∙ rw s (omega arith)
-
-pub before-here : (f : ℕ → Bool) (t : List ℕ) (i : ℕ) → i < length t → f (get_or t i 0) ≡ true → i + length (before f (drop i t)) ≡ i
-before-here f t i h s = ap (λ x. i + length (before f x)) (drop-next t i h) ∙ rw s (omega arith)
-
+-- what stands before the first byte that stops, and from it on
 pub take-before : (f : ℕ → Bool) (t : List ℕ) → take (length (before f t)) t ≡ before f t
 take-before f t = ap (take (length (before f t))) (before-from f t) ∙ take-front (before f t) (from f t)
 
