@@ -7,7 +7,7 @@ use Rattle.page_tree.specs.Forms.{between}
 use Rattle.page_tree.specs.declared.kind.Kind.{Kind}
 use Rattle.page_tree.specs.declared.kind.Kind.TheVariants.{Declaration, Instruction, Comment, Cdata, Doctype, Unknown, EndTag, StartTag, Reference, Text}
 use Rattle.page_tree.proofs.SpanLaws.{clash, one_number, starts-front, take-front}
-use Rattle.page_tree.proofs.FormLaws.{HasEnds}
+use Rattle.page_tree.specs.Ends.{HasEnds}
 
 -- where the first end is found
 pub record Found (ends cs : List ℕ) (k : ℕ) : Type 0 where

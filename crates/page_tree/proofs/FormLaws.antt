@@ -6,6 +6,7 @@ use Rattle.std.proofs.lemmas.Bool.{lt-ltb, and_parts, or_cases, not-true}
 use Rattle.ix_base.specs.NcName.{is_white, is_ncname}
 use Rattle.ix_base.specs.Scope.{is_qname}
 use Rattle.page_tree.specs.Constructs.{starts}
+use Rattle.page_tree.specs.Ends.{HasEnds}
 use Rattle.page_tree.specs.Forms.{AreWhite, holds, has_bracket, between, IsPart, IsStandalone, IsDeclared, IsInstruction, IsInTag, HasForm}
 use Rattle.page_tree.specs.Meanings.{given, ◌>>=◌, before, from, is_dark, behind_white, is_white_text, behind, equalled, inside, slash, tag, start_tag, end_tag, part_at, is_answer, ends_standalone, ends_declaration, declared_behind, declared, instructed, commented, doctyped, meant_by}
 use Rattle.page_tree.specs.Tokens.{Tag, Token, start, empty, close, words, refer, section, declaration, doctype, silent}
@@ -191,19 +192,6 @@ end-out inner token e =
       named = n.0;
       are_white = r.0;
     }
-
--- the texts with which a construct of a kind begins and ends
-abbrev pub HasEnds : Kind → List ℕ → Type 0
-HasEnds Declaration text = (inner : List ℕ) × (text ≡ between (codes "<?xml") inner (codes "?>"))
-HasEnds Instruction text = ((inner : List ℕ) × (text ≡ between (codes "<?") inner (codes "?>"))) ⊎ (text ≡ codes "<?>")
-HasEnds Comment text = (inner : List ℕ) × (text ≡ between (codes "<!--") inner (codes "-->"))
-HasEnds Cdata text = (inner : List ℕ) × (text ≡ between (codes "<![CDATA[") inner (codes "]]>"))
-HasEnds Doctype text = (inner : List ℕ) × (text ≡ between (codes "<!DOCTYPE") inner (codes ">"))
-HasEnds Unknown text = Unit {0}
-HasEnds EndTag text = (inner : List ℕ) × (text ≡ between (codes "</") inner (codes ">"))
-HasEnds StartTag text = (inner : List ℕ) × (text ≡ between (codes "<") inner (codes ">"))
-HasEnds Reference text = Unit {0}
-HasEnds Text text = Unit {0}
 
 declaration-form : (at : ℕ) (text : List ℕ) (token : Token) → HasEnds Declaration text → meant_by Declaration at text ≡ Some token → HasForm Declaration at text token
 unfolding meant_by

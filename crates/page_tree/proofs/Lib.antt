@@ -29,3 +29,8 @@ pub mod SoundPages
 pub mod SpelledTags
 pub mod SpelledCuts
 pub mod SpelledRuns
+pub mod Parting
+pub mod NcNames
+pub mod ValueLaws
+pub mod TagReading
+pub mod Around

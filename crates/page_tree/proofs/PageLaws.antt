@@ -8,10 +8,11 @@ use Rattle.page_tree.specs.Page.{AllMean, page}
 use Rattle.page_tree.specs.Break.{Fault, w}
 use Rattle.page_tree.specs.Machine.{built}
 use Rattle.page_tree.specs.Tokens.{Token}
+use Rattle.page_tree.specs.Ends.{HasEnds}
 use Rattle.page_tree.proofs.Spelled.{page_built}
 use Rattle.page_tree.proofs.Building.{page_of_built}
 use Rattle.page_tree.proofs.Walking.{AllMeant, Clean, clean, unclean, meant-one}
-use Rattle.page_tree.proofs.FormLaws.{HasEnds, form-read, form-meant}
+use Rattle.page_tree.proofs.FormLaws.{form-read, form-meant}
 use Rattle.page_tree.proofs.EndLaws.{whole-ends}
 
 -- each construct begins and ends as its kind says

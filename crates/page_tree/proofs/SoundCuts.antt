@@ -10,7 +10,7 @@ use Rattle.page_tree.specs.declared.kind.Kind.{Kind}
 use Rattle.page_tree.specs.declared.kind.Kind.TheVariants.{Declaration, Instruction, Comment, Cdata, Doctype, Unknown, EndTag, StartTag, Reference, Text}
 use Rattle.page_tree.proofs.AllowedText.{allowed-nil, allowed-before, allowed-through, allowed-behind}
 use Rattle.page_tree.proofs.EndLaws.{front_of, kind-starts, kind-ends, map-suc, map-behind, found-behind, ends-behind}
-use Rattle.page_tree.proofs.FormLaws.{HasEnds}
+use Rattle.page_tree.specs.Ends.{HasEnds}
 use Rattle.page_tree.proofs.SpanLaws.{one_number}
 
 -- the first k bytes end with an ASCII byte, or one follows them, or nothing does

@@ -3,6 +3,7 @@ pub mod Tokens
 pub mod Values
 pub mod Forms
 pub mod Meanings
+pub mod Ends
 pub mod Tags
 pub mod Page
 pub mod Break
@@ -11,3 +12,6 @@ pub mod Views
 pub mod Stacks
 pub mod Names
 pub mod Spellings
+pub mod Stops
+pub mod Spans
+pub mod Read

@@ -3,7 +3,9 @@
 
 mod kind;
 pub mod laws;
+mod meaning;
 mod names;
+mod ncname;
 mod size;
 mod stack;
 mod token;

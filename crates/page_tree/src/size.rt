@@ -14,7 +14,7 @@ fn starts(text: &[u8], front: &[u8]) -> bool
     }
 }
 
-fn is_white(byte: u8) -> bool
+pub(crate) fn is_white(byte: u8) -> bool
     ensures { result ≡ is_white_byte byte }
 {
     matches!(byte, b' ' | b'\t' | b'\n' | b'\r')
@@ -32,7 +32,7 @@ fn starts_white(text: &[u8]) -> bool
 }
 
 /// What stands behind the first bytes.
-fn behind_first(text: &[u8], count: usize) -> &[u8]
+pub(crate) fn behind_first(text: &[u8], count: usize) -> &[u8]
     ensures { result.now ≡ drop count text.now }
 {
     match text.split_at_checked(count) {
