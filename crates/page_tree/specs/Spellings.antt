@@ -1,9 +1,10 @@
 -- Tags, texts and references that are written from markup.
-use Rattle.std.specs.Prelude.{◌≡◌, ℕ, ◌==◌, Bool, true, ◌||◌, List, ◌∷◌, map, Some}
+use Rattle.std.specs.Prelude.{◌≡◌, ℕ, ◌==◌, Bool, true, ◌||◌, List, ◌∷◌, ◌++◌, length, map, Some}
 use Rattle.ix_base.specs.NcName.{is_white}
 use Rattle.ix_base.specs.Scope.{is_qname}
 use Rattle.ix_base.specs.Written as written
-use Rattle.page_tree.specs.Constructs.{Construct, Cut}
+use Rattle.page_tree.specs.Constructs.{Construct, Cut, kind_of, size}
+use Rattle.page_tree.specs.declared.kind.Kind.{Kind}
 use Rattle.page_tree.specs.Tokens.{Attribute, Tag}
 
 -- the attribute has a qualified name
@@ -29,3 +30,7 @@ is_markup c = c == 60 || c == 38
 -- what ends a reference, with it or before it
 abbrev pub ends_reference : ℕ → Bool
 ends_reference c = c == 59 || (is_white c || c == 60 || c == 38)
+
+-- in front of this rest, a text is cut as one construct of this kind
+abbrev pub IsCut : Kind → List ℕ → Bool → List ℕ → Type 0
+IsCut kind text first rest = (kind_of first (text ++ rest) ≡ kind) × (size first (text ++ rest) ≡ Some (length text))

@@ -9,7 +9,7 @@ ghost use Rattle.ix_base.specs.Sound.{IsSoundTree};
 ghost use Rattle.ix_base.specs.Written.{Attribute, start_text, leaf_text, close_text};
 ghost use Rattle.page_tree.specs.Constructs.{Byte, values, offset_of, kind_of, size, finished, settled, continued};
 ghost use Rattle.page_tree.specs.Forms.{HasForm, holds};
-ghost use Rattle.page_tree.specs.Spellings.{HasName, tag_at, put_first, is_markup, ends_reference};
+ghost use Rattle.page_tree.specs.Spellings.{HasName, tag_at, put_first, IsCut, is_markup, ends_reference};
 ghost use Rattle.page_tree.specs.Values.{spelled, referred};
 ghost use Rattle.page_tree.specs.Tokens.{start, empty, close, words, refer};
 ghost use Rattle.page_tree.specs.declared.kind.Kind.TheVariants.{StartTag, EndTag, Reference, Text};
@@ -47,44 +47,45 @@ pub fn sound_tree()
 /// A construct that ends within its bytes is cut from in front of anything: it comes first, and then what the rest gives.
 pub fn cut_in_front()
     ensures { (ended first : Bool) (us vs : List Byte) → size first (values (us ++ vs)) ≡ Some (length us)
-        → finished ended first (us ++ vs) ≡ put_first (record { kind = kind_of first (values (us ++ vs)); start = offset_of (us ++ vs); text = values us })
+        → finished ended first (us ++ vs) ≡ put_first
+        (record { kind = kind_of first (values (us ++ vs)); start = offset_of (us ++ vs); text = values us })
         (finished ended false vs) }
 {}
 
 /// A start tag that is written from a name and attributes ends where it was written to end, whatever follows, and means
 /// these.
 pub fn written_start_tag()
-    ensures cut { (first : Bool) (name : List ℕ) (attrs : List Attribute) (rest : List ℕ) → is_qname name ≡ true → All HasName attrs
-        → (kind_of first (start_text name attrs ++ rest) ≡ StartTag) × (size first (start_text name attrs ++ rest) ≡ Some (length (start_text name attrs))) }
+    ensures cut { (name : List ℕ) (attrs : List Attribute) → is_qname name ≡ true → All HasName attrs
+        → (first : Bool) (rest : List ℕ) → IsCut StartTag (start_text name attrs) first rest }
     ensures means { (at : ℕ) (name : List ℕ) (attrs : List Attribute) → is_qname name ≡ true → All HasName attrs
         → HasForm StartTag at (start_text name attrs) (start (tag_at at name attrs)) }
 {}
 
 /// So does a tag of an element without children.
 pub fn written_leaf_tag()
-    ensures cut { (first : Bool) (name : List ℕ) (attrs : List Attribute) (rest : List ℕ) → is_qname name ≡ true → All HasName attrs
-        → (kind_of first (leaf_text name attrs ++ rest) ≡ StartTag) × (size first (leaf_text name attrs ++ rest) ≡ Some (length (leaf_text name attrs))) }
+    ensures cut { (name : List ℕ) (attrs : List Attribute) → is_qname name ≡ true → All HasName attrs
+        → (first : Bool) (rest : List ℕ) → IsCut StartTag (leaf_text name attrs) first rest }
     ensures means { (at : ℕ) (name : List ℕ) (attrs : List Attribute) → is_qname name ≡ true → All HasName attrs
         → HasForm StartTag at (leaf_text name attrs) (empty (tag_at at name attrs)) }
 {}
 
 /// And so does an end tag.
 pub fn written_end_tag()
-    ensures cut { (first : Bool) (name rest : List ℕ) → is_qname name ≡ true
-        → (kind_of first (close_text name ++ rest) ≡ EndTag) × (size first (close_text name ++ rest) ≡ Some (length (close_text name))) }
+    ensures cut { (name : List ℕ) → is_qname name ≡ true
+        → (first : Bool) (rest : List ℕ) → IsCut EndTag (close_text name) first rest }
     ensures means { (at : ℕ) (name : List ℕ) → is_qname name ≡ true → HasForm EndTag at (close_text name) (close name) }
 {}
 
 /// A text without `<` and `&` goes on to the next of them, and means itself unless it holds `]]>`.
 pub fn written_text()
-    ensures cut { (first : Bool) (c : ℕ) (text : List ℕ) (next : ℕ) (rest : List ℕ) → list_any is_markup (c ∷ text) ≡ false → is_markup next ≡ true
-        → (kind_of first ((c ∷ text) ++ next ∷ rest) ≡ Text) × (size first ((c ∷ text) ++ next ∷ rest) ≡ Some (length (c ∷ text))) }
+    ensures cut { (c : ℕ) (text : List ℕ) (next : ℕ) → list_any is_markup (c ∷ text) ≡ false → is_markup next ≡ true
+        → (first : Bool) (rest : List ℕ) → IsCut Text (c ∷ text) first (next ∷ rest) }
     ensures means { (at : ℕ) (text : List ℕ) → holds (codes "]]>") text ≡ false → HasForm Text at text (words text) }
 {}
 
 /// A reference ends with its `;`, whatever follows, and means its character.
 pub fn written_reference()
-    ensures cut { (first : Bool) (inner rest : List ℕ) → list_any ends_reference inner ≡ false
-        → (kind_of first ((38 ∷ (inner ++ 59 ∷ [])) ++ rest) ≡ Reference) × (size first ((38 ∷ (inner ++ 59 ∷ [])) ++ rest) ≡ Some (length (38 ∷ (inner ++ 59 ∷ [])))) }
+    ensures cut { (inner : List ℕ) → list_any ends_reference inner ≡ false
+        → (first : Bool) (rest : List ℕ) → IsCut Reference (38 ∷ (inner ++ 59 ∷ [])) first rest }
     ensures means { (at : ℕ) (inner : List ℕ) → HasForm Reference at (38 ∷ (inner ++ 59 ∷ [])) (refer (spelled (referred inner))) }
 {}

@@ -179,7 +179,8 @@ fn is_expanded(scope: &[Binding<'_>], attr: &Attribute<'_>) -> bool
 }
 
 fn has_same_name(scope: &[Binding<'_>], a: &Attribute<'_>, b: &Attribute<'_>) -> bool
-    ensures { result ≡ spec.same_name (attribute_name_in (map bound scope.now) a.now.name.now) (attribute_name_in (map bound scope.now) b.now.name.now) }
+    ensures { result ≡ spec.same_name (attribute_name_in (map bound scope.now) a.now.name.now)
+        (attribute_name_in (map bound scope.now) b.now.name.now) }
 {
     let a = attribute_name(scope, a.name);
     let b = attribute_name(scope, b.name);
@@ -340,7 +341,8 @@ pub(crate) fn scope_of<'a>(
     scope: &'a [Binding<'a>],
     attrs: &[Attribute<'a>],
 ) -> Result<&'a [Binding<'a>], NoMemory>
-    ensures { IfOk result (λ s. map bound s.now ≡ scope_under (map bound scope.now) (filter_map spec.binding_of (map attribute_of attrs.now))) }
+    ensures { IfOk result (λ s. map bound s.now
+        ≡ scope_under (map bound scope.now) (filter_map spec.binding_of (map attribute_of attrs.now))) }
 {
     if !has_bindings(attrs) {
         return Ok(scope);

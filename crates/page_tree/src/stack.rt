@@ -49,7 +49,8 @@ fn flush_text<'a>(
 impl<'a> Open<'a> {
     /// The pending text becomes a child.
     pub(crate) fn flush(&mut self, arena: &'a Bump, text: &mut String) -> Result<(), NoMemory>
-        ensures frame { OnOk result (frame self.new ≡ record (frame self.old) { done = flush (frame self.old).done (string_bytes text.old) }) }
+        ensures frame { OnOk result (frame self.new
+            ≡ record (frame self.old) { done = flush (frame self.old).done (string_bytes text.old) }) }
         ensures text { OnOk result (string_bytes text.new ≡ []) }
     {
         flush_text(arena, text, &mut self.children)
@@ -139,7 +140,8 @@ pub(crate) fn put<'a>(
     root: &mut Option<&'a Element<'a>>,
     element: &'a Element<'a>,
 ) -> Result<(), NoMemory>
-    ensures { OnOk result ((d : Bool) → closed (frames_of elements.old.items) (tree_of element.now).head (tree_of element.now).children (option_map (λ e. tree_of e.now) root.old) d
+    ensures { OnOk result ((d : Bool) → closed (frames_of elements.old.items) (tree_of element.now).head
+        (tree_of element.now).children (option_map (λ e. tree_of e.now) root.old) d
         ≡ record { frames = frames_of elements.new.items; text = []; root = option_map (λ e. tree_of e.now) root.new; doctyped = d }) }
 {
     let Some(mut parent) = elements.pop() else {
