@@ -1,4 +1,4 @@
-use Rattle.std.proofs.Common.{◌≡◌, Some, None, refl, codes}
+use Rattle.std.proofs.Common.{◌≡◌, ℕ, zero, suc, List, [], ◌∷◌, Some, None, refl, codes}
 use lib.Utf8.{encode}
 use Rattle.page_text.specs.Characters.{scan_from, unified}
 use Rattle.ix_base.specs.NcName.{is_ncname, is_name_start, is_name_char, is_allowed}
@@ -8,7 +8,7 @@ use Rattle.page_tree.specs.Constructs.{size_by, kind_of, cut_from}
 use Rattle.page_tree.specs.Meanings.{attributes_in, meant_by}
 use Rattle.page_tree.specs.Values.{meant_in, referred}
 use Rattle.page_tree.specs.Break.{broken_by, outline_behind, walked, w, fault}
-use Rattle.ix_base.specs.declared.rule.Rule.TheVariants.{W3, W4, W5, W6, W7, W8, W9, W11, W12}
+use Rattle.ix_base.specs.declared.rule.Rule.TheVariants.{W1, W2, W3, W4, W5, W6, W7, W8, W9, W10, W11, W12}
 
 row0 : w (codes "<a></b>") 256 ≡ Some (fault 3 W5)
 unfolding is_utf8 scan_from unified is_ncname is_name_start is_name_char is_allowed chars size_by kind_of cut_from attributes_in meant_by meant_in referred broken_by outline_behind walked encode xml_namespace xmlns_namespace
@@ -93,3 +93,33 @@ row19 = refl
 row20 : w (codes "<a><b><c/></b></a>") 256 ≡ None
 unfolding is_utf8 scan_from unified is_ncname is_name_start is_name_char is_allowed chars size_by kind_of cut_from attributes_in meant_by meant_in referred broken_by outline_behind walked encode xml_namespace xmlns_namespace
 row20 = refl
+
+bad-bytes : w (0xEF ∷ 0xBB ∷ 0xBF ∷ 60 ∷ 97 ∷ 62 ∷ 0xFF ∷ []) 256 ≡ Some (fault 6 W1)
+unfolding is_utf8 scan_from unified is_ncname is_name_start is_name_char is_allowed chars size_by kind_of cut_from attributes_in meant_by meant_in referred broken_by outline_behind walked encode xml_namespace xmlns_namespace
+bad-bytes = refl
+
+bad-character : w (60 ∷ 97 ∷ 62 ∷ 1 ∷ []) 256 ≡ Some (fault 3 W2)
+unfolding is_utf8 scan_from unified is_ncname is_name_start is_name_char is_allowed chars size_by kind_of cut_from attributes_in meant_by meant_in referred broken_by outline_behind walked encode xml_namespace xmlns_namespace
+bad-character = refl
+
+too-deep : w (codes "<a><b><c/></b></a>") 2 ≡ Some (fault 6 W10)
+unfolding is_utf8 scan_from unified is_ncname is_name_start is_name_char is_allowed chars size_by kind_of cut_from attributes_in meant_by meant_in referred broken_by outline_behind walked encode xml_namespace xmlns_namespace
+too-deep = refl
+
+-- so many start tags, and what follows
+nested : ℕ → List ℕ → List ℕ
+nested zero more = more
+nested (suc n) more = 60 ∷ 97 ∷ 62 ∷ nested n more
+
+deep : w (nested 257 []) 256 ≡ Some (fault 768 W10)
+unfolding is_utf8 scan_from unified is_ncname is_name_start is_name_char is_allowed chars size_by kind_of cut_from attributes_in meant_by meant_in referred broken_by outline_behind walked encode xml_namespace xmlns_namespace nested
+deep = refl
+
+-- so many end tags
+ended : ℕ → List ℕ
+ended zero = []
+ended (suc n) = 60 ∷ 47 ∷ 97 ∷ 62 ∷ ended n
+
+deepest : w (nested 256 (ended 256)) 256 ≡ None
+unfolding is_utf8 scan_from unified is_ncname is_name_start is_name_char is_allowed chars size_by kind_of cut_from attributes_in meant_by meant_in referred broken_by outline_behind walked encode xml_namespace xmlns_namespace nested ended
+deepest = refl
