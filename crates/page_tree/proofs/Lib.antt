@@ -34,3 +34,5 @@ pub mod NcNames
 pub mod ValueLaws
 pub mod TagReading
 pub mod Around
+pub mod StateLaws
+pub mod PageNumbers

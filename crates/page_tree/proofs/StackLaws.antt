@@ -1,9 +1,11 @@
 -- The innermost open element is the last of the stack.
-use Rattle.std.proofs.Common.{◌≡◌, ℕ, ◌+◌, Bool, List, [], ◌∷◌, ◌++◌, length, get_or, take, refl, sym, ap, ◌∙◌, arith, Option}
+use Rattle.std.proofs.Common.{◌≡◌, ◌≢◌, ℕ, ◌+◌, ◌<◌, Bool, List, [], ◌∷◌, ◌++◌, length, get_or, take, refl, sym, ap, ◌∙◌, arith, Option, Some, None, map, bytes_eq, true, false, ◌==◌, is_some, option_map}
+use Rattle.std.proofs.lemmas.Bool.{eq-eqb, ne_eqb}
 use Rattle.std.proofs.lemmas.List.{take_more}
 use Rattle.std.proofs.Math.Seq.{take-length}
 use Rattle.ix_base.specs.Trees.{Head, Nodes, none, elem, Tree}
-use Rattle.page_tree.specs.Machine.{Frame, append, flush, flushed, closed, scope_in}
+use Rattle.page_tree.specs.Break.{is_empty, matches}
+use Rattle.page_tree.specs.Machine.{Frame, State, append, flush, flushed, closed, scope_in, running, outlined, is_rooted}
 use Rattle.page_tree.specs.Stacks.{frame, frames_onto, frames_of}
 use Rattle.page_tree.specs.declared.stack.Open.{Open}
 
@@ -17,8 +19,8 @@ flushed-snoc all rest more old new text a m e =
     ap frames_of m ∙ frames-snoc [] rest new ∙ ap (λ f. f ∷ frames_of rest) e
     ∙ sym (ap (λ l. flushed (frames_of l) text) a ∙ ap (λ fs. flushed fs text) (frames-snoc [] rest old))
 
-pub put-snoc : (all rest more : List Open) (old new : Open) (h : Head) (k : Nodes) (root : Option Tree) (d : Bool) → all ≡ rest ++ old ∷ [] → more ≡ rest ++ new ∷ []
-    → frame new ≡ record (frame old) { done = append (frame old).done (elem h k none) }
+pub put-snoc : (all rest more : List Open) (old new : Open) (h : Head) (k : Nodes) (root : Option Tree) (d : Bool)
+    → all ≡ rest ++ old ∷ [] → more ≡ rest ++ new ∷ [] → frame new ≡ record (frame old) { done = append (frame old).done (elem h k none) }
     → closed (frames_of all) h k root d ≡ record { frames = frames_of more; text = []; root = root; doctyped = d }
 put-snoc all rest more old new h k root d a m e =
     ap (λ l. closed (frames_of l) h k root d) a
@@ -33,7 +35,54 @@ length-onto (o ∷ os) fs = length-onto os (frame o ∷ fs) ∙ omega arith
 last-split : (os : List Open) (n : ℕ) (o : Open) → n + 1 ≡ length os → os ≡ take n os ++ get_or os n o ∷ []
 last-split os n o h = sym (take-length os) ∙ ap (λ k. take k os) (sym h) ∙ take_more os n o (omega arith)
 
-pub scope-last : (os : List Open) (n : ℕ) (o : Open) → n + 1 ≡ length os → o ≡ get_or os n o → (frame o).head.scope ≡ scope_in (frames_of os)
+pub scope-last : (os : List Open) (n : ℕ) (o : Open) → n + 1 ≡ length os → o ≡ get_or os n o
+    → (frame o).head.scope ≡ scope_in (frames_of os)
 scope-last os n o h e =
     ap (λ p. (frame p).head.scope) e
     ∙ sym (ap (λ l. scope_in (frames_of l)) (last-split os n o h) ∙ ap scope_in (frames-snoc [] (take n os) (get_or os n o)))
+
+onto-some : (os : List Open) (f : Frame) (fs : List Frame) → (g : Frame) × (gs : List Frame) × (frames_onto (f ∷ fs) os ≡ g ∷ gs)
+onto-some [] f fs = (f, fs, refl)
+onto-some (o ∷ os) f fs = onto-some os (frame o) (f ∷ fs)
+
+pub outside-is : (os : List Open) (n : ℕ) → n ≡ length os → (n == 0) ≡ is_empty (map outlined (frames_of os))
+unfolding onto-some
+outside-is [] n e = eq-eqb n 0 e
+outside-is (o ∷ os) n e = let s = onto-some os (frame o) [] in ne_eqb n 0 (λ z. omega arith) ∙ sym (ap (λ x. is_empty (map outlined x)) s.2)
+
+pub rooted-some : (os : List Open) (root : Option Tree) → 0 < length os → is_rooted (frames_of os) root ≡ true
+rooted-some [] root h = absurd (omega arith)
+rooted-some (o ∷ os) root h = let s = onto-some os (frame o) [] in ap (λ x. is_rooted x root) s.2
+
+pub matches-last : (os : List Open) (n : ℕ) (o : Open) (name : List ℕ) → n + 1 ≡ length os → o ≡ get_or os n o
+    → matches (map outlined (frames_of os)) name ≡ bytes_eq (frame o).written name
+matches-last os n o name h e =
+    ap (λ l. matches (map outlined (frames_of l)) name) (last-split os n o h)
+    ∙ ap (λ fs. matches (map outlined fs) name) (frames-snoc [] (take n os) (get_or os n o))
+    ∙ ap (λ p. bytes_eq (frame p).written name) (sym e)
+
+pub rooted-outside : (os : List Open) (root : Option Tree) → is_empty (map outlined (frames_of os)) ≡ true
+    → is_some root ≡ is_rooted (frames_of os) root
+rooted-outside [] None h = refl
+rooted-outside [] (Some t) h = refl
+rooted-outside (o ∷ os) root h = let s = onto-some os (frame o) [] in absurd (let z : is_empty (map outlined (frames_of (o ∷ os))) ≡ false = ap (λ x. is_empty (map outlined x)) s.2 in cc)
+
+pub rooted-inside : (os : List Open) (root : Option Tree) → is_empty (map outlined (frames_of os)) ≡ false
+    → true ≡ is_rooted (frames_of os) root
+rooted-inside [] root h = absurd (cc)
+rooted-inside (o ∷ os) root h = let s = onto-some os (frame o) [] in sym (ap (λ x. is_rooted x root) s.2)
+
+pub is_some-map : {A B : Type 0} (f : A → B) (o : Option A) → is_some (option_map f o) ≡ is_some o
+is_some-map f None = refl
+is_some-map f (Some x) = refl
+
+pub length-frames : (os : List Open) → length (frames_of os) ≡ length os
+length-frames os = length-onto os [] ∙ omega arith
+
+pub pushed-frames : (all more : List Open) (o : Open) → more ≡ all ++ o ∷ [] → frames_of more ≡ frame o ∷ frames_of all
+pushed-frames all more o m = ap frames_of m ∙ frames-snoc [] all o
+
+pub running-some : (os : List Open) (s : State) (cs : List ℕ) → os ≢ [] → s.frames ≡ frames_of os
+    → running s.frames s cs ≡ record s { text = s.text ++ cs }
+running-some [] s cs h e = absurd (h refl)
+running-some (o ∷ os) s cs h e = let f = onto-some os (frame o) [] in ap (λ x. running x s cs) (e ∙ f.2)

@@ -5,7 +5,8 @@ use Rattle.std.proofs.lemmas.Slice.Eq.{bytes_eq-Decides}
 use Rattle.ix_base.specs.Trees.{Bound, Head}
 use Rattle.ix_base.specs.declared.rule.Rule.{Rule}
 use Rattle.page_tree.specs.Break.{Outline, inner_scope, is_outside, broken_or, broken_by_tag}
-use Rattle.page_tree.specs.Tags.{repeats, misrefers, misnames, scope_of, is_fair, head_of, opened}
+use Rattle.ix_base.specs.declared.rule.Rule.TheVariants.{W7, W8, W9, W10, W12}
+use Rattle.page_tree.specs.Tags.{repeats, misrefers, misnames, scope_of, is_fair, head_of, opened, tag_break}
 use Rattle.page_tree.specs.Tokens.{Tag}
 
 pub and_left : (a b : Bool) → (a && b) ≡ true → a ≡ true
@@ -72,3 +73,25 @@ same_name m = (bytes_eq-Decides m m).1 refl
 
 pub one_name : (m n : List ℕ) → bytes_eq m n ≡ true → m ≡ n
 one_name m n e = (bytes_eq-Decides m n).0 e
+
+-- the rules on attributes and namespaces, then the depth, then a second root
+pub tag-broken : (n : ℕ) (o : Outline) (t : Tag) (r : Rule) → tag_break (scope_of (inner_scope o.open_elements) t) t ≡ Some r → broken_by_tag n o t ≡ Some r
+tag-broken n o t r e = by1 (repeats (scope_of (inner_scope o.open_elements) t) t.attrs) (misrefers t.attrs) (misnames (scope_of (inner_scope o.open_elements) t) t) e where
+  by1 : (a b c : Bool) → (if a then Some W7 else (if b then Some W8 else (if c then Some W9 else None))) ≡ Some r
+      → broken_or a W7 (broken_or b W8 (broken_or c W9 (broken_or (not (nat_lt (length o.open_elements) n)) W10 (broken_or (is_outside o && o.rooted) W12 None)))) ≡ Some r
+  by1 true b c q = q
+  by1 false true c q = q
+  by1 false false true q = q
+  by1 false false false q = absurd (cc)
+
+pub tag-unbroken : (n : ℕ) (o : Outline) (t : Tag) → tag_break (scope_of (inner_scope o.open_elements) t) t ≡ None
+    → broken_by_tag n o t ≡ broken_or (not (nat_lt (length o.open_elements) n)) W10 (broken_or (is_outside o && o.rooted) W12 None)
+tag-unbroken n o t e = by1 (repeats (scope_of (inner_scope o.open_elements) t) t.attrs) (misrefers t.attrs) (misnames (scope_of (inner_scope o.open_elements) t) t) e where
+  rest : Option Rule
+  rest = broken_or (not (nat_lt (length o.open_elements) n)) W10 (broken_or (is_outside o && o.rooted) W12 None)
+
+  by1 : (a b c : Bool) → (if a then Some W7 else (if b then Some W8 else (if c then Some W9 else None))) ≡ None → broken_or a W7 (broken_or b W8 (broken_or c W9 rest)) ≡ rest
+  by1 true b c q = absurd (cc)
+  by1 false true c q = absurd (cc)
+  by1 false false true q = absurd (cc)
+  by1 false false false q = refl

@@ -10,6 +10,7 @@ pub mod Break
 pub mod Machine
 pub mod Views
 pub mod Stacks
+pub mod Buildings
 pub mod Names
 pub mod Spellings
 pub mod Stops

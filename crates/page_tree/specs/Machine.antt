@@ -71,6 +71,9 @@ opening s t = record {
   doctyped = s.doctyped;
 }
 
+abbrev pub standing : State → Tag → State
+standing s t = closed (flushed s.frames s.text) (head_of (scope_in s.frames) t) none s.root s.doctyped
+
 abbrev pub closing : List Frame → State → State
 closing [] s = s
 closing (f ∷ fs) s = closed fs f.head (flush f.done s.text) s.root s.doctyped
@@ -87,7 +90,7 @@ referring s (Some cs) = running s.frames s cs
 -- the state behind a construct that breaks nothing
 unfoldable pub moved : State → Token → State
 moved s (start t) = opening s t
-moved s (empty t) = closed (flushed s.frames s.text) (head_of (scope_in s.frames) t) none s.root s.doctyped
+moved s (empty t) = standing s t
 moved s (close name) = closing s.frames s
 moved s (words text) = running s.frames s text
 moved s (refer char) = referring s char

@@ -1,6 +1,9 @@
 -- What the code's stack of open elements stands for.
-use Rattle.std.specs.Prelude.{List, [], ◌∷◌, map}
+use Rattle.std.specs.Prelude.{◌≡◌, ℕ, List, [], ◌∷◌, ◌++◌, map, flat_map, All, Option, Some, None}
+use Rattle.std.specs.Borrow.{Bor}
+use Rattle.ix_base.specs.Elements.{pages_of, pages_in}
 use Rattle.ix_base.specs.Trees.{valued, bound, named, nodes_of}
+use Rattle.ix_base.specs.declared.tree.Element.{Element}
 use Rattle.page_tree.specs.Machine.{Frame}
 use Rattle.page_tree.specs.declared.stack.Open.{Open}
 
@@ -18,3 +21,20 @@ frames_onto fs (o ∷ os) = frames_onto (frame o ∷ fs) os
 
 abbrev pub frames_of : List Open → List Frame
 frames_of os = frames_onto [] os
+
+-- the page numbers of an open element and of what is built in it
+abbrev pub pages_open : Open → List ℕ
+pages_open o = o.place.page ∷ flat_map pages_in o.children.items
+
+-- the page numbers of a root, if there is one
+abbrev pub pages_under : Option (Bor Element) → List ℕ
+pages_under None = []
+pages_under (Some e) = pages_of e.now
+
+-- the page numbers of all that is built
+abbrev pub pages_built : List Open → Option (Bor Element) → List ℕ
+pages_built os root = flat_map pages_open os ++ pages_under root
+
+-- each of these page numbers is this one
+abbrev pub AreAll : ℕ → List ℕ → Type 0
+AreAll page pages = All (λ p. p ≡ page) pages

@@ -9,5 +9,6 @@ mod ncname;
 mod size;
 mod stack;
 mod token;
+mod tree;
 
 pub use kind::Kind;

@@ -2,7 +2,7 @@
 ghost use Rattle.std.specs.Prelude.{◌≡◌, ◌≤◌, ◌<◌, true, false, filter, length, ◌++◌, ◌∷◌, [], IfOk, OnOk, map, option_map, Some, None, bytes_eq, not, ◌&&◌, ◌||◌, codes};
 ghost use Rattle.std.specs.List.{list_any, filter_map};
 ghost use Rattle.ix_base.specs.Trees.{bound, named, valued};
-ghost use Rattle.ix_base.specs.Scope.{has_prefix, prefix_of, local_of, namespace_of as namespace_in, bound_over, declared_over, scope_under, element_name as element_name_in, attribute_name as attribute_name_in, xml_namespace, xmlns_namespace};
+ghost use Rattle.ix_base.specs.Scope.{has_prefix, prefix_of, local_of, namespace_of as namespace_in, bound_over, declared_over, scope_under, outermost, element_name as element_name_in, attribute_name as attribute_name_in, xml_namespace, xmlns_namespace};
 ghost use Rattle.page_tree.specs.Views.{attribute_of, tag_of};
 ghost use Rattle.page_tree.specs.Names.{name_parts, place_of, has_at};
 ghost use Rattle.page_tree.specs.Tags as spec;
@@ -16,6 +16,17 @@ use std::alloc::Global;
 const XML: &str = "http://www.w3.org/XML/1998/namespace";
 
 const XMLNS: &str = "http://www.w3.org/2000/xmlns/";
+
+/// The scope above the root: the prefix xml is always bound.
+#[tactic(auto, unfolding(ix_base::specs::Scope::xml_namespace))]
+pub(crate) fn outermost_scope<'a>() -> &'a [Binding<'a>]
+    ensures { map bound result.now ≡ outermost }
+{
+    &[Binding {
+        prefix: "xml",
+        ns: XML,
+    }]
+}
 
 /// The prefix and the local part of a written name that has a colon.
 fn split_name(name: &str) -> Option<(&str, &str)>

@@ -1,13 +1,13 @@
 //! The open elements of a page, and what is built of them.
-ghost use Rattle.std.specs.Prelude.{◌≡◌, ◌++◌, ◌∷◌, [], ℕ, List, Bool, Some, None, OnOk, IfOk, IfSome, IsTrue, IsFalse, is_some, string_bytes, option_map, map};
-ghost use Rattle.ix_base.specs.Trees.{none, tree_of, nodes_of, named, valued, bound};
-ghost use Rattle.page_tree.specs.Machine.{flush, flushed, scope_in, closed, running, Frame};
+ghost use Rattle.std.specs.Prelude.{◌≡◌, ◌∷◌, [], ℕ, Bool, OnOk, IfOk, string_bytes, option_map, map, flat_map};
+ghost use Rattle.ix_base.specs.Elements.{pages_of, pages_in};
+ghost use Rattle.ix_base.specs.Trees.{none, tree_of, nodes_of, bound};
+ghost use Rattle.page_tree.specs.Machine.{flush, flushed, scope_in, closed};
 ghost use Rattle.page_tree.specs.Tags.{head_of, scope_of as scope_under_tag};
 ghost use Rattle.page_tree.specs.Views.{tag_of};
-ghost use Rattle.page_tree.specs.Stacks.{frame, frames_of};
-ghost use Rattle.ix_base.specs.Scope.{outermost};
+ghost use Rattle.page_tree.specs.Stacks.{frame, frames_of, pages_open, pages_built, AreAll};
 
-use crate::names::{attributes_of, element_name};
+use crate::names::{attributes_of, element_name, outermost_scope};
 use crate::token::Tag;
 use bumpalo::Bump;
 use ix_base::{Attr, Binding, Element, Name, NoMemory, Node, Place};
@@ -32,6 +32,7 @@ fn flush_text<'a>(
 ) -> Result<(), NoMemory>
     ensures nodes { OnOk result (nodes_of children.new.items ≡ flush (nodes_of children.old.items) (string_bytes text.old)) }
     ensures text { OnOk result (string_bytes text.new ≡ []) }
+    ensures pages { OnOk result (flat_map pages_in children.new.items ≡ flat_map pages_in children.old.items) }
 {
     if text.is_empty() {
         return Ok(());
@@ -52,6 +53,7 @@ impl<'a> Open<'a> {
         ensures frame { OnOk result (frame self.new
             ≡ record (frame self.old) { done = flush (frame self.old).done (string_bytes text.old) }) }
         ensures text { OnOk result (string_bytes text.new ≡ []) }
+        ensures pages { OnOk result (pages_open self.new ≡ pages_open self.old) }
     {
         flush_text(arena, text, &mut self.children)
     }
@@ -63,7 +65,8 @@ pub(crate) fn flush_innermost<'a>(
     elements: &mut Vec<Open<'a>>,
     text: &mut String,
 ) -> Result<(), NoMemory>
-    ensures { OnOk result (frames_of elements.new.items ≡ flushed (frames_of elements.old.items) (string_bytes text.old)) }
+    ensures frames { OnOk result (frames_of elements.new.items ≡ flushed (frames_of elements.old.items) (string_bytes text.old)) }
+    ensures pages { OnOk result (flat_map pages_open elements.new.items ≡ flat_map pages_open elements.old.items) }
 {
     let Some(mut parent) = elements.pop() else {
         return Ok(());
@@ -76,15 +79,11 @@ pub(crate) fn flush_innermost<'a>(
 }
 
 /// The scope in the innermost open element, or that above the root.
-pub(crate) fn innermost_scope<'a>(
-    elements: &[Open<'a>],
-    outer: &'a [Binding<'a>],
-) -> &'a [Binding<'a>]
-    requires { map bound outer.now ≡ outermost }
+pub(crate) fn innermost_scope<'a>(elements: &[Open<'a>]) -> &'a [Binding<'a>]
     ensures { map bound result.now ≡ scope_in (frames_of elements.now) }
 {
     let Some(parent) = elements.last() else {
-        return outer;
+        return outermost_scope();
     };
     parent.scope
 }
@@ -97,8 +96,9 @@ pub(crate) fn open_element<'a>(
     scope: &'a [Binding<'a>],
     tag: &Tag<'a>,
 ) -> Result<Open<'a>, NoMemory>
-    ensures { IfOk result (λ o. (outer : _) → map bound scope.now ≡ scope_under_tag outer (tag_of tag.now)
+    ensures frame { IfOk result (λ o. (outer : _) → map bound scope.now ≡ scope_under_tag outer (tag_of tag.now)
         → frame o ≡ record { written = tag.now.name.now; head = head_of outer (tag_of tag.now); done = none }) }
+    ensures pages { IfOk result (λ o. pages_open o ≡ page ∷ []) }
 {
     let attrs = attributes_of(arena, scope, tag.attrs)?;
     Ok(Open {
@@ -116,7 +116,8 @@ pub(crate) fn open_element<'a>(
 
 /// The element, once it has ended.
 pub(crate) fn close_element<'a>(arena: &'a Bump, own: Open<'a>) -> Result<&'a Element<'a>, NoMemory>
-    ensures { IfOk result (λ e. tree_of e.now ≡ record { head = (frame own.entry).head; children = (frame own.entry).done }) }
+    ensures tree { IfOk result (λ e. tree_of e.now ≡ record { head = (frame own.entry).head; children = (frame own.entry).done }) }
+    ensures pages { IfOk result (λ e. pages_of e.now ≡ pages_open own.entry) }
 {
     let Ok(children) = arena.try_alloc_slice_copy(own.children.as_slice()) else {
         return Err(NoMemory);
@@ -140,9 +141,11 @@ pub(crate) fn put<'a>(
     root: &mut Option<&'a Element<'a>>,
     element: &'a Element<'a>,
 ) -> Result<(), NoMemory>
-    ensures { OnOk result ((d : Bool) → closed (frames_of elements.old.items) (tree_of element.now).head
+    ensures state { OnOk result ((d : Bool) → closed (frames_of elements.old.items) (tree_of element.now).head
         (tree_of element.now).children (option_map (λ e. tree_of e.now) root.old) d
         ≡ record { frames = frames_of elements.new.items; text = []; root = option_map (λ e. tree_of e.now) root.new; doctyped = d }) }
+    ensures pages { OnOk result ((page : ℕ) → AreAll page (pages_of element.now)
+        → AreAll page (pages_built elements.old.items root.old) → AreAll page (pages_built elements.new.items root.new)) }
 {
     let Some(mut parent) = elements.pop() else {
         *root = Some(element);
