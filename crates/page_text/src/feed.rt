@@ -169,6 +169,9 @@ impl Feed {
         // A caller can push again.
         ensures counts { (self.old.pushed ≤ self.new.pushed) × (self.new.pushed ≤ self.old.pushed + length piece.now) }
 
+        // What waits for the rest of its character was pushed.
+        ensures waits { length self.old.part ≤ self.old.pushed }
+
         // A fault stays.
         ensures kept { (f : _) → self.old.fault ≡ Some f
             → (result ≡ Err f) × (self.new.fault ≡ Some f) × (marks.new.items ≡ marks.old.items) }

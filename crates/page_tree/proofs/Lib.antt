@@ -35,4 +35,10 @@ pub mod ValueLaws
 pub mod TagReading
 pub mod Around
 pub mod StateLaws
+pub mod ActingLaws
+pub mod PlacingLaws
+pub mod CutPoints
+pub mod SettleLaws
 pub mod PageNumbers
+pub mod MarkBounds
+pub mod FinishLaws

@@ -67,6 +67,10 @@ decoded-fits n b c d e =
     fits-cond (continues e) _ _ (λ x. fits-good (code_of_4 b c d e) 4 (any (code_of_4 b c d e))) (λ x. fits-bad 3))))
     (λ x. fits-bad 2)))) (λ x. fits-bad 1))))))
 
+pub char-fits : (b : ℕ) (bs : List ℕ) (c : ℕ) → (decoded (b ∷ bs)).char ≡ Some c → len_utf8 c ≤ (decoded (b ∷ bs)).size
+unfolding Fits
+char-fits b bs c e = decoded-fits (length (b ∷ bs)) (slice_index (b ∷ bs) 0) (slice_index (b ∷ bs) 1) (slice_index (b ∷ bs) 2) (slice_index (b ∷ bs) 3) c e
+
 -- allowed characters from an offset on, each behind the one before it
 abbrev pub GoodMarks : ℕ → List Mark → Type 0
 GoodMarks at [] = Unit {0}

@@ -9,7 +9,7 @@ pub length-values : (us : List Byte) → length (values us) ≡ length us
 length-values [] = refl
 length-values (u ∷ us) = let l = length-values us in omega arith
 
-whole-takes : (ended first : Bool) (cs : List ℕ) (k : ℕ) → whole_size ended first cs ≡ Some k → (0 < k) × (k ≤ length cs)
+pub whole-takes : (ended first : Bool) (cs : List ℕ) (k : ℕ) → whole_size ended first cs ≡ Some k → (0 < k) × (k ≤ length cs)
 whole-takes ended first cs k e = by_size (size first cs) refl e where
   by_run : (b : Bool) (ds : List ℕ) → cs ≡ ds → (b ≡ true → is_run ds ≡ true) → (if b then Some (length cs) else None) ≡ Some k → (0 < k) × (k ≤ length cs)
   by_run false ds s h q = absurd (cc)
@@ -43,7 +43,7 @@ fuel (suc n) (suc m) ended first us a b = (elim (whole_size ended first (values 
 ]) refl
 
 -- a construct that ends in the first piece is the same with what follows
-same-construct : (first : Bool) (k : ℕ) (a b : List Byte) → size first (values a) ≡ Some k → construct first k (a ++ b) ≡ construct first k a
+pub same-construct : (first : Bool) (k : ℕ) (a b : List Byte) → size first (values a) ≡ Some k → construct first k (a ++ b) ≡ construct first k a
 same-construct first k a b e = λ i. record { kind = kind i; start = start i; text = text i } where
   t : (0 < k) × (k ≤ length (values a))
   t = size_by-takes (kind_of first (values a)) (values a) k e

@@ -16,3 +16,7 @@ pub mod Spellings
 pub mod Stops
 pub mod Spans
 pub mod Read
+pub mod Acting
+pub mod Placing
+pub mod Waiting
+pub mod Standing

@@ -1,6 +1,8 @@
 //! A page's characters as constructs, and its constructs as a tree.
 #![tactic(auto)]
 
+mod builder;
+mod ending;
 mod kind;
 pub mod laws;
 mod meaning;
@@ -9,6 +11,10 @@ mod ncname;
 mod size;
 mod stack;
 mod token;
+mod pending;
+mod reading;
+mod settle;
 mod tree;
 
+pub use builder::{PageFault, TreeBuilder};
 pub use kind::Kind;

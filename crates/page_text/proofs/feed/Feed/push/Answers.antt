@@ -123,3 +123,16 @@ returns-clause-counts c =
     let done = take c.loop-byte.byte-index c.args.piece.now in
     let counted : c.loop-byte.self.pushed ≡ r.pushed + length done = ap (λ q. q.pushed) c.loop-byte.invariant.1 ∙ pushed-after r done in
     (omega (arith, counted), omega (arith, counted, length-take c.loop-byte.byte-index c.args.piece.now))
+
+-- ---- what waits was pushed
+
+pub returns-in-Some-clause-waits : goal.returns-in-Some-clause-waits
+returns-in-Some-clause-waits c =
+    let f = c.self.inside in
+    (subst IsSound c.self.view_is (held-sound f.pushed f.held f.part f.after_cr f.fault (omega arith) c.self.invariant.1 c.self.invariant.2)).0
+
+pub returns-then-is_err-clause-waits : goal.returns-then-is_err-clause-waits
+returns-then-is_err-clause-waits c = c.loop-byte.invariant.0.0
+
+pub returns-clause-waits : goal.returns-clause-waits
+returns-clause-waits c = c.loop-byte.invariant.0.0

@@ -1,0 +1,19 @@
+use Rattle.std.proofs.Common.{◌≡◌, ℕ, ◌-◌, ◌==◌, ◌&&◌, length, drop}
+use Rattle.std.specs.Str.{IsCharBoundary}
+use Rattle.page_tree.specs.Acting.{Leads}
+use Rattle.page_tree.specs.Buildings.{state_of, IsOnPage}
+use Rattle.page_tree.specs.Placing.{placed}
+use Rattle.page_tree.proofs.settle.settle.Given as goal
+
+pub record Goes (l : goal.Live-constructs) : Type 0 where
+  pub boundary : IsCharBoundary l.text l.at
+  pub depth : l.building.depth ≡ l.initial.building.depth
+  pub page : l.building.page ≡ l.initial.building.page
+  pub on_page : IsOnPage l.initial.building.page l.initial.building → IsOnPage l.building.page l.building
+  pub leads : Leads l.ended l.initial.building.depth (state_of l.initial.building) l.first (placed l.text l.offsets) (state_of l.building) (l.first && (l.at == 0)) (drop l.at (placed l.text l.offsets))
+
+abbrev pub invariant-constructs : goal.invariant-constructs
+invariant-constructs l = Goes l
+
+abbrev pub decreases-constructs : goal.decreases-constructs
+decreases-constructs l = length l.text - l.at
