@@ -1,13 +1,13 @@
 -- Where the code cuts a page's text.
-use Rattle.std.proofs.Common.{◌≡◌, ℕ, zero, suc, ◌+◌, ◌<◌, ◌≤◌, ◌⊎◌, inl, inr, Bool, List, [], ◌∷◌, ◌++◌, length, take, drop, get_or, Option, Some, None, refl, sym, ap, ◌∙◌, subst, arith, append_assoc, length-append, length-drop, take-append-drop, slice_index}
+use Rattle.std.proofs.Common.{◌≡◌, ℕ, zero, suc, ◌+◌, ◌<◌, ◌≤◌, inl, inr, Bool, List, [], ◌∷◌, ◌++◌, length, take, drop, get_or, Some, refl, sym, ap, ◌∙◌, subst, arith, append_assoc, length-append, length-drop, take-append-drop}
 use Rattle.std.proofs.lemmas.List.{take-map}
 use Rattle.std.specs.Str.{IsUtf8, IsCharBoundary}
 use Rattle.std.proofs.lemmas.Str.{IsCharBoundary-end, IsCharBoundary-before_ascii, IsCharBoundary-after_ascii}
-use Rattle.page_tree.specs.Constructs.{Byte, values, kind_of, whole_size, Construct, construct, offset_of}
+use Rattle.page_tree.specs.Constructs.{values, kind_of, whole_size, construct, offset_of}
 use Rattle.page_tree.specs.Placing.{placed}
 use Rattle.page_tree.proofs.PieceLaws.{whole-takes}
 use Rattle.page_tree.proofs.PlacingLaws.{values-placed}
-use Rattle.page_tree.proofs.SoundCuts.{Through, Before, PartsWell, whole-parts}
+use Rattle.page_tree.proofs.SoundCuts.{PartsWell, whole-parts}
 
 at-seam : (a : List ℕ) (c : ℕ) (b : List ℕ) → get_or (a ++ c ∷ b) (length a) 0 ≡ c
 at-seam [] c b = refl

@@ -1,5 +1,5 @@
 -- What is left at the end of a page.
-use Rattle.std.proofs.Common.{◌≡◌, ◌≢◌, ℕ, ◌==◌, ◌&&◌, Bool, true, false, List, [], ◌∷◌, ◌++◌, length, map, drop, Option, Some, None, is_none, Result, Ok, Err, refl, sym, ap, ◌∙◌, subst, append-nil}
+use Rattle.std.proofs.Common.{◌≡◌, ℕ, Bool, true, false, List, [], ◌∷◌, length, map, drop, Option, Some, None, is_none, Ok, refl, sym, ap, ◌∙◌, subst, append-nil}
 use Rattle.std.proofs.lemmas.List.{drop-map}
 use Rattle.page_text.specs.Reading.{answer}
 use Rattle.page_text.specs.declared.TextFault.{TextFault}
@@ -10,7 +10,7 @@ use Rattle.page_tree.specs.Break.{Fault, behind_constructs, ended}
 use Rattle.page_tree.specs.Constructs.{Byte, values, whole_size, cut_at, cut_from, finished}
 use Rattle.page_tree.specs.Machine.{Frame, State, outline_of, whole}
 use Rattle.page_tree.specs.Placing.{placed}
-use Rattle.page_tree.proofs.PlacingLaws.{values-placed, offsets-placed, placed-drop}
+use Rattle.page_tree.proofs.PlacingLaws.{values-placed, offsets-placed}
 use Rattle.page_tree.proofs.Spelled.{st}
 
 pub may-end : (z : Option TextFault) → MayFollow (is_none z) (is_none z) []

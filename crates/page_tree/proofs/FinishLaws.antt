@@ -1,15 +1,14 @@
 -- What the end of a page tells of what was built.
-use Rattle.std.proofs.Common.{◌≡◌, ℕ, Bool, true, false, List, [], ◌∷◌, ◌++◌, length, Option, Some, None, is_none, Result, Ok, Err, refl, sym, ap, ◌∙◌, subst, append-nil, option_and_then}
+use Rattle.std.proofs.Common.{◌≡◌, ℕ, Bool, true, false, List, [], ◌∷◌, ◌++◌, length, Option, Some, None, is_none, Result, Ok, Err, refl, sym, ap, ◌∙◌, append-nil, option_and_then}
 use Rattle.ix_base.specs.Trees.{Tree}
 use Rattle.ix_base.specs.declared.rule.Rule.{Rule}
 use Rattle.page_text.specs.Characters.{chars, begun, stop}
 use Rattle.page_text.specs.declared.TextFault.{TextFault}
-use Rattle.page_text.specs.declared.TextFault.TheVariants.{BadBytes, BadChar, NoMemory}
 use Rattle.page_text.proofs.Readings.{chars-begun}
-use Rattle.page_tree.specs.Acting.{judged_by, state_behind, behind_by, act_past, acted, acted_on, Leads, Breaks, ended_by, end_of}
-use Rattle.page_tree.specs.Break.{Outline, Fault, blank, broken_by, outline_behind, walk_past, walk_on, walked, behind_constructs, verdict, w}
+use Rattle.page_tree.specs.Acting.{judged_by, behind_by, act_past, acted, acted_on, Leads, Breaks, ended_by, end_of}
+use Rattle.page_tree.specs.Break.{Outline, Fault, broken_by, outline_behind, walk_past, walk_on, walked, verdict, w}
 use Rattle.page_tree.specs.Constructs.{Construct, Byte, spread, cut, finished}
-use Rattle.page_tree.specs.Machine.{State, begin, outline_of, moved, unless_broken, step, steps, whole, built}
+use Rattle.page_tree.specs.Machine.{State, begin, outline_of, moved, unless_broken, steps, whole}
 use Rattle.page_tree.specs.Meanings.{meant}
 use Rattle.page_tree.specs.Page.{page}
 use Rattle.page_tree.specs.Tokens.{Token}

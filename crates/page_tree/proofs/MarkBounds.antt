@@ -1,10 +1,10 @@
 -- Characters stand within the bytes that they were read from.
-use Rattle.std.proofs.Common.{◌≡◌, ℕ, suc, zero, ◌+◌, ◌-◌, ◌<◌, ◌≤◌, ◌^◌, ◌==◌, Bool, true, false, ◌&&◌, if◌then◌else◌, List, [], ◌∷◌, ◌++◌, length, drop, Option, Some, None, refl, sym, ap, ◌∙◌, subst, arith, length-drop, length-append, All}
+use Rattle.std.proofs.Common.{◌≡◌, ℕ, suc, zero, ◌+◌, ◌-◌, ◌<◌, ◌≤◌, ◌^◌, ◌==◌, Bool, true, false, ◌&&◌, if◌then◌else◌, List, [], ◌∷◌, ◌++◌, length, drop, Option, Some, None, refl, ap, arith, length-drop, length-append, All}
 use Rattle.std.proofs.lemmas.List.Elements.{All-nil, All-cons}
 use Rattle.std.specs.Char.{len_utf8}
 use Rattle.bstr.specs.Utf8.{decoded}
 use Rattle.bstr.proofs.lemmas.PieceLemmas.{piece-bounds}
-use Rattle.page_text.specs.Characters.{mark, Scan, scan_on, scan_from, scan, unified}
+use Rattle.page_text.specs.Characters.{mark, Scan, scan_on, scan_from, unified}
 use Rattle.page_text.specs.Fronts.{front_on, is_part}
 use Rattle.page_text.specs.Reading.{Reading, seen, due_on, due}
 use Rattle.page_text.specs.declared.Mark.{Mark}
@@ -23,22 +23,22 @@ scan-within (suc n) w at [] top h = tt
 scan-within (suc n) w at (b ∷ bs) top h =
     by_char (scan_from n w (at + (decoded (b ∷ bs)).size) (drop (decoded (b ∷ bs)).size (b ∷ bs)))
     (scan-within n w (at + (decoded (b ∷ bs)).size) (drop (decoded (b ∷ bs)).size (b ∷ bs)) top (let s = size in omega (arith, length-drop (decoded (b ∷ bs)).size (b ∷ bs)))) (decoded (b ∷ bs)).char refl where
-  size : (decoded (b ∷ bs)).size ≤ length (b ∷ bs)
-  size = (piece-bounds (b ∷ bs) (omega arith)).2
+      size : (decoded (b ∷ bs)).size ≤ length (b ∷ bs)
+      size = (piece-bounds (b ∷ bs) (omega arith)).2
 
-  by_part : (rest : Scan) (v p : Bool) → is_part (b ∷ bs) ≡ p → Within top (scan_on v at (b ∷ bs) (front_on None (b ∷ bs)) rest).marks
-  by_part rest true true e = rw e tt
-  by_part rest false true e = rw e tt
-  by_part rest v false e = rw e tt
+      by_part : (rest : Scan) (v p : Bool) → is_part (b ∷ bs) ≡ p → Within top (scan_on v at (b ∷ bs) (front_on None (b ∷ bs)) rest).marks
+      by_part rest true true e = rw e tt
+      by_part rest false true e = rw e tt
+      by_part rest v false e = rw e tt
 
-  by_allowed : (rest : Scan) → Within top rest.marks → (c : ℕ) → (decoded (b ∷ bs)).char ≡ Some c → (t : Bool) → Rattle.page_text.specs.Fronts.is_allowed c ≡ t
-      → Within top (scan_on w at (b ∷ bs) (front_on (Some c) (b ∷ bs)) rest).marks
-  by_allowed rest g c e true k = rw k (let f = char-fits b bs c e in let s = size in omega arith, g)
-  by_allowed rest g c e false k = rw k tt
+      by_allowed : (rest : Scan) → Within top rest.marks → (c : ℕ) → (decoded (b ∷ bs)).char ≡ Some c → (t : Bool) → Rattle.page_text.specs.Fronts.is_allowed c ≡ t
+          → Within top (scan_on w at (b ∷ bs) (front_on (Some c) (b ∷ bs)) rest).marks
+      by_allowed rest g c e true k = rw k (let f = char-fits b bs c e in let s = size in omega arith, g)
+      by_allowed rest g c e false k = rw k tt
 
-  by_char : (rest : Scan) → Within top rest.marks → (o : Option ℕ) → (decoded (b ∷ bs)).char ≡ o → Within top (scan_on w at (b ∷ bs) (front_on o (b ∷ bs)) rest).marks
-  by_char rest g None e = by_part rest w (is_part (b ∷ bs)) refl
-  by_char rest g (Some c) e = by_allowed rest g c e (Rattle.page_text.specs.Fronts.is_allowed c) refl
+      by_char : (rest : Scan) → Within top rest.marks → (o : Option ℕ) → (decoded (b ∷ bs)).char ≡ o → Within top (scan_on w at (b ∷ bs) (front_on o (b ∷ bs)) rest).marks
+      by_char rest g None e = by_part rest w (is_part (b ∷ bs)) refl
+      by_char rest g (Some c) e = by_allowed rest g c e (Rattle.page_text.specs.Fronts.is_allowed c) refl
 
 unified-within : (cr : Bool) (ms : List Mark) (top : ℕ) → Within top ms → Within top (unified cr ms)
 unfolding unified

@@ -1,5 +1,5 @@
 -- Texts with the offsets of their bytes.
-use Rattle.std.proofs.Common.{◌≡◌, ℕ, zero, suc, ◌+◌, ◌<◌, ◌≤◌, List, [], ◌∷◌, ◌++◌, length, map, drop, refl, sym, ap, ◌∙◌, arith, slice_index, append_assoc, length-append, take, encode_utf8, get_or, append-nil}
+use Rattle.std.proofs.Common.{◌≡◌, ℕ, zero, suc, ◌+◌, ◌<◌, List, [], ◌∷◌, ◌++◌, length, map, drop, refl, sym, ap, ◌∙◌, arith, slice_index, append_assoc, length-append, take, encode_utf8, get_or, append-nil}
 use Rattle.std.proofs.lemmas.List.{take_more}
 use Rattle.page_text.specs.declared.Mark.{Mark}
 use Rattle.page_tree.specs.Constructs.{Byte, values, counted, offset_of, spread}

@@ -1,5 +1,5 @@
 -- One construct at the front of a text, built in.
-use Rattle.std.proofs.Common.{◌≡◌, ℕ, zero, suc, ◌+◌, ◌<◌, ◌≤◌, ◌==◌, ◌&&◌, Bool, true, false, List, [], ◌∷◌, length, take, drop, Option, Some, None, refl, sym, ap, ◌∙◌, subst, arith}
+use Rattle.std.proofs.Common.{◌≡◌, ℕ, zero, suc, ◌+◌, ◌<◌, ◌≤◌, ◌==◌, ◌&&◌, Bool, true, false, List, [], ◌∷◌, length, take, drop, Some, None, refl, sym, ap, ◌∙◌, subst, arith}
 use Rattle.std.proofs.lemmas.Bool.Decides.{nat_tests}
 use Rattle.std.proofs.Math.Seq.{drop-nil}
 use Rattle.std.proofs.Math.ListN.{drop_of_length-le}
@@ -7,7 +7,7 @@ use Rattle.std.specs.List.{slice_get}
 use Rattle.ix_base.specs.declared.rule.Rule.{Rule}
 use Rattle.page_tree.specs.Acting.{judged, state_behind, Leads, Breaks}
 use Rattle.page_tree.specs.Break.{Fault, fault}
-use Rattle.page_tree.specs.Constructs.{values, kind_of, whole_size, Construct, construct, offset_of}
+use Rattle.page_tree.specs.Constructs.{values, kind_of, whole_size, construct, offset_of}
 use Rattle.page_tree.specs.Machine.{State}
 use Rattle.page_tree.specs.Placing.{placed}
 use Rattle.page_tree.specs.declared.kind.Kind.{Kind}

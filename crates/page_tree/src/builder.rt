@@ -57,7 +57,8 @@ impl<'a> TreeBuilder<'a> {
     ghost use Rattle.page_tree.specs.Break.{w};
     ghost use Rattle.page_tree.specs.Page.{page as page_with};
     ghost use Rattle.page_tree.specs.Stacks.{AreAll};
-    ghost use Rattle.page_tree.specs.Standing.{HasBuilt, StandsFor, limit, page_number, fed_bytes, is_spent as is_spent_of, verdict_of};
+    ghost use Rattle.page_tree.specs.Standing.{HasBuilt, StandsFor};
+    ghost use Rattle.page_tree.specs.Standing.{limit, page_number, fed_bytes, is_spent as is_spent_of, verdict_of};
 
     /// A builder of the page of this number, whose elements lie in the arena. None of them may be deeper than the limit,
     /// the root's depth being 1.
@@ -84,7 +85,8 @@ impl<'a> TreeBuilder<'a> {
     fn work_off(&mut self) -> Result<(), NoMemory>
         requires { self.old.broken ≡ None }
         ensures built { OnOk result ((b : List ℕ) → HasBuilt self.old b → HasBuilt self.new b) }
-        ensures same { (limit self.new ≡ limit self.old) × (page_number self.new ≡ page_number self.old) × (self.new.fed ≡ self.old.fed) × (self.new.is_spent ≡ self.old.is_spent) }
+        ensures same { (limit self.new ≡ limit self.old) × (page_number self.new ≡ page_number self.old)
+            × (self.new.fed ≡ self.old.fed) × (self.new.is_spent ≡ self.old.is_spent) }
     {
         let settled = settle(
             &mut self.building,
@@ -110,7 +112,8 @@ impl<'a> TreeBuilder<'a> {
         requires room { self.old.feed.pushed + length piece.now ≤ self.old.fed }
         requires fits { self.old.feed.pushed + length piece.now < 2 ^ 64 }
         ensures built { OnOk result ((b : List ℕ) → HasBuilt self.old b → HasBuilt self.new (b ++ piece.now)) }
-        ensures same { (limit self.new ≡ limit self.old) × (page_number self.new ≡ page_number self.old) × (self.new.fed ≡ self.old.fed) × (self.new.is_spent ≡ self.old.is_spent) }
+        ensures same { (limit self.new ≡ limit self.old) × (page_number self.new ≡ page_number self.old)
+            × (self.new.fed ≡ self.old.fed) × (self.new.is_spent ≡ self.old.is_spent) }
     {
         let marks = read(self.alloc, &mut self.feed, piece)?;
         self.pending.append(marks.as_slice())?;
@@ -169,3 +172,6 @@ impl<'a> TreeBuilder<'a> {
         end(self.building, stop, self.is_first, &self.pending, self.fed)
     }
 }
+
+#[cfg(test)]
+mod tests;

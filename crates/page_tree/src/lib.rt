@@ -8,12 +8,12 @@ pub mod laws;
 mod meaning;
 mod names;
 mod ncname;
-mod size;
-mod stack;
-mod token;
 mod pending;
 mod reading;
 mod settle;
+mod size;
+mod stack;
+mod token;
 mod tree;
 
 pub use builder::{PageFault, TreeBuilder};

@@ -48,8 +48,10 @@ fn take<'a>(
     text: &str,
 ) -> Result<Option<Rule>, NoMemory>
     requires { HasEnds kind text.now }
-    ensures rule { IfOk result (λ r. r ≡ judged building.old.depth (state_of building.old) (record { kind = kind; start = offset; text = text.now })) }
-    ensures state { result ≡ Ok None → state_of building.new ≡ state_behind (state_of building.old) (record { kind = kind; start = offset; text = text.now }) }
+    ensures rule { IfOk result (λ r. r ≡ judged building.old.depth (state_of building.old)
+        (record { kind = kind; start = offset; text = text.now })) }
+    ensures state { result ≡ Ok None → state_of building.new ≡ state_behind (state_of building.old)
+        (record { kind = kind; start = offset; text = text.now }) }
     ensures same { (building.new.depth ≡ building.old.depth) × (building.new.page ≡ building.old.page) }
     ensures on_page { OnOk result (IsOnPage building.old.page building.old → IsOnPage building.new.page building.new) }
 {
@@ -131,7 +133,13 @@ fn step_at<'a>(
     ensures on_page { OnOk result (IsOnPage building.old.page building.old → IsOnPage building.new.page building.new) }
 {
     let (_, rest) = text.split_at(at);
-    step(building, ended, is_front(first, at), rest, behind(offsets, at))
+    step(
+        building,
+        ended,
+        is_front(first, at),
+        rest,
+        behind(offsets, at),
+    )
 }
 
 /// Builds the constructs at the front in, one after another, up to one that isn't whole or breaks a rule.

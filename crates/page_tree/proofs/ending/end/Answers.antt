@@ -1,10 +1,7 @@
-use Rattle.std.proofs.Common.{◌≡◌, ◌&&◌, ◌==◌, Some, None, is_none, Err, Ok, length, drop, string_bytes, refl, sym, ap, ◌∙◌, subst}
+use Rattle.std.proofs.Common.{◌≡◌, ◌&&◌, ◌==◌, Some, None, Err, length, drop, sym, ap, ◌∙◌, subst}
 use Rattle.std.specs.Result.{is_ok}
-use Rattle.ix_base.specs.Trees.{tree_of}
 use Rattle.page_tree.specs.Acting.{Breaks}
-use Rattle.page_tree.specs.Break.{fault}
 use Rattle.page_tree.specs.Buildings.{state_of}
-use Rattle.page_tree.specs.Machine.{whole}
 use Rattle.page_tree.specs.Placing.{placed}
 use Rattle.page_tree.specs.Standing.{verdict_of}
 use Rattle.page_tree.specs.Waiting.{bytes_of, fault_at}

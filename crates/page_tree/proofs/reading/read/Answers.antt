@@ -1,4 +1,4 @@
-use Rattle.std.proofs.Common.{◌≡◌, ◌≢◌, ◌+◌, ◌++◌, ◌<◌, ◌^◌, All, Err, refl, sym, ap, ◌∙◌, subst, rules}
+use Rattle.std.proofs.Common.{◌≡◌, ◌≢◌, ◌+◌, ◌++◌, ◌<◌, ◌^◌, All, Err, sym, ap, ◌∙◌, subst, rules}
 use Rattle.std.specs.Char.{len_utf8}
 use Rattle.page_text.specs.Reading.{due}
 use Rattle.page_text.specs.declared.TextFault.TheVariants.{NoMemory}

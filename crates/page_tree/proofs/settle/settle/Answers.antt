@@ -1,10 +1,9 @@
-use Rattle.std.proofs.Common.{◌≡◌, ℕ, ◌+◌, ◌-◌, ◌<◌, ◌≤◌, ◌==◌, ◌&&◌, Bool, true, false, Fits, w64, drop, length, Ok, refl, sym, ap, ◌∙◌, subst, arith}
+use Rattle.std.proofs.Common.{◌≡◌, ◌+◌, ◌==◌, ◌&&◌, false, drop, length, Ok, refl, sym, ap, ◌∙◌, subst, arith}
 use Rattle.std.proofs.lemmas.Str.{IsCharBoundary-start}
-use Rattle.page_tree.specs.Acting.{Leads, Breaks}
-use Rattle.page_tree.specs.Break.{fault}
+use Rattle.page_tree.specs.Acting.{Leads}
 use Rattle.page_tree.specs.Buildings.{state_of}
 use Rattle.page_tree.specs.Placing.{placed}
-use Rattle.page_tree.proofs.ActingLaws.{leads-stay, leads-on, breaks-on}
+use Rattle.page_tree.proofs.ActingLaws.{leads-stay, leads-on}
 use Rattle.page_tree.proofs.SettleLaws.{same-front, not-front, behind-whole}
 use Rattle.page_tree.proofs.settle.settle.Goals as goal
 

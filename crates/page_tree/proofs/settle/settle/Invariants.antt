@@ -1,4 +1,4 @@
-use Rattle.std.proofs.Common.{◌≡◌, ℕ, ◌-◌, ◌==◌, ◌&&◌, length, drop}
+use Rattle.std.proofs.Common.{◌≡◌, ◌-◌, ◌==◌, ◌&&◌, length, drop}
 use Rattle.std.specs.Str.{IsCharBoundary}
 use Rattle.page_tree.specs.Acting.{Leads}
 use Rattle.page_tree.specs.Buildings.{state_of, IsOnPage}

@@ -1,5 +1,4 @@
-use Rattle.std.proofs.Common.{◌≡◌, ℕ, Some, None, Ok, refl, sym, ap, ◌∙◌, subst, take}
-use Rattle.std.specs.List.{slice_get}
+use Rattle.std.proofs.Common.{◌≡◌, Some, Ok, refl, sym, ap, ◌∙◌, subst, take}
 use Rattle.page_tree.specs.Constructs.{whole_size, kind_of}
 use Rattle.page_tree.specs.Ends.{HasEnds}
 use Rattle.page_tree.specs.Acting.{Breaks}
@@ -39,8 +38,11 @@ pub returns-in-None-clause-takes : goal.returns-in-None-clause-takes
 returns-in-None-clause-takes c = λ k q.
     let same : c.in-Some-whole_size.size ≡ k = cc in
     let e : whole_size c.args.ended c.args.first c.args.text.now ≡ Some k = ap (whole_size c.args.ended c.args.first) (sym c.as_bytes.ensures.value) ∙ sym c.in-Some-whole_size.ensures.value ∙ ap Some same in
-    let t = whole-takes c.args.ended c.args.first c.args.text.now k e in
-    (t.0, t.1, whole-boundary c.args.ended c.args.first c.args.text.now k c.utf8.text e,
-    step-takes c.args.ended c.args.building.now.depth (state_of c.args.building.now) c.args.first c.args.text.now c.args.offsets.now c.in-Some.offset.now k
-    c.kind_of-kind.result c.split_at.result.0.now c.requires (sym c.in-Some.ensures.value) e (c.kind_of-kind.ensures ∙ ap (kind_of c.args.first) c.as_bytes-2.ensures.value) (c.split_at.ensures.front ∙ ap (λ n. take n c.args.text.now) same) (state_of c.take.new.building)
-    (sym c.in-None.is ∙ c.in_ok-rule.ensures.rule) (c.in_ok-rule.ensures.state (ap Ok c.in-None.is)))
+    let t = whole-takes c.args.ended c.args.first c.args.text.now k e in (
+      t.0,
+      t.1,
+      whole-boundary c.args.ended c.args.first c.args.text.now k c.utf8.text e,
+      step-takes c.args.ended c.args.building.now.depth (state_of c.args.building.now) c.args.first c.args.text.now c.args.offsets.now c.in-Some.offset.now k
+          c.kind_of-kind.result c.split_at.result.0.now c.requires (sym c.in-Some.ensures.value) e (c.kind_of-kind.ensures ∙ ap (kind_of c.args.first) c.as_bytes-2.ensures.value) (c.split_at.ensures.front ∙ ap (λ n. take n c.args.text.now) same) (state_of c.take.new.building)
+          (sym c.in-None.is ∙ c.in_ok-rule.ensures.rule) (c.in_ok-rule.ensures.state (ap Ok c.in-None.is)),
+    )

@@ -1,4 +1,4 @@
-use Rattle.std.proofs.Common.{Some, None, is_some, refl, sym, ap, ◌+◌, ◌++◌, ◌∙◌, length, length-append}
+use Rattle.std.proofs.Common.{is_some, sym, ap, ◌+◌, ◌∙◌, length, length-append}
 use Rattle.page_tree.specs.Waiting.{fault_at}
 use Rattle.page_tree.proofs.StandingLaws.{breaks-read}
 use Rattle.page_tree.proofs.builder.TreeBuilder.feed.Goals as goal

@@ -1,4 +1,4 @@
-use Rattle.std.proofs.Common.{Some, None, Err, refl, sym, ap, ◌∙◌}
+use Rattle.std.proofs.Common.{Err, sym, ap, ◌∙◌}
 use Rattle.page_text.specs.Characters.{stop}
 use Rattle.page_tree.specs.Acting.{end_of}
 use Rattle.page_tree.specs.Buildings.{state_of}

@@ -1,4 +1,4 @@
-use Rattle.std.proofs.Common.{Some, None, refl, sym, subst}
+use Rattle.std.proofs.Common.{refl, sym, subst}
 use Rattle.page_tree.specs.Buildings.{state_of, IsOnPage}
 use Rattle.page_tree.specs.Waiting.{bytes_of}
 use Rattle.page_tree.proofs.StandingLaws.{leads-new}

@@ -1,7 +1,6 @@
-use Rattle.std.proofs.Common.{Some, None, refl, sym, ap, ◌∙◌, ◌++◌, subst, arith}
+use Rattle.std.proofs.Common.{ap, ◌∙◌, ◌++◌}
 use Rattle.page_text.specs.Characters.{begun}
 use Rattle.page_tree.specs.Buildings.{state_of}
-use Rattle.page_tree.specs.Standing.{HasBuilt}
 use Rattle.page_tree.specs.Waiting.{bytes_of}
 use Rattle.page_tree.specs.Constructs.{spread}
 use Rattle.page_tree.proofs.StandingLaws.{on-ok, leads-read}
