@@ -3,6 +3,8 @@
 #![tactic(auto)]
 
 mod attribute;
+mod breach;
+pub mod breach_laws;
 mod content;
 mod escape;
 mod list;
@@ -17,6 +19,7 @@ mod tree;
 mod white;
 
 pub use attribute::attr_of;
+pub use breach::{Breach, Breaches, Class, Found, Report};
 pub use content::{
     Accuracy, Arc, Content, Context, Dim, Fact, Footnote, Item, Linkbase, Member, NoteLink,
     OwnName, Period, RoleRef, Tuple, Unit, Value,
