@@ -196,15 +196,15 @@ path_ok (Some t) e =
     let s = and_parts (nat_lt 0 (length t)) (list_all is_address_byte t) e in
     (t, refl, record { some = ltb-true 0 (length t) s.0; each = s.1 })
 
-address_ok : (site h : List ℕ) → is_address_under site h ≡ true → IsAddressUnder site h
+pub address_ok : (site h : List ℕ) → is_address_under site h ≡ true → IsAddressUnder site h
 address_ok site h e =
     let t = path_ok (text_at site h) e in
     record { path = t.0; spelled = text_ok site h t.0 t.1; allowed = t.2 }
 
-some_again : (p : ℕ → Bool) (bytes : List ℕ) → AreSome p bytes → (nat_lt 0 (length bytes) && list_all p bytes) ≡ true
+pub some_again : (p : ℕ → Bool) (bytes : List ℕ) → AreSome p bytes → (nat_lt 0 (length bytes) && list_all p bytes) ≡ true
 some_again p bytes a = and_from _ _ (lt-ltb 0 (length bytes) a.some) a.each
 
-address_again : (site h : List ℕ) → IsAddressUnder site h → is_address_under site h ≡ true
+pub address_again : (site h : List ℕ) → IsAddressUnder site h → is_address_under site h ≡ true
 address_again site h a =
     let seen : text_at site h ≡ Some a.path = ap (text_at site) a.spelled ∙ text_again site a.path in
     ap is_path seen ∙ some_again is_address_byte a.path a.allowed
@@ -214,13 +214,13 @@ address_lacks site h s a =
     ap (list_all (λ b. not (b == 34))) a.spelled ∙ list_all-append (λ b. not (b == 34)) site a.path
     ∙ and_from (list_all (λ b. not (b == 34)) site) _ s (lacks is_address_byte 34 refl a.path (a.allowed.each))
 
-name_ok : (bytes : List ℕ) → is_name bytes ≡ true → IsName bytes
+pub name_ok : (bytes : List ℕ) → is_name bytes ≡ true → IsName bytes
 name_ok [] e = cc
 name_ok (c ∷ cs) e =
     let s = and_parts (is_letter c) (list_all is_name_byte cs) e in
     record { head = c; tail = cs; spelled = refl; letter = s.0; allowed = s.1 }
 
-name_again : (bytes : List ℕ) → IsName bytes → is_name bytes ≡ true
+pub name_again : (bytes : List ℕ) → IsName bytes → is_name bytes ≡ true
 name_again bytes n = ap is_name n.spelled ∙ and_from _ _ n.letter n.allowed
 
 letter_is_name_byte : (c : ℕ) → is_letter c ≡ true → is_name_byte c ≡ true
@@ -232,7 +232,7 @@ name_bytes bytes n = ap (list_all is_name_byte) n.spelled ∙ and_from _ _ (lett
 name_lacks : (bytes : List ℕ) → IsName bytes → Lacks 34 bytes
 name_lacks bytes n = lacks is_name_byte 34 refl bytes (name_bytes bytes n)
 
-identifier_ok : (bytes : List ℕ) → is_identifier bytes ≡ true → AreSome is_letter_or_digit bytes
+pub identifier_ok : (bytes : List ℕ) → is_identifier bytes ≡ true → AreSome is_letter_or_digit bytes
 identifier_ok bytes e =
     let s = and_parts (nat_lt 0 (length bytes)) (list_all is_letter_or_digit bytes) e in
     record { some = ltb-true 0 (length bytes) s.0; each = s.1 }
@@ -244,17 +244,17 @@ digits_pass (c ∷ cs) (low, high, more) = and_from _ _ (and_from _ _ (le-leb 48
 digits_lack : (stop : ℕ) → is_digit stop ≡ false → (bytes : List ℕ) → AreDigits bytes → Lacks stop bytes
 digits_lack stop fails bytes d = lacks is_digit stop fails bytes (digits_pass bytes d)
 
-four_true : (a b c d : Bool) → a ≡ true → b ≡ true → c ≡ true → d ≡ true → (a && b && c && d) ≡ true
+pub four_true : (a b c d : Bool) → a ≡ true → b ≡ true → c ≡ true → d ≡ true → (a && b && c && d) ≡ true
 four_true a b c d h i j k = and_from _ _ (and_from _ _ (and_from _ _ h i) j) k
 
-of_four : (a b c d : Bool) → (a && b && c && d) ≡ true → (a ≡ true) × (b ≡ true) × (c ≡ true) × (d ≡ true)
+pub of_four : (a b c d : Bool) → (a && b && c && d) ≡ true → (a ≡ true) × (b ≡ true) × (c ≡ true) × (d ≡ true)
 of_four a b c d e =
     let x = and_parts _ _ e in let y = and_parts _ _ x.0 in let z = and_parts _ _ y.0 in (z.0, z.1, y.1, x.1)
 
-three_true : (a b c : Bool) → a ≡ true → b ≡ true → c ≡ true → (a && b && c) ≡ true
+pub three_true : (a b c : Bool) → a ≡ true → b ≡ true → c ≡ true → (a && b && c) ≡ true
 three_true a b c h i j = and_from _ _ (and_from _ _ h i) j
 
-of_three : (a b c : Bool) → (a && b && c) ≡ true → (a ≡ true) × (b ≡ true) × (c ≡ true)
+pub of_three : (a b c : Bool) → (a && b && c) ≡ true → (a ≡ true) × (b ≡ true) × (c ≡ true)
 of_three a b c e = let x = and_parts _ _ e in let y = and_parts _ _ x.0 in (y.0, y.1, x.1)
 
 -- Together.

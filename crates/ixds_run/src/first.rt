@@ -210,7 +210,7 @@ fn all_address_bytes(bytes: &[u8]) -> bool
     bytes.iter().all(|b| is_address_byte(*b))
 }
 
-fn is_address_under(site: &[u8], bytes: &[u8]) -> bool
+pub fn is_address_under(site: &[u8], bytes: &[u8]) -> bool
     ensures { result ≡ reading.is_address_under site.now bytes.now }
 {
     match behind(bytes, site) {
@@ -225,7 +225,7 @@ fn all_name_bytes(bytes: &[u8]) -> bool
     bytes.iter().all(|b| is_name_byte(*b))
 }
 
-fn is_name(bytes: &[u8]) -> bool
+pub fn is_name(bytes: &[u8]) -> bool
     ensures { result ≡ reading.is_name bytes.now }
 {
     match bytes {
@@ -240,7 +240,7 @@ fn all_letters_or_digits(bytes: &[u8]) -> bool
     bytes.iter().all(|b| is_letter_or_digit(*b))
 }
 
-fn is_identifier(bytes: &[u8]) -> bool
+pub fn is_identifier(bytes: &[u8]) -> bool
     ensures { result ≡ reading.is_identifier bytes.now }
 {
     !bytes.is_empty() && all_letters_or_digits(bytes)
@@ -303,7 +303,7 @@ fn ascii_text(alloc: Global, bytes: &[u8]) -> Result<Text, NoMemory>
 }
 
 /// A list of one item.
-fn one<T: Drop>(alloc: Global, item: T) -> Result<List<T>, NoMemory>
+pub fn one<T: Drop>(alloc: Global, item: T) -> Result<List<T>, NoMemory>
     ensures { IfOk result (λ l. l ≡ item ∷ []) }
 {
     let mut items = List::new(alloc);

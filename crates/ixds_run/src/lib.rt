@@ -15,7 +15,9 @@ mod deliver;
 mod extract;
 mod first;
 mod lines;
+mod nodes;
 mod reading;
+mod shape;
 mod status;
 mod text;
 
@@ -24,6 +26,7 @@ use extract::extract;
 pub use first::{first_form, one_content};
 use ix_base::{PageSource, TargetSink, Text, TextSink};
 use lines::usage;
+pub use shape::{first_shape, one_shape, shape_rows};
 pub use status::Status;
 use std::alloc::Global;
 
