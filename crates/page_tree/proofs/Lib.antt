@@ -42,3 +42,5 @@ pub mod SettleLaws
 pub mod PageNumbers
 pub mod MarkBounds
 pub mod FinishLaws
+pub mod EndingLaws
+pub mod StandingLaws

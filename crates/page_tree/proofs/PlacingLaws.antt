@@ -1,5 +1,5 @@
 -- Texts with the offsets of their bytes.
-use Rattle.std.proofs.Common.{◌≡◌, ℕ, zero, suc, ◌+◌, ◌<◌, ◌≤◌, List, [], ◌∷◌, ◌++◌, length, drop, refl, sym, ap, ◌∙◌, arith, slice_index, append_assoc, length-append, take, encode_utf8, get_or, append-nil}
+use Rattle.std.proofs.Common.{◌≡◌, ℕ, zero, suc, ◌+◌, ◌<◌, ◌≤◌, List, [], ◌∷◌, ◌++◌, length, map, drop, refl, sym, ap, ◌∙◌, arith, slice_index, append_assoc, length-append, take, encode_utf8, get_or, append-nil}
 use Rattle.std.proofs.lemmas.List.{take_more}
 use Rattle.page_text.specs.declared.Mark.{Mark}
 use Rattle.page_tree.specs.Constructs.{Byte, values, counted, offset_of, spread}
@@ -41,6 +41,12 @@ values-placed [] os e = refl
 values-placed (x ∷ xs) [] e = absurd (omega arith)
 values-placed (x ∷ xs) (o ∷ os) e = ap (λ t. x ∷ t) (values-placed xs os (omega arith))
 
+pub offsets-placed : (xs os : List ℕ) → length xs ≡ length os → map (λ u. u.at) (placed xs os) ≡ os
+offsets-placed [] [] e = refl
+offsets-placed [] (o ∷ os) e = absurd (omega arith)
+offsets-placed (x ∷ xs) [] e = absurd (omega arith)
+offsets-placed (x ∷ xs) (o ∷ os) e = ap (λ t. o ∷ t) (offsets-placed xs os (omega arith))
+
 pub offset-placed : (xs os : List ℕ) → length xs ≡ length os → 0 < length xs → offset_of (placed xs os) ≡ slice_index os 0
 offset-placed [] os e h = absurd (omega arith)
 offset-placed (x ∷ xs) [] e h = absurd (omega arith)
@@ -59,7 +65,7 @@ pub placed-behind : (k : ℕ) (xs os ys ps : List ℕ) → ys ≡ drop k xs → 
 placed-behind k xs os ys ps y p = (λ i. placed (y i) (p i)) ∙ placed-drop k xs os
 
 -- one character more
-spread-append : (ms ns : List Mark) → spread (ms ++ ns) ≡ spread ms ++ spread ns
+pub spread-append : (ms ns : List Mark) → spread (ms ++ ns) ≡ spread ms ++ spread ns
 spread-append [] ns = refl
 spread-append (m ∷ ms) ns = ap (λ t. counted m.offset (encode_utf8 m.ch) ++ t) (spread-append ms ns) ∙ sym (append_assoc (counted m.offset (encode_utf8 m.ch)) (spread ms) (spread ns))
 

@@ -108,6 +108,7 @@ impl<'a> TreeBuilder<'a> {
     fn take_piece(&mut self, piece: &[u8]) -> Result<(), NoMemory>
         requires whole { self.old.broken ≡ None }
         requires room { self.old.feed.pushed + length piece.now ≤ self.old.fed }
+        requires fits { self.old.feed.pushed + length piece.now < 2 ^ 64 }
         ensures built { OnOk result ((b : List ℕ) → HasBuilt self.old b → HasBuilt self.new (b ++ piece.now)) }
         ensures same { (limit self.new ≡ limit self.old) × (page_number self.new ≡ page_number self.old) × (self.new.fed ≡ self.old.fed) × (self.new.is_spent ≡ self.old.is_spent) }
     {

@@ -107,13 +107,15 @@ pub(crate) fn end<'a>(
     ensures page { IfOk result (λ e. IsOnPage building.entry.page building.entry
         → AreAll building.entry.page (pages_of e.now)) }
 {
-    let settled = settle(
+    let Ok(settled) = settle(
         &mut building,
         stop.is_ok(),
         first,
         pending.text.as_str(),
         pending.offsets.as_slice(),
-    )?;
+    ) else {
+        return Err(PageFault::NoMemory);
+    };
     if let Some(broken) = settled.broken {
         return Err(fault_of(broken));
     }

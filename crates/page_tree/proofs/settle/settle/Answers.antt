@@ -48,11 +48,11 @@ pub overflow_add-at : goal.overflow_add-at
 overflow_add-at c =
     let t = c.in_ok-step_at.ensures.takes c.in-Takes.size (ap Ok c.in-Takes.is) in
     let b = t.1.0 in
-    let same : length c.as_bytes.result.now ≡ length c.args.text.now = ap length c.as_bytes.ensures.value in
-    let top = c.as_bytes.type_inv.0 in
-    fits-w64 (c.constructs.at + c.in-Takes.size) (omega arith)
+    let same : length c.as_bytes-bytes.result.now ≡ length c.args.text.now = ap length c.as_bytes-bytes.ensures.value in
+    let top = c.as_bytes-bytes.type_inv.0 in
+    omega arith
 
 pub returns-clause-whole : goal.returns-clause-whole
 returns-clause-whole c = λ q.
-    let same : length c.as_bytes.result.now ≡ length c.args.text.now = ap length c.as_bytes.ensures.value in
+    let same : length c.as_bytes-bytes.result.now ≡ length c.args.text.now = ap length c.as_bytes-bytes.ensures.value in
     behind-whole c.args.ended (c.args.first && (c.constructs.at == 0)) c.args.text.now c.constructs.at (let e = c.constructs-test.false in omega arith)
