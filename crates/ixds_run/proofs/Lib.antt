@@ -1,10 +1,8 @@
 pub mod CompleteLaws
 pub mod DateLaws
-pub mod FirstLaws
 pub mod NodeLaws
 pub mod PartLaws
 pub mod ReadLaws
 pub mod ShapeLaws
 pub mod ShapeRows
 pub mod TargetLaws
-pub mod TextLaws

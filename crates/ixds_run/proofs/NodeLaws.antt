@@ -7,7 +7,7 @@ use Rattle.ix_base.specs.declared.tree.Node.TheOpen.{Node-F}
 use Rattle.ix_base.specs.declared.tree.Node.TheFolds.{fold_out-Node}
 use Rattle.ix_base.specs.Scope.{namespace_of}
 use Rattle.ix_base.specs.Trees.{Named, Valued, Bound, Head, Nodes, none, chars, elem, Tree, before, nodes_of, node_step}
-use Rattle.ixds_run.specs.FirstReading.{◌>>=◌}
+use Rattle.ixds_run.specs.PartReading.{◌>>=◌}
 use Rattle.ixds_run.specs.FirstShape.{AreNone, AreText, AreTextIf, AreElement, Looks, attribute}
 use Rattle.ixds_run.specs.ShapeReading.{is_end, first_tree, only_tree, two_trees, past_text, text_if, only_text, is_of, inside, one_value, two_values, is_bound_to, binds}
 use Rattle.ixds_run.proofs.PartLaws.{same_bytes, same_from_eq, chosen, bind_ok, bind_step, some_inj}

@@ -7,14 +7,13 @@ use Rattle.ix_base.specs.Trees.{Head, Nodes, Tree}
 use Rattle.ix_base.specs.declared.content.Content.{Content}
 use Rattle.ix_base.specs.declared.content.Period.TheVariants as period
 use Rattle.instance_out.specs.Writable.{IsWritable}
-use Rattle.ixds_run.specs.FirstForm.{IsDate, AreSome, IsAddressUnder, IsName, is_letter_or_digit, dashed}
-use Rattle.ixds_run.specs.FirstReading.{text_at, is_address_under, is_name, is_identifier, ◌>>=◌}
+use Rattle.ixds_run.specs.PartForms.{IsDate, AreSome, IsAddressUnder, IsName, is_letter_or_digit, dashed}
+use Rattle.ixds_run.specs.PartReading.{text_at, is_address_under, is_name, is_identifier, ◌>>=◌}
 use Rattle.ixds_run.specs.FirstShape.{ShapeParts, AreNone, AreText, AreTextIf, AreElement, Looks, attribute, WithinReferences, WithinEntity, WithinPeriod, WithinContext, WithinResources, WithinHeader, IsFact, WithinParagraph, WithinBody, WithinRoot, HasShape, FirstShape, NotShape, shape_content, space}
 use Rattle.ixds_run.specs.ShapeContent.{content_with}
 use Rattle.ixds_run.specs.ShapeReading.{is_of, is_end, inside, first_tree, only_tree, two_trees, past_text, text_if, only_text, one_value, two_values, binds, address_in, schema_in, entity_in, date_at, date_in, Setting, setting_in, header_in, Said, said_in, Passage, passage_in, parts_from, is_setting, are_parts, shape_of}
-use Rattle.ixds_run.proofs.FirstLaws.{address_ok, address_again, name_ok, name_again, identifier_ok, some_again, four_true, of_four, three_true, of_three}
 use Rattle.ixds_run.proofs.NodeLaws.{end_ok, end_again, first_ok, first_again, only_ok, only_again, two_ok, two_again, past_ok, past_again, text_if_ok, text_if_again, only_text_ok, only_text_again, is_of_ok, is_of_again, inside_ok, inside_again, one_value_ok, one_value_again, two_values_ok, two_values_again, binds_ok, binds_again}
-use Rattle.ixds_run.proofs.PartLaws.{same_bytes, same_from_eq, text_ok, text_again, chosen, bind_ok, bind_step, some_inj}
+use Rattle.ixds_run.proofs.PartLaws.{same_bytes, same_from_eq, text_ok, text_again, chosen, bind_ok, bind_step, some_inj, address_ok, address_again, name_ok, name_again, identifier_ok, some_again, four_true, of_four, three_true, of_three}
 
 abbrev setting_of : ShapeParts → Setting
 setting_of p = record {

@@ -5,8 +5,8 @@ use Rattle.std.specs.List.{list_all}
 use Rattle.jiff.proofs.SpanFacts.{signed_arith}
 use Rattle.ix_base.specs.Days.{IsDay}
 use Rattle.ix_base.specs.Decimals.{AreDigits}
-use Rattle.ixds_run.specs.FirstForm.{IsDate}
-use Rattle.ixds_run.specs.FirstReading.{is_digit}
+use Rattle.ixds_run.specs.PartForms.{IsDate}
+use Rattle.ixds_run.specs.PartReading.{is_digit}
 use Rattle.ixds_run.specs.FirstShape.{ShapeParts, FirstShape, NotShape, attribute, space}
 use Rattle.ixds_run.specs.ShapeReading.{address_in, schema_in, entity_in, date_in, setting_in, header_in, said_in, passage_in, is_setting, are_parts, shape_of}
 use Rattle.ixds_run.specs.ShapeRows.{row, row_content}

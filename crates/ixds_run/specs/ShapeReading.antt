@@ -3,7 +3,7 @@ use Rattle.std.specs.Prelude.{ℕ, Bool, true, false, ◌&&◌, ◌==◌, List, 
 use Rattle.ix_base.specs.Elements.{tree_at}
 use Rattle.ix_base.specs.Scope.{namespace_of}
 use Rattle.ix_base.specs.Trees.{Named, Valued, Bound, Nodes, none, chars, elem, Tree}
-use Rattle.ixds_run.specs.FirstReading.{text_at, is_address_under, is_name, is_identifier, ◌>>=◌}
+use Rattle.ixds_run.specs.PartReading.{text_at, is_address_under, is_name, is_identifier, ◌>>=◌}
 use Rattle.ixds_run.specs.FirstShape.{ShapeParts, space}
 
 -- Some nodes.

@@ -3,7 +3,7 @@ ghost use Rattle.std.specs.Prelude.{◌≡◌, [], ◌∷◌, option_map, codes,
 ghost use Rattle.instance_out.specs.Writable.{IsWritable};
 ghost use Rattle.ix_base.specs.Trees.{Tree, tree_of};
 ghost use Rattle.ix_base.specs.declared.content.Content.{Content as ContentOf};
-ghost use Rattle.ixds_run.specs.FirstReading.{text_at};
+ghost use Rattle.ixds_run.specs.PartReading.{text_at};
 ghost use Rattle.ixds_run.specs.FirstShape.{FirstShape, NotShape, attribute, space};
 ghost use Rattle.ixds_run.specs.ShapeContent.{shape_context, shape_item, content_with};
 ghost use Rattle.ixds_run.specs.ShapeReading as reading;
@@ -11,7 +11,7 @@ ghost use Rattle.ixds_run.specs.ShapeRows.{row, row_content};
 ghost use Rattle.ixds_run.specs.ShapeView.{setting_seen, said_seen, passage_seen, parts_seen};
 
 use crate::dates::end_of;
-use crate::first::{is_address_under, is_identifier, is_name, one};
+use crate::parts::{is_address_under, is_identifier, is_name, one};
 use crate::nodes::{
     binds, first_element, inside, is_end, is_of, one_value, only_element, only_text, past_text,
     text_if, two_elements, two_values,
