@@ -1,8 +1,10 @@
 pub mod CompleteLaws
 pub mod DateLaws
 pub mod NodeLaws
+pub mod OutcomeLaws
 pub mod PartLaws
 pub mod ReadLaws
+pub mod ReportLaws
 pub mod ShapeLaws
 pub mod ShapeRows
 pub mod TargetLaws

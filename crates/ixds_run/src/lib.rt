@@ -13,6 +13,7 @@ mod dates;
 mod deliver;
 mod extract;
 mod judge;
+pub mod laws;
 mod lines;
 mod nodes;
 mod parts;
