@@ -9,8 +9,8 @@ use Rattle.jiff_core.proofs.MarchLemmas.{day_count-early}
 use Rattle.jiff_core.proofs.CalendarLemmas.{days_from_civil-day_count, day_count-day_of_year, day_count-later_year}
 use Rattle.ix_base.specs.Days.{IsDay, days_before, day_end}
 use Rattle.ix_base.specs.Decimals.{AreDigits, number_in}
-use Rattle.ixds_run.specs.FirstForm.{IsDate}
-use Rattle.ixds_run.specs.FirstReading.{is_digit, two_digits, four_digits, ◌>>=◌}
+use Rattle.ixds_run.specs.PartForms.{IsDate}
+use Rattle.ixds_run.specs.PartReading.{is_digit, two_digits, four_digits, ◌>>=◌}
 use Rattle.ixds_run.proofs.PartLaws.{chosen, bind_ok, bind_step, some_inj}
 
 digit_bounds : (c : ℕ) → is_digit c ≡ true → (48 ≤ c) × (c ≤ 57)

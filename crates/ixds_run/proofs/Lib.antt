@@ -1,7 +1,10 @@
 pub mod CompleteLaws
 pub mod DateLaws
-pub mod FirstLaws
+pub mod NodeLaws
+pub mod OutcomeLaws
 pub mod PartLaws
 pub mod ReadLaws
+pub mod ReportLaws
+pub mod ShapeLaws
+pub mod ShapeRows
 pub mod TargetLaws
-pub mod TextLaws

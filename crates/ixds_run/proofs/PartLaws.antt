@@ -1,12 +1,13 @@
--- Reading a part and the fixed text behind it.
-use Rattle.std.proofs.Common.{◌≡◌, ◌∙◌, ap, sym, ℕ, Bool, true, false, not, cond, ◌==◌, List, [], ◌∷◌, ◌++◌, length, take, drop, Option, Some, None, refl, arith, bytes_eq}
+-- Reading a fixed text and the parts behind it: what is read is so, and what is so is read.
+use Rattle.std.proofs.Common.{◌≡◌, ◌∙◌, ap, ℕ, Bool, true, false, cond, ◌&&◌, nat_lt, List, [], ◌∷◌, ◌++◌, length, take, drop, Option, Some, None, refl, arith, bytes_eq}
 use Rattle.std.proofs.lemmas.Grind.{common_steps}
-use Rattle.std.proofs.lemmas.Bool.{and_parts, and_from, eqb-true}
+use Rattle.std.proofs.lemmas.Bool.{and_parts, and_from, ltb-true, lt-ltb}
 use Rattle.std.proofs.lemmas.Slice.Eq.{bytes_eq-Decides}
 use Rattle.std.proofs.lemmas.List.{take-append-drop}
 use Rattle.std.proofs.Math.Seq.{take-append_seam}
 use Rattle.std.specs.List.{list_all}
-use Rattle.ixds_run.specs.FirstReading.{text_at, count_before, part_at, ◌>>=◌}
+use Rattle.ixds_run.specs.PartForms.{AreSome, IsAddressUnder, IsName, is_letter, is_letter_or_digit, is_name_byte, is_address_byte}
+use Rattle.ixds_run.specs.PartReading.{text_at, is_path, is_address_under, is_name, is_identifier, ◌>>=◌}
 
 pub same_bytes : (xs : List ℕ) → bytes_eq xs xs ≡ true
 same_bytes xs = (bytes_eq-Decides xs xs).1 refl
@@ -32,13 +33,6 @@ text_ok t b r e =
     let all : take (length t) b ++ drop (length t) b ≡ b = take-append-drop (length t) b in
     cc
 
--- a part that lacks the byte ends at it
-pub before_part : (stop : ℕ) (x r : List ℕ) → list_all (λ b. not (b == stop)) x ≡ true → count_before stop (x ++ (stop ∷ r)) ≡ length x
-before_part stop [] r h = grind (arith, common_steps)
-before_part stop (b ∷ x) r h =
-    let p = and_parts (not (b == stop)) (list_all (λ c. not (c == stop)) x) h in
-    rw (p.0, before_part stop x r p.1) (omega arith)
-
 pub bind_ok : {A B : Type 0} (r : Option A) (f : A → Option B) (y : B) → (r >>= f) ≡ Some y → (x : A) × (r ≡ Some x) × (f x ≡ Some y)
 bind_ok None f y e = cc
 bind_ok (Some x) f y e = (x, refl, e)
@@ -49,38 +43,50 @@ bind_step r f x y e s = ap (λ q. q >>= f) e ∙ s
 pub some_inj : {A : Type 0} {x y : A} → Some x ≡ Some y → x ≡ y
 some_inj e = cc
 
-pub part_again : (stop : ℕ) (t x r : List ℕ) → list_all (λ b. not (b == stop)) x ≡ true → (u : List ℕ) → t ≡ stop ∷ u → part_at stop t (x ++ (t ++ r)) ≡ Some (x, r)
-part_again stop t x r h u e =
-    let at : count_before stop (x ++ (t ++ r)) ≡ length x = rw e (before_part stop x (u ++ r) h) in
-    rw (at, drop_seam x (t ++ r), text_again t r, take-append_seam x (t ++ r)) refl
+-- The tests of the parts.
 
-pub part_ok : (stop : ℕ) (t b : List ℕ) (p : List ℕ × List ℕ) → part_at stop t b ≡ Some p → b ≡ p.0 ++ (t ++ p.1)
-part_ok stop t b p e =
-    let n = count_before stop b in
-    let s = bind_ok (text_at t (drop n b)) (λ rest. Some (take n b, rest)) p e in
-    let back : drop n b ≡ t ++ s.0 = text_ok t (drop n b) s.0 s.1 in
-    let all : take n b ++ drop n b ≡ b = take-append-drop n b in
-    let is : (take n b, s.0) ≡ p = some_inj s.2 in
-    let fst : take n b ≡ p.0 = ap (λ (q : List ℕ × List ℕ). q.0) is in
-    let snd : s.0 ≡ p.1 = ap (λ (q : List ℕ × List ℕ). q.1) is in
-    sym all ∙ ap (λ t'. t' ++ drop n b) fst ∙ ap (λ t'. p.0 ++ t') (back ∙ ap (λ t'. t ++ t') snd)
+path_ok : (o : Option (List ℕ)) → is_path o ≡ true → (t : List ℕ) × (o ≡ Some t) × AreSome is_address_byte t
+path_ok None e = cc
+path_ok (Some t) e =
+    let s = and_parts (nat_lt 0 (length t)) (list_all is_address_byte t) e in
+    (t, refl, record { some = ltb-true 0 (length t) s.0; each = s.1 })
 
--- what passes a test that a byte fails lacks the byte
-other_byte : (p : ℕ → Bool) (stop b : ℕ) → p stop ≡ false → p b ≡ true → not (b == stop) ≡ true
-other_byte p stop b fails passes = by_case (b == stop) refl
-  where
-    by_case : (t : Bool) → (b == stop) ≡ t → not t ≡ true
-    by_case true e = let same : b ≡ stop = eqb-true b stop e in let both : true ≡ false = sym passes ∙ ap p same ∙ fails in cc
-    by_case false e = refl
+pub address_ok : (site h : List ℕ) → is_address_under site h ≡ true → IsAddressUnder site h
+address_ok site h e =
+    let t = path_ok (text_at site h) e in
+    record { path = t.0; spelled = text_ok site h t.0 t.1; allowed = t.2 }
 
-pub lacks : (p : ℕ → Bool) (stop : ℕ) → p stop ≡ false → (xs : List ℕ) → list_all p xs ≡ true → list_all (λ b. not (b == stop)) xs ≡ true
-lacks p stop fails [] h = refl
-lacks p stop fails (x ∷ xs) h = let s = and_parts (p x) (list_all p xs) h in and_from _ _ (other_byte p stop x fails s.0) (lacks p stop fails xs s.1)
+pub some_again : (p : ℕ → Bool) (bytes : List ℕ) → AreSome p bytes → (nat_lt 0 (length bytes) && list_all p bytes) ≡ true
+some_again p bytes a = and_from _ _ (lt-ltb 0 (length bytes) a.some) a.each
 
-pub none_left : (xs : List ℕ) → (length xs == 0) ≡ true → xs ≡ []
-none_left [] e = refl
-none_left (x ∷ xs) e = grind (arith, common_steps)
+pub address_again : (site h : List ℕ) → IsAddressUnder site h → is_address_under site h ≡ true
+address_again site h a =
+    let seen : text_at site h ≡ Some a.path = ap (text_at site) a.spelled ∙ text_again site a.path in
+    ap is_path seen ∙ some_again is_address_byte a.path a.allowed
 
-pub all_pass : (p q : ℕ → Bool) → ((x : ℕ) → p x ≡ true → q x ≡ true) → (xs : List ℕ) → list_all p xs ≡ true → list_all q xs ≡ true
-all_pass p q h [] e = refl
-all_pass p q h (x ∷ xs) e = let s = and_parts (p x) (list_all p xs) e in and_from _ _ (h x s.0) (all_pass p q h xs s.1)
+pub name_ok : (bytes : List ℕ) → is_name bytes ≡ true → IsName bytes
+name_ok [] e = cc
+name_ok (c ∷ cs) e =
+    let s = and_parts (is_letter c) (list_all is_name_byte cs) e in
+    record { head = c; tail = cs; spelled = refl; letter = s.0; allowed = s.1 }
+
+pub name_again : (bytes : List ℕ) → IsName bytes → is_name bytes ≡ true
+name_again bytes n = ap is_name n.spelled ∙ and_from _ _ n.letter n.allowed
+
+pub identifier_ok : (bytes : List ℕ) → is_identifier bytes ≡ true → AreSome is_letter_or_digit bytes
+identifier_ok bytes e =
+    let s = and_parts (nat_lt 0 (length bytes)) (list_all is_letter_or_digit bytes) e in
+    record { some = ltb-true 0 (length bytes) s.0; each = s.1 }
+
+pub four_true : (a b c d : Bool) → a ≡ true → b ≡ true → c ≡ true → d ≡ true → (a && b && c && d) ≡ true
+four_true a b c d h i j k = and_from _ _ (and_from _ _ (and_from _ _ h i) j) k
+
+pub of_four : (a b c d : Bool) → (a && b && c && d) ≡ true → (a ≡ true) × (b ≡ true) × (c ≡ true) × (d ≡ true)
+of_four a b c d e =
+    let x = and_parts _ _ e in let y = and_parts _ _ x.0 in let z = and_parts _ _ y.0 in (z.0, z.1, y.1, x.1)
+
+pub three_true : (a b c : Bool) → a ≡ true → b ≡ true → c ≡ true → (a && b && c) ≡ true
+three_true a b c h i j = and_from _ _ (and_from _ _ h i) j
+
+pub of_three : (a b c : Bool) → (a && b && c) ≡ true → (a ≡ true) × (b ≡ true) × (c ≡ true)
+of_three a b c e = let x = and_parts _ _ e in let y = and_parts _ _ x.0 in (y.0, y.1, x.1)

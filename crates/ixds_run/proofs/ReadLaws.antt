@@ -1,67 +1,80 @@
 -- Reading a page piece by piece.
-use Rattle.std.proofs.Common.{◌≡◌, ◌∙◌, ap, sym, ℕ, List, ◌++◌, length, take, drop, Option, Some, None, IfSome, option_map, append_assoc, append-nil, subst, ◌+◌, ◌≤◌, arith, length-append, inl, inr}
-use Rattle.ix_base.specs.Outside.{Begun}
-use Rattle.ix_base.specs.declared.content.Content.{Content}
-use Rattle.ixds_run.specs.declared.command.Command.{Command}
-use Rattle.ixds_run.specs.declared.status.Status.{Status}
-use Rattle.ixds_run.specs.FirstForm.{First, NotFirst, IsFirst}
-use Rattle.ixds_run.specs.Outcomes.{Outcome, IsOutcome, Gives, GivesPart, GivesFront, StopsInTime}
-use Rattle.std.proofs.lemmas.List.{take-append-drop}
+use Rattle.std.proofs.Common.{◌≡◌, ◌∙◌, ap, sym, refl, ℕ, ◌+◌, ◌≤◌, ◌<◌, ◌==◌, nat_lt, Bool, cond, List, [], ◌++◌, length, take, drop, Option, Some, None, IfSome, option_map, append_assoc, append-nil, subst, arith, length-append}
+use Rattle.std.proofs.lemmas.Bool.{lt-ltb}
+use Rattle.std.proofs.lemmas.List.{take-append-drop, length-take-le}
+use Rattle.std.proofs.lemmas.List.Sums.{sum_by-append}
 use Rattle.ix_base.specs.Outside.{ReadsFrom}
-use Rattle.ixds_run.specs.Reading.{HasRead, ReadsOn, IsAll, IsRead}
+use Rattle.ix_base.specs.declared.rule.Rule.TheVariants.{S1, S2}
+use Rattle.page_tree.specs.Standing.{StandsFor}
+use Rattle.page_tree.specs.declared.builder.TreeBuilder.{TreeBuilder}
+use Rattle.ixds_run.specs.Outcomes.{StopsInTime, set_breach, size_rule, tags_in}
+use Rattle.ixds_run.specs.Reading.{HasRead, IsRead}
+use Rattle.ixds_run.specs.declared.reading.Sums.{Sums}
 
-pub read_on : (left left' : Option (List ℕ)) (bytes buf : List ℕ) (n : ℕ) → IfSome left (λ rest. ReadsFrom rest buf n) → left' ≡ option_map (drop n) left → ReadsOn bytes left (bytes ++ take n buf) left'
-read_on left left' bytes buf n piece next None has = tt
-read_on left left' bytes buf n piece next (Some b) (rest, is, at) =
-    let p = subst (λ (l : Option (List ℕ)). IfSome l (λ rest. ReadsFrom rest buf n)) at piece in
-    let split : take n buf ++ drop n rest ≡ rest = ap (λ t. t ++ drop n rest) p.bytes ∙ take-append-drop n rest in
-    (drop n rest, is ∙ ap (λ t. bytes ++ t) (sym split) ∙ sym (append_assoc bytes (take n buf) (drop n rest)), next ∙ ap (option_map (drop n)) at)
+tags-append : (xs ys : List ℕ) → tags_in (xs ++ ys) ≡ tags_in xs + tags_in ys
+tags-append xs ys = sum_by-append (λ b. cond (b == 60) 1 0) xs ys
 
-pub read_end : (left : Option (List ℕ)) (bytes buf : List ℕ) (n : ℕ) → n ≡ 0 → IfSome left (λ rest. ReadsFrom rest buf n) → IsAll bytes left
-read_end left bytes buf n none piece None has = tt
-read_end left bytes buf n none piece (Some b) (rest, is, at) =
-    let p = subst (λ (l : Option (List ℕ)). IfSome l (λ rest. ReadsFrom rest buf n)) at piece in
-    sym (is ∙ ap (λ t. bytes ++ t) (p.end none) ∙ append-nil bytes)
+-- a piece was read, and the builder took it
+pub read_on : (page : List ℕ) (left left' : Option (List ℕ)) (t t' : TreeBuilder) (s s' : Sums) (buf : List ℕ) (n : ℕ)
+    → IfSome left (λ rest. ReadsFrom rest buf n) → left' ≡ option_map (drop n) left
+    → ((b : List ℕ) → StandsFor t b → StandsFor t' (b ++ take n buf)) → s'.bytes ≡ s.bytes + n → s'.tags ≡ s.tags + tags_in (take n buf)
+    → HasRead page left t s → HasRead page left' t' s'
+read_on page left left' t t' s s' buf n piece next takes bytes tags h =
+    let p : ReadsFrom h.rest buf n = subst (λ (l : Option (List ℕ)). IfSome l (λ rest. ReadsFrom rest buf n)) h.left_is piece in
+    let split : take n buf ++ drop n h.rest ≡ h.rest = ap (λ x. x ++ drop n h.rest) p.bytes ∙ take-append-drop n h.rest in
+    let size : length (take n buf) ≡ n = ap length p.bytes ∙ length-take-le n h.rest p.within in
+    record {
+      front = h.front ++ take n buf;
+      rest = drop n h.rest;
+      joined = h.joined ∙ ap (λ x. h.front ++ x) (sym split) ∙ sym (append_assoc h.front (take n buf) (drop n h.rest));
+      left_is = next ∙ ap (option_map (drop n)) h.left_is;
+      built = takes h.front h.built;
+      bytes = bytes ∙ ap (λ k. k + n) h.bytes ∙ ap (λ k. length h.front + k) (sym size) ∙ sym (length-append h.front (take n buf));
+      tags = tags ∙ ap (λ k. k + tags_in (take n buf)) h.tags ∙ sym (tags-append h.front (take n buf));
+    }
 
-first_of_read : (b v : List ℕ) (x : Content) → IsRead b v → First v x → First b x
-first_of_read b v x read first = subst (λ t. First t x) (read.all first.is_first.short) first
+-- nothing was read, which is so at the end alone
+pub read_end : (left left' : Option (List ℕ)) (buf : List ℕ) (n : ℕ) → n ≡ 0 → IfSome left (λ rest. ReadsFrom rest buf n) → left' ≡ option_map (drop n) left
+    → IfSome left' (λ rest. rest ≡ [])
+read_end None left' buf n none piece next = rw next tt
+read_end (Some rest) left' buf n none piece next = rw (next, none) (piece.end none)
 
-not_first_of_read : (b v : List ℕ) → IsRead b v → NotFirst v → NotFirst b
-not_first_of_read b v read none p f =
-    let sum : length b ≡ length v + length read.front.0 = ap length read.front.1 ∙ length-append v read.front.0 in
-    let short = f.short in
-    let whole : v ≡ b = read.all (omega arith) in
-    none p (subst (λ t. IsFirst t p) (sym whole) f)
+-- nothing was read yet
+pub read_nothing : (o left : Option (List ℕ)) (t : TreeBuilder) (s : Sums) → left ≡ o → StandsFor t [] → s.bytes ≡ 0 → s.tags ≡ 0 → IfSome o (λ page. HasRead page left t s)
+read_nothing None left t s at built bytes tags = tt
+read_nothing (Some page) left t s at built bytes tags =
+    record { front = []; rest = page; joined = refl; left_is = at; built = built; bytes = bytes; tags = tags }
 
-pub due_of_read : (c : Command) (b v : List ℕ) (due : Outcome) → IsRead b v → IsOutcome c v due → IsOutcome c b due
-due_of_read c b v due read (inl (x, first, is)) = inl (x, first_of_read b v x read first, is)
-due_of_read c b v due read (inr (none, is)) = inr (not_first_of_read b v read none, is)
+over : (n m : ℕ) → 268435456 < n → size_rule n m ≡ Some S1
+over n m h = ap (λ (t : Bool). cond t (Some S1) (cond (nat_lt 8388608 m) (Some S2) None)) (lt-ltb 268435456 n h)
 
-pub gives_due_of_read : (o : Option (List ℕ)) (v : List ℕ) (c : Command) (s : Status) (ts ts' : Option (List Begun)) (t t' : Option (List ℕ)) → IfSome o (λ b. IsRead b v)
-    → Gives s ts ts' t t' c v → IfSome o (λ b. Gives s ts ts' t t' c b)
-gives_due_of_read None v c s ts ts' t t' read gives = tt
-gives_due_of_read (Some b) v c s ts ts' t t' read gives = (gives.0, due_of_read c b v gives.0 read gives.1, gives.2, gives.3, gives.4)
+-- more was read than a page may have
+pub read_over : (page : List ℕ) (left : Option (List ℕ)) (t : TreeBuilder) (s : Sums) → 268435456 < s.bytes → HasRead page left t s → IsRead s t page
+read_over page left t s h r =
+    let sum : length page ≡ length r.front + length r.rest = ap length r.joined ∙ length-append r.front r.rest in
+    let bytes = r.bytes in
+    let long : 268435456 < length page = omega arith in
+    let broken = over s.bytes s.tags h in
+    record { size = over (length page) (tags_in page) long ∙ sym broken; built = λ e. absurd (let z : None ≡ Some S1 = sym e ∙ broken in cc) }
 
-pub gives_part_of_read : (o : Option (List ℕ)) (v : List ℕ) (c : Command) (ts ts' : Option (List Begun)) → IfSome o (λ b. IsRead b v)
-    → GivesPart ts ts' c v → IfSome o (λ b. GivesPart ts ts' c b)
-gives_part_of_read None v c ts ts' read gives = tt
-gives_part_of_read (Some b) v c ts ts' read gives = (gives.0, due_of_read c b v gives.0 read gives.1, gives.2)
+-- all of it was read
+pub read_all : (page : List ℕ) (left : Option (List ℕ)) (t : TreeBuilder) (s : Sums) → IfSome left (λ rest. rest ≡ []) → HasRead page left t s → IsRead s t page
+read_all page left t s end r =
+    let none : r.rest ≡ [] = subst (λ (l : Option (List ℕ)). IfSome l (λ rest. rest ≡ [])) r.left_is end in
+    let all : r.front ≡ page = sym (append-nil r.front) ∙ ap (λ x. r.front ++ x) (sym none) ∙ sym r.joined in
+    record {
+      size = ap set_breach (sym all) ∙ (λ i. size_rule (sym r.bytes i) (sym r.tags i));
+      built = λ e. subst (λ b. StandsFor t b) all r.built;
+    }
 
-pub gives_front_of_read : (o : Option (List ℕ)) (v : List ℕ) (c : Command) (ts ts' : Option (List Begun)) (t t' : Option (List ℕ)) → IfSome o (λ b. IsRead b v)
-    → GivesFront ts ts' t t' c v → IfSome o (λ b. GivesFront ts ts' t t' c b)
-gives_front_of_read None v c ts ts' t t' read gives = tt
-gives_front_of_read (Some b) v c ts ts' t t' read gives = (gives.0, due_of_read c b v gives.0 read gives.1, gives.2, gives.3)
-
-pub stops_in_time : (page left : Option (List ℕ)) (bytes : List ℕ) → HasRead page bytes left → length bytes ≤ 1048576 + 65536 → StopsInTime page left
-stops_in_time None left bytes h l = tt
-stops_in_time (Some b) left bytes h l = rw h.2 (
-    let e : length b ≡ length bytes + length h.0 = ap length h.1 ∙ length-append bytes h.0 in
+pub stops_in_time : (o left : Option (List ℕ)) (t : TreeBuilder) (s : Sums) → IfSome o (λ page. HasRead page left t s) → s.bytes ≤ 268435456 + 65536 → StopsInTime o left
+stops_in_time None left t s h most = tt
+stops_in_time (Some page) left t s h most = rw h.left_is (
+    let sum : length page ≡ length h.front + length h.rest = ap length h.joined ∙ length-append h.front h.rest in
+    let bytes = h.bytes in
     omega arith)
 
--- a page that isn't in the first form was read as one that isn't
-not_first_read : (b v : List ℕ) → IsRead b v → NotFirst b → NotFirst v
-not_first_read b v read none p f = none p (subst (λ t. IsFirst t p) (read.all f.short) f)
-
-pub broken_of_read : (o : Option (List ℕ)) (v : List ℕ) (same : Type 0) → IfSome o (λ b. IsRead b v) → (NotFirst v → same) → IfSome o (λ b. NotFirst b → same)
-broken_of_read None v same read broken = tt
-broken_of_read (Some b) v same read broken = λ none. broken (not_first_read b v read none)
+-- what is so of any page is so of one that is told
+pub if_told : (o : Option (List ℕ)) (From To : List ℕ → Type 0) → ((b : List ℕ) → From b → To b) → IfSome o From → IfSome o To
+if_told None From To step h = tt
+if_told (Some b) From To step h = step b h

@@ -1,8 +1,11 @@
 pub mod Commands
-pub mod FirstContent
-pub mod FirstForm
-pub mod FirstReading
+pub mod FirstShape
+pub mod Judging
 pub mod Outcomes
-pub mod PartsView
+pub mod PartForms
+pub mod PartReading
 pub mod Reading
-pub mod ReferenceText
+pub mod ShapeContent
+pub mod ShapeReading
+pub mod ShapeRows
+pub mod ShapeView

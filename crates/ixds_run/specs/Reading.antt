@@ -1,19 +1,22 @@
 -- Reading a page piece by piece.
-use Rattle.std.specs.Prelude.{◌≡◌, ◌≤◌, length, ℕ, List, ◌++◌, Option, Some, IfSome}
+use Rattle.std.specs.Prelude.{◌≡◌, length, List, ℕ, ◌++◌, Option, Some, None}
+use Rattle.page_tree.specs.Standing.{StandsFor}
+use Rattle.page_tree.specs.declared.builder.TreeBuilder.{TreeBuilder}
+use Rattle.ixds_run.specs.Outcomes.{set_breach, size_rule, tags_in}
+use Rattle.ixds_run.specs.declared.reading.Sums.{Sums}
 
--- these bytes were read of the page, where the source tells it, and this is left of it
-abbrev pub HasRead : Option (List ℕ) → List ℕ → Option (List ℕ) → Type 0
-HasRead page bytes left = IfSome page (λ b. (rest : List ℕ) × (b ≡ bytes ++ rest) × (left ≡ Some rest))
+-- Of a page of these bytes a front was read, which the builder was given and which has these sums. The rest is left.
+pub record HasRead (page : List ℕ) (left : Option (List ℕ)) (t : TreeBuilder) (s : Sums) : Type 0 where
+  pub front : List ℕ
+  pub rest : List ℕ
+  pub joined : page ≡ front ++ rest
+  pub left_is : left ≡ Some rest
+  pub built : StandsFor t front
+  pub bytes : s.bytes ≡ length front
+  pub tags : s.tags ≡ tags_in front
 
--- a step of reading leads from what was read to what was read
-abbrev pub ReadsOn : List ℕ → Option (List ℕ) → List ℕ → Option (List ℕ) → Type 0
-ReadsOn bytes left bytes' left' = (page : Option (List ℕ)) → HasRead page bytes left → HasRead page bytes' left'
-
--- all of the page was read
-abbrev pub IsAll : List ℕ → Option (List ℕ) → Type 0
-IsAll bytes left = (page : Option (List ℕ)) → HasRead page bytes left → IfSome page (λ b. bytes ≡ b)
-
--- what was read of a page: all of it, or more than the limit
-pub record IsRead (page bytes : List ℕ) : Type 0 where
-  pub front : (rest : List ℕ) × (page ≡ bytes ++ rest)
-  pub all : length bytes ≤ 1048576 → bytes ≡ page
+-- What the sums and the builder tell of a page: the size rule that it breaks, and where it breaks none, all of it was given
+-- to the builder.
+pub record IsRead (s : Sums) (t : TreeBuilder) (page : List ℕ) : Type 0 where
+  pub size : set_breach page ≡ size_rule s.bytes s.tags
+  pub built : size_rule s.bytes s.tags ≡ None → StandsFor t page

@@ -4,8 +4,8 @@ ghost use Rattle.std.specs.Int.{w64};
 ghost use Rattle.jiff.specs.Words.{IsYmd};
 ghost use Rattle.ix_base.specs.Days.{IsDay, day_end};
 ghost use Rattle.ix_base.specs.Decimals.{number_in};
-ghost use Rattle.ixds_run.specs.FirstForm.{IsDate};
-ghost use Rattle.ixds_run.specs.FirstReading.{two_digits as two_digits_of, four_digits as four_digits_of};
+ghost use Rattle.ixds_run.specs.PartForms.{IsDate};
+ghost use Rattle.ixds_run.specs.PartReading.{two_digits as two_digits_of, four_digits as four_digits_of};
 
 use jiff::civil::Date;
 

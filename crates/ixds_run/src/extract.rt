@@ -2,16 +2,20 @@
 ghost use Rattle.std.specs.Prelude.{◌≡◌, ◌⊎◌, ◌+◌, ◌^◌, ◌<◌, [], IfSome};
 ghost use Rattle.ix_base.specs.Outside.{TextGainsFront};
 ghost use Rattle.ixds_run.specs.Commands.{HasOnePage, dir_of, page_of};
-ghost use Rattle.ixds_run.specs.FirstForm.{NotFirst};
-ghost use Rattle.ixds_run.specs.Outcomes.{Gives, GivesPart, GivesFront, GainsText, cannot_read_line, StopsInTime};
+ghost use Rattle.ixds_run.specs.Outcomes.{Gives, GivesPart, GivesFront, GainsText, NotServed, cannot_read_line, StopsInTime};
 
 use crate::Status;
 use crate::answer::answer;
 use crate::command::Command;
 use crate::lines::cannot_read;
 use crate::reading::{ReadError, read_page};
+use bumpalo::Bump;
 use ix_base::{PageSource, TargetSink, TextSink};
+use page_tree::TreeBuilder;
 use std::alloc::Global;
+
+/// The most levels of elements of a page.
+const DEPTH: u32 = 256;
 
 /// Reads the command's page and answers it. The line for a page that can't be read is made first, so that want of
 /// memory hides no read fault.
@@ -36,7 +40,7 @@ pub fn extract<P: PageSource, S: TargetSink, T: TextSink>(
         (Gives Status.Broken (S.targets sink.old) (S.targets sink.new) (T.taken out.old) (T.taken out.new)
         command.now) }
     ensures untouched { result ≡ Status.Broken → sink.new ≡ sink.old }
-    ensures broken_page { IfSome (P.page pages.old (page_of command.now)) (λ b. NotFirst b → sink.new ≡ sink.old) }
+    ensures broken_page { IfSome (P.page pages.old (page_of command.now)) (λ b. NotServed b → sink.new ≡ sink.old) }
     ensures named { (pages.new ≡ pages.old) ⊎ IfSome (P.asked pages.new) (λ n. n ≡ page_of command.now) }
     ensures pages { P.page pages.new ≡ P.page pages.old }
     ensures stops { (result ≡ Status.Done) ⊎ (result ≡ Status.Broken)
@@ -65,10 +69,12 @@ pub fn extract<P: PageSource, S: TargetSink, T: TextSink>(
     let Ok(line) = cannot_read(alloc, command.page()) else {
         return Status::NoMemory;
     };
-    match read_page(alloc, pages, command.page()) {
+    let arena = Bump::new(alloc);
+    let mut builder = TreeBuilder::new(alloc, &arena, 0, DEPTH);
+    match read_page(alloc, pages, command.page(), &mut builder) {
         Err(ReadError::NoMemory) => Status::NoMemory,
         Err(ReadError::Failed) => put_read_fault(line.as_slice(), out),
-        Ok(bytes) => answer(alloc, command, bytes.as_slice(), sink, out),
+        Ok(sums) => answer(alloc, command, sums, builder, sink, out),
     }
 }
 

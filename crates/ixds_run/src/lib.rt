@@ -4,8 +4,7 @@
 ghost use Rattle.std.specs.Prelude.{◌≡◌, ◌⊎◌, ◌+◌, ◌^◌, ◌<◌, [], IfSome};
 ghost use Rattle.ix_base.specs.Outside.{TextGainsFront};
 ghost use Rattle.ixds_run.specs.Commands.{command_of, dir_of, page_of};
-ghost use Rattle.ixds_run.specs.FirstForm.{NotFirst};
-ghost use Rattle.ixds_run.specs.Outcomes.{IfTold, Gives, GivesPart, GivesFront, GainsText, StopsInTime};
+ghost use Rattle.ixds_run.specs.Outcomes.{IfTold, Gives, GivesPart, GivesFront, GainsText, NotServed, StopsInTime};
 ghost use Rattle.ixds_run.specs.Outcomes.{usage_line, cannot_read_line};
 
 mod answer;
@@ -13,17 +12,21 @@ mod command;
 mod dates;
 mod deliver;
 mod extract;
-mod first;
+mod judge;
+pub mod laws;
 mod lines;
+mod nodes;
+mod parts;
 mod reading;
+mod report;
+mod shape;
 mod status;
-mod text;
 
 pub use command::{Command, command_of};
 use extract::extract;
-pub use first::{first_form, one_content};
 use ix_base::{PageSource, TargetSink, Text, TextSink};
 use lines::usage;
+pub use shape::{first_shape, one_shape, shape_rows};
 pub use status::Status;
 use std::alloc::Global;
 
@@ -50,16 +53,16 @@ pub fn run<P: PageSource, S: TargetSink, T: TextSink>(
         → Gives result (S.targets sink.old) (S.targets sink.new) (T.taken out.old) (T.taken out.new) c b
         ⊎ ((result ≡ Status.NoMemory) × (sink.new ≡ sink.old) × (out.new ≡ out.old))) }
 
-    // Done: the page is in the first form, its target is written whole, and then the summary.
+    // Done: the page's tree is in the first shape, its target is written whole, and then the summary.
     ensures done { result ≡ Status.Done → IfTold (command_of words.now) (P.page pages.old)
         (Gives Status.Done (S.targets sink.old) (S.targets sink.new) (T.taken out.old) (T.taken out.new)) }
 
-    // Broken: the page isn't in the first form, and `out` took the report. For such a page no target is begun, whatever
-    // the status.
+    // Broken: the page breaks a rule, and `out` took the report. For such a page no target is begun, whatever the
+    // status.
     ensures broken { result ≡ Status.Broken → IfTold (command_of words.now) (P.page pages.old)
         (Gives Status.Broken (S.targets sink.old) (S.targets sink.new) (T.taken out.old) (T.taken out.new)) }
     ensures broken_sink { result ≡ Status.Broken → sink.new ≡ sink.old }
-    ensures broken_page { IfTold (command_of words.now) (P.page pages.old) (λ c b. NotFirst b → sink.new ≡ sink.old) }
+    ensures broken_page { IfTold (command_of words.now) (P.page pages.old) (λ c b. NotServed b → sink.new ≡ sink.old) }
 
     // Usage: the words give no command, and then no other status comes but for a failed put and want of memory.
     ensures usage { result ≡ Status.Usage

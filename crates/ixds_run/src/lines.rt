@@ -1,6 +1,6 @@
 //! The lines that `out` takes, each with its line feed.
 ghost use Rattle.std.specs.Prelude.{◌≡◌, ◌++◌, IfOk};
-ghost use Rattle.ixds_run.specs.Outcomes.{usage_line, summary_line, cannot_read_line, not_first_line};
+ghost use Rattle.ixds_run.specs.Outcomes.{usage_line, summary_line, cannot_read_line};
 
 use std::alloc::{AllocError, Global};
 
@@ -24,19 +24,6 @@ pub fn cannot_read(alloc: Global, page: &str) -> Result<Vec<u8>, AllocError>
     ensures { IfOk result (λ v. v.items ≡ cannot_read_line page.now) }
 {
     joined(alloc, b"ixds: cannot read ", page.as_bytes(), b"\n")
-}
-
-/// The line for a page that isn't in the first form.
-#[tactic(auto, unfolding(crate::specs::Outcomes::not_first_line))]
-pub fn not_first(alloc: Global, page: &str) -> Result<Vec<u8>, AllocError>
-    ensures { IfOk result (λ v. v.items ≡ not_first_line page.now) }
-{
-    joined(
-        alloc,
-        page.as_bytes(),
-        b":0: U1 page isn't in the first form\n",
-        b"",
-    )
 }
 
 /// Three texts, joined.

@@ -1,11 +1,12 @@
-//! Reading a page.
-ghost use Rattle.std.specs.Prelude.{◌≡◌, ◌+◌, ◌^◌, ◌<◌, ◌≤◌, length, vec_len, true, false, IsTrue, IsErrOf, IfOk, IfSome, OnOk};
-ghost use Rattle.ixds_run.specs.Outcomes.{StopsInTime};
-ghost use Rattle.ixds_run.specs.Reading.{ReadsOn, IsAll, HasRead, IsRead};
+//! Reading a page into a builder of its tree.
+ghost use Rattle.std.specs.Prelude.{◌≡◌, ◌+◌, ◌^◌, ◌<◌, ◌≤◌, [], ℕ, List, length, vec_len, true, false, IsTrue, IsErrOf, IfOk, IfSome, OnOk};
+ghost use Rattle.page_tree.specs.Standing.{StandsFor, fed_bytes, limit};
+ghost use Rattle.ixds_run.specs.Outcomes.{StopsInTime, tags_in};
+ghost use Rattle.ixds_run.specs.Reading.{HasRead, IsRead};
 ghost use Rattle.ixds_run.specs.declared.reading.ReadError.TheVariants.{Failed as ReadFailed, NoMemory as ReadNoMemory};
 
-use crate::first::LONGEST;
 use ix_base::PageSource;
+use page_tree::TreeBuilder;
 use std::alloc::{AllocError, Global};
 use thiserror::Error;
 
@@ -18,6 +19,16 @@ pub enum ReadError {
     NoMemory,
 }
 
+/// How many bytes were read, and how many of them are `<`.
+#[derive(Clone, Copy)]
+pub struct Sums {
+    pub bytes: u64,
+    pub tags: u64,
+}
+
+/// The most bytes of a page.
+pub const MOST_BYTES: u64 = 268_435_456;
+
 /// How many bytes a read asks for at most.
 const BUFFER: usize = 65_536;
 
@@ -27,20 +38,35 @@ fn zeros(alloc: Global, n: usize) -> Result<Vec<u8>, AllocError>
     vec![in alloc; 0u8; n]
 }
 
-/// Reads a piece. It answers whether there was any.
+/// How many bytes of a piece are `<`.
+fn count_tags(piece: &[u8]) -> u64
+    ensures value { result ≡ tags_in piece.now }
+    ensures most { result ≤ length piece.now }
+{
+    piece.iter().filter(|b| **b == b'<').count() as u64
+}
+
+/// Reads a piece, gives it to the builder and adds to the sums. It answers whether there was any.
 fn read_piece<P: PageSource>(
     pages: &mut P,
     buffer: &mut [u8],
-    bytes: &mut Vec<u8>,
+    builder: &mut TreeBuilder<'_>,
+    sums: &mut Sums,
 ) -> Result<bool, ReadError>
     requires count { P.faults pages.old + 1 < 2 ^ 64 }
     requires started { IsTrue (P.started pages.old) }
     requires room { 0 < length buffer.old }
-    ensures bytes { OnOk result (ReadsOn bytes.old.items (P.left pages.old) bytes.new.items (P.left pages.new)) }
-    ensures all { IfOk result (λ more. more ≡ false → IsAll bytes.old.items (P.left pages.old)) }
-    ensures same { IfOk result (λ more. more ≡ false → bytes.new.items ≡ bytes.old.items) }
-    ensures grows { IfOk result (λ more. more ≡ true → vec_len bytes.old < vec_len bytes.new) }
-    ensures most { OnOk result (vec_len bytes.new ≤ vec_len bytes.old + length buffer.old) }
+    requires fed { fed_bytes builder.old ≡ sums.old.bytes }
+    requires tags { sums.old.tags ≤ sums.old.bytes }
+    requires most { sums.old.bytes + length buffer.old < 2 ^ 64 }
+    ensures reads { OnOk result ((b : List ℕ) → HasRead b (P.left pages.old) builder.old sums.old
+        → HasRead b (P.left pages.new) builder.new sums.new) }
+    ensures end { IfOk result (λ more. more ≡ false → IfSome (P.left pages.new) (λ rest. rest ≡ [])) }
+    ensures grows { IfOk result (λ more. more ≡ true → sums.old.bytes < sums.new.bytes) }
+    ensures most { OnOk result (sums.new.bytes ≤ sums.old.bytes + length buffer.old) }
+    ensures fed { OnOk result (fed_bytes builder.new ≡ sums.new.bytes) }
+    ensures tags { OnOk result (sums.new.tags ≤ sums.new.bytes) }
+    ensures limit { OnOk result (limit builder.new ≡ limit builder.old) }
     ensures started { OnOk result (P.started pages.new ≡ P.started pages.old) }
     ensures asked { P.asked pages.new ≡ P.asked pages.old }
     ensures pages { P.page pages.new ≡ P.page pages.old }
@@ -52,26 +78,31 @@ fn read_piece<P: PageSource>(
         Ok(n) => n,
         Err(_) => return Err(ReadError::Failed),
     };
-    match bytes.extend_from_slice(&buffer[..n]) {
-        Ok(()) => Ok(n > 0),
-        Err(_) => Err(ReadError::NoMemory),
-    }
+    let piece = &buffer[..n];
+    let Ok(()) = builder.feed(piece) else {
+        return Err(ReadError::NoMemory);
+    };
+    sums.bytes += n as u64;
+    sums.tags += count_tags(piece);
+    Ok(n > 0)
 }
 
-/// The bytes of a page. It stops once it has taken more than the limit.
+/// Reads a page into a builder that was given nothing. It stops once it has read more than the limit.
 pub fn read_page<P: PageSource>(
     alloc: Global,
     pages: &mut P,
     name: &str,
-) -> Result<Vec<u8>, ReadError>
+    builder: &mut TreeBuilder<'_>,
+) -> Result<Sums, ReadError>
     requires count { P.faults pages.old + 1 < 2 ^ 64 }
     requires name { length name.now ≤ 4096 }
-    ensures bytes { IfOk result (λ v. IfSome (P.page pages.old name.now) (λ b. IsRead b v.items)) }
+    requires fresh { StandsFor builder.old [] }
+    requires fed { fed_bytes builder.old ≡ 0 }
+    ensures read { IfOk result (λ s. IfSome (P.page pages.old name.now) (IsRead s builder.new)) }
+    ensures limit { OnOk result (limit builder.new ≡ limit builder.old) }
     ensures named { IfSome (P.asked pages.new) (λ n. n ≡ name.now) }
     ensures pages { P.page pages.new ≡ P.page pages.old }
-    ensures left { IfOk result (λ v. HasRead (P.page pages.old name.now) v.items (P.left pages.new)) }
     ensures stops { OnOk result (StopsInTime (P.page pages.old name.now) (P.left pages.new)) }
-    ensures limit { IfOk result (λ v. vec_len v ≤ 1048576 + 65536) }
     ensures ok { OnOk result (P.faults pages.new ≡ P.faults pages.old) }
     ensures failed { IsErrOf result ReadFailed → P.faults pages.old < P.faults pages.new }
     ensures memory { IsErrOf result ReadNoMemory → P.faults pages.new ≡ P.faults pages.old }
@@ -82,11 +113,11 @@ pub fn read_page<P: PageSource>(
     let Ok(mut buffer) = zeros(alloc, BUFFER) else {
         return Err(ReadError::NoMemory);
     };
-    let mut bytes = Vec::new(alloc);
-    while bytes.len() <= LONGEST {
-        if !read_piece(pages, buffer.as_mut_slice(), &mut bytes)? {
+    let mut sums = Sums { bytes: 0, tags: 0 };
+    while sums.bytes <= MOST_BYTES {
+        if !read_piece(pages, buffer.as_mut_slice(), builder, &mut sums)? {
             break;
         }
     }
-    Ok(bytes)
+    Ok(sums)
 }

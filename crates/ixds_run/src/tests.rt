@@ -7,7 +7,9 @@ use ix_base::{List, MemPage, MemPages, MemTargets, MemText, Text};
 use std::alloc::Global;
 use std::test::Fail;
 
+mod broken;
 mod counted;
+mod made;
 
 const SUMMARY: &[u8] = b"(default): 1 facts, 0 tuples, 1 contexts, 0 units, 0 footnotes\n";
 
@@ -15,7 +17,7 @@ const USAGE: &[u8] = b"usage: ixds extract --base URL --out DIR PAGE\n";
 
 const CANNOT_READ: &[u8] = b"ixds: cannot read a.html\n";
 
-const NOT_FIRST: &[u8] = b"a.html:0: U1 page isn't in the first form\n";
+const NOT_BUILT: &[u8] = b"a.html:0: U2 not built yet\n";
 
 /// The page up to its day.
 const FRONT: &[u8] =
@@ -109,6 +111,15 @@ struct Ended {
     out: Counted<MemText>,
 }
 
+/// Words as texts.
+fn texts_of(alloc: Global, words: &[&str]) -> Result<Vec<Text>, Fail> {
+    let mut texts = Vec::new(alloc);
+    for word in words {
+        texts.push(Text::of(alloc, word)?)?;
+    }
+    Ok(texts)
+}
+
 /// Runs words over one page, `a.html`.
 fn run_over(
     alloc: Global,
@@ -119,10 +130,7 @@ fn run_over(
 ) -> Result<Ended, Fail>
     requires { 0 < step }
 {
-    let mut texts = Vec::new(alloc);
-    for word in words {
-        texts.push(Text::of(alloc, word)?)?;
-    }
+    let texts = texts_of(alloc, words)?;
     let mut held = Vec::new(alloc);
     held.push(MemPage {
         name: Text::of(alloc, "a.html")?,
@@ -140,21 +148,33 @@ fn run_over(
     })
 }
 
+/// The plain page, and pages whose value is spelled in other ways, give the same instance and the same summary, whatever
+/// the pieces in which they are read.
 #[test]
 fn the_plain_page_gives_its_six_lines(rt: HostRuntime) -> Result<(), Fail> {
     let alloc = rt.alloc();
     let instance = first_lines(alloc, 6)?;
-    for step in [1, 7, 65_536] {
-        let bytes = page(alloc, b"2023-12-31", b"A &amp; B")?;
-        let end = run_over(alloc, &PLAIN, bytes, step, NONE)?;
-        assert!(rt; end.status == Status::Done, "step {step}");
-        assert!(rt;
-            end.sink.object.taken("") == Some(instance.as_slice()),
-            "step {step}"
-        );
-        assert!(rt; end.sink.object.finished(""), "step {step}");
-        assert!(rt; end.out.object.taken() == SUMMARY, "step {step}");
-        assert!(rt; end.sink.calls == 8 && end.out.calls == 1, "step {step}");
+    let values: [&[u8]; 3] = [
+        b"A &amp; B",
+        b"<![CDATA[A &]]> <![CDATA[B]]>",
+        b"&#65;<!-- between --> &#x26;<?and this?> B",
+    ];
+    for value in values {
+        for step in [1, 7, 65_536] {
+            let bytes = page(alloc, b"2023-12-31", value)?;
+            let end = run_over(alloc, &PLAIN, bytes, step, NONE)?;
+            assert!(rt; end.status == Status::Done, "{value:?} {step}");
+            assert!(rt;
+                end.sink.object.taken("") == Some(instance.as_slice()),
+                "{value:?} {step}"
+            );
+            assert!(rt; end.sink.object.finished(""), "{value:?} {step}");
+            assert!(rt; end.out.object.taken() == SUMMARY, "{value:?} {step}");
+            assert!(rt;
+                end.sink.calls == 8 && end.out.calls == 1,
+                "{value:?} {step}"
+            );
+        }
     }
     Ok(())
 }
@@ -175,7 +195,7 @@ fn instance(alloc: Global, day: &[u8], text: &[u8]) -> Result<Vec<u8>, Fail> {
     Ok(bytes)
 }
 
-/// The days and values of pages, and what then stands in the fact: nothing where the page isn't in the first form.
+/// The days and values of pages, and what then stands in the fact: nothing where the page's tree isn't in the first shape.
 #[test]
 fn real_days_and_texts_are_taken(rt: HostRuntime) -> Result<(), Fail> {
     let alloc = rt.alloc();
@@ -183,17 +203,17 @@ fn real_days_and_texts_are_taken(rt: HostRuntime) -> Result<(), Fail> {
         (b"2024-02-29", b"", Some(b"")),
         (b"0001-01-01", b"x", Some(b"x")),
         (b"9999-12-31", b"&lt;&gt;&apos;&quot;", Some(b"&lt;&gt;'\"")),
+        (b"2023-12-31", b"a]b", Some(b"a]b")),
+        (b"2023-12-31", b"a>b", Some(b"a&gt;b")),
+        (b"2023-12-31", b"a\tb", Some(b"a\tb")),
+        (b"2023-12-31", b"\xC3\xA9", Some(b"\xC3\xA9")),
         (b"2023-04-31", b"x", None),
         (b"2023-02-29", b"x", None),
         (b"0000-12-31", b"x", None),
         (b"2023-1-31", b"x", None),
         (b"2023-12-31T00:00:00", b"x", None),
-        (b"2023-12-31", b"a]b", None),
-        (b"2023-12-31", b"a>b", None),
-        (b"2023-12-31", b"a\tb", None),
-        (b"2023-12-31", b"a\x7fb", None),
-        (b"2023-12-31", b"&nbsp;", None),
-        (b"2023-12-31", b"a & b", None),
+        (b"2023-12-31", b"<b/>", None),
+        (b"", b"x", None),
     ];
     for (day, value, text) in rows {
         let end = run_over(alloc, &PLAIN, page(alloc, day, value)?, 65_536, NONE)?;
@@ -208,7 +228,7 @@ fn real_days_and_texts_are_taken(rt: HostRuntime) -> Result<(), Fail> {
             }
             None => {
                 assert!(rt; end.status == Status::Broken, "{day:?} {value:?}");
-                assert!(rt; end.out.object.taken() == NOT_FIRST, "{day:?} {value:?}");
+                assert!(rt; end.out.object.taken() == NOT_BUILT, "{day:?} {value:?}");
                 assert!(rt;
                     end.sink.calls == 0 && end.out.calls == 1,
                     "{day:?} {value:?}"
@@ -216,28 +236,6 @@ fn real_days_and_texts_are_taken(rt: HostRuntime) -> Result<(), Fail> {
             }
         }
     }
-    Ok(())
-}
-
-#[test]
-fn a_page_of_no_bytes_is_broken(rt: HostRuntime) -> Result<(), Fail> {
-    let alloc = rt.alloc();
-    let end = run_over(alloc, &PLAIN, Vec::new(alloc), 65_536, NONE)?;
-    assert!(rt; end.status == Status::Broken && end.status.code() == 1);
-    assert!(rt; end.out.object.taken() == NOT_FIRST);
-    assert!(rt; end.sink.calls == 0);
-    Ok(())
-}
-
-/// A page that is one byte longer than the limit is broken, and no more than one further buffer of it is read.
-#[test]
-fn reading_stops_behind_the_limit(rt: HostRuntime) -> Result<(), Fail> {
-    let alloc = rt.alloc();
-    let long = vec![in alloc; b'x'; 4_194_304]?;
-    let end = run_over(alloc, &PLAIN, long, 65_536, NONE)?;
-    assert!(rt; end.status == Status::Broken);
-    // One start, sixteen reads up to the limit, and one behind it.
-    assert!(rt; end.pages.calls == 18);
     Ok(())
 }
 

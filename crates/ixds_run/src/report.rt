@@ -1,0 +1,59 @@
+//! The text of a report.
+ghost use Rattle.std.specs.Prelude.{◌≡◌, ◌∷◌, ◌++◌, [], ◌<◌, length, IfOk, OnOk};
+ghost use Rattle.std.specs.List.{flat_map};
+ghost use Rattle.ix_base.specs.Breaches.{class_of, named};
+ghost use Rattle.ixds_run.specs.Outcomes.{breach_line, place_text, report_text};
+
+use ix_base::{Breach, Breaches, Class, Found, NoMemory, Report, Text};
+use std::alloc::Global;
+
+/// Adds the place of a breach.
+fn push_place(alloc: Global, text: &mut Vec<u8>, breach: &Breach) -> Result<(), NoMemory>
+    ensures { OnOk result (text.new.items ≡ text.old.items ++ place_text (class_of breach.now.rule) breach.now) }
+{
+    match breach.rule.class() {
+        Class::S => text.extend_from_slice(b"(set)")?,
+        _ => {
+            let offset = breach.offset.to_string(alloc)?;
+            text.extend_from_slice(breach.page.as_str().as_bytes())?;
+            text.push(b':')?;
+            text.extend_from_slice(offset.as_bytes())?;
+        }
+    }
+    Ok(())
+}
+
+/// Adds the line of a breach.
+fn push_line(alloc: Global, text: &mut Vec<u8>, breach: &Breach) -> Result<(), NoMemory>
+    ensures { OnOk result (text.new.items ≡ text.old.items ++ breach_line breach.now) }
+{
+    push_place(alloc, text, breach)?;
+    text.extend_from_slice(b": ")?;
+    text.extend_from_slice(breach.rule.code().as_bytes())?;
+    text.push(b' ')?;
+    text.extend_from_slice(breach.rule.text().as_bytes())?;
+    text.push(b'\n')?;
+    Ok(())
+}
+
+/// The lines of a report, each with its line feed.
+fn lines_of(alloc: Global, report: &Report) -> Result<Vec<u8>, NoMemory>
+    ensures { IfOk result (λ v. v.items ≡ flat_map breach_line report.now.lines) }
+{
+    let mut text = Vec::new(alloc);
+    for breach in report.lines.as_slice() {
+        push_line(alloc, &mut text, breach)?;
+    }
+    Ok(text)
+}
+
+/// The text of the report of one breach, on a page whose name stands at its number.
+pub fn report_on(alloc: Global, names: &[Text], found: Found) -> Result<Vec<u8>, NoMemory>
+    requires { found.place.page < length names.now }
+    ensures { IfOk result (λ v. v.items ≡ report_text (named names.now found ∷ [])) }
+{
+    let mut breaches = Breaches::new(alloc);
+    breaches.add(found.place, found.rule)?;
+    let report = breaches.report(names)?;
+    lines_of(alloc, &report)
+}

@@ -1,0 +1,87 @@
+//! Pages of many bytes, which are made as they are read.
+ghost use Rattle.std.specs.Prelude.{◌≡◌, ◌≤◌, None, length};
+
+use super::{PLAIN, texts_of};
+use crate::{Status, run};
+use ix_base::{Failed, MemTargets, MemText, PageSource};
+use std::alloc::Global;
+use std::test::Fail;
+
+/// A page that begins with four bytes, of which so many bytes of one value are left. It tells none of them.
+#[derive(Drop)]
+struct Made {
+    front: [u8; 4],
+    byte: u8,
+    left: usize,
+    is_started: bool,
+    is_begun: bool,
+}
+
+impl PageSource for Made {
+    ghost faults = { λ m. 0 };
+
+    ghost page = { λ m name. None };
+
+    ghost left = { λ m. None };
+
+    ghost started = { λ m. m.is_started };
+
+    ghost asked = { λ m. None };
+
+    fn start(&mut self, _name: &str) -> Result<(), Failed> {
+        self.is_started = true;
+        Ok(())
+    }
+
+    fn read(&mut self, buf: &mut [u8]) -> Result<usize, Failed> {
+        if !self.is_begun && buf.len() >= 4 {
+            buf[..4].copy_from_slice(&self.front);
+            self.is_begun = true;
+            return Ok(4);
+        }
+        let n = buf.len().min(self.left);
+        buf[..n].fill(self.byte);
+        self.left -= n;
+        Ok(n)
+    }
+}
+
+/// What `out` takes where the page is made so: four bytes, and so many more of one value.
+fn report_on(
+    alloc: Global,
+    front: [u8; 4],
+    byte: u8,
+    more: usize,
+) -> Result<(Status, MemText), Fail> {
+    let mut pages = Made {
+        front,
+        byte,
+        left: more,
+        is_started: false,
+        is_begun: false,
+    };
+    let mut sink = MemTargets::new(alloc, 4, 4000, Vec::new(alloc))?;
+    let mut out = MemText::new(alloc, 1000, Vec::new(alloc))?;
+    let words = texts_of(alloc, &PLAIN)?;
+    let status = run(alloc, words.as_slice(), &mut pages, &mut sink, &mut out);
+    Ok((status, out))
+}
+
+/// A page with a byte too many, or a `<` too many, breaks a size rule, whatever else it breaks; one with as many as it may
+/// have doesn't.
+#[test]
+fn the_size_of_a_page_is_limited(rt: HostRuntime) -> Result<(), Fail> {
+    let alloc = rt.alloc();
+    let rows: [([u8; 4], u8, usize, &[u8]); 4] = [
+        (*b"</a>", b' ', 268_435_453, b"(set): S1 pages together are too long\n"),
+        (*b"</a>", b' ', 268_435_452, b"a.html:0: W5 end tag doesn't match\n"),
+        (*b"</a>", b'<', 8_388_608, b"(set): S2 pages together hold too many tags\n"),
+        (*b"</a>", b'<', 8_388_607, b"a.html:0: W5 end tag doesn't match\n"),
+    ];
+    for (front, byte, more, report) in rows {
+        let (status, out) = report_on(alloc, front, byte, more)?;
+        assert!(rt; status == Status::Broken, "{byte} {more}");
+        assert!(rt; out.taken() == report, "{byte} {more}");
+    }
+    Ok(())
+}
