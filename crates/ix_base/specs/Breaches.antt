@@ -50,7 +50,6 @@ class_of rule.N19 = class.N
 class_of rule.N20 = class.N
 class_of rule.N21 = class.N
 class_of rule.N22 = class.N
-class_of rule.U1 = class.U
 class_of rule.U2 = class.U
 class_of rule.L1 = class.L
 class_of rule.L2 = class.L

@@ -63,7 +63,7 @@ impl Rule {
             | Rule::N20
             | Rule::N21
             | Rule::N22 => Class::N,
-            Rule::U1 | Rule::U2 => Class::U,
+            Rule::U2 => Class::U,
             Rule::L1
             | Rule::L2
             | Rule::L3

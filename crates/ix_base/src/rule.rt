@@ -41,7 +41,6 @@ pub enum Rule {
     N20,
     N21,
     N22,
-    U1,
     U2,
     L1,
     L2,
@@ -109,7 +108,6 @@ impl Rule {
             Rule::N20 => "N20",
             Rule::N21 => "N21",
             Rule::N22 => "N22",
-            Rule::U1 => "U1",
             Rule::U2 => "U2",
             Rule::L1 => "L1",
             Rule::L2 => "L2",
@@ -177,7 +175,6 @@ impl Rule {
             Rule::N20 => "bad context",
             Rule::N21 => "bad unit",
             Rule::N22 => "exclude outside text",
-            Rule::U1 => "page isn't in the first form",
             Rule::U2 => "not built yet",
             Rule::L1 => "id used more than once",
             Rule::L2 => "no such context",
@@ -212,7 +209,6 @@ impl Rule {
         ensures w12 { (code_of Rule.W12 ≡ codes "W12") × (text_of Rule.W12 ≡ codes "wrong place in the document") }
         ensures n1 { (code_of Rule.N1 ≡ codes "N1") × (text_of Rule.N1 ≡ codes "unknown ix element") }
         ensures n22 { (code_of Rule.N22 ≡ codes "N22") × (text_of Rule.N22 ≡ codes "exclude outside text") }
-        ensures u1 { (code_of Rule.U1 ≡ codes "U1") × (text_of Rule.U1 ≡ codes "page isn't in the first form") }
         ensures u2 { (code_of Rule.U2 ≡ codes "U2") × (text_of Rule.U2 ≡ codes "not built yet") }
         ensures l1 { (code_of Rule.L1 ≡ codes "L1") × (text_of Rule.L1 ≡ codes "id used more than once") }
         ensures l17 { (code_of Rule.L17 ≡ codes "L17") × (text_of Rule.L17 ≡ codes "role with two addresses") }

@@ -93,7 +93,7 @@ fn rules_stand_in_the_order_of_their_classes(rt: HostRuntime) {
         (Rule::W5, "W5", "end tag doesn't match"),
         (Rule::W12, "W12", "wrong place in the document"),
         (Rule::N16, "N16", "nested nonFractions differ"),
-        (Rule::U1, "U1", "page isn't in the first form"),
+        (Rule::U2, "U2", "not built yet"),
         (
             Rule::L6,
             "L6",

@@ -70,7 +70,7 @@ fn only_the_first_class_is_reported(rt: HostRuntime) -> Result<(), Fail> {
     let rows = [
         (Rule::V5, Class::V, "b", 2),
         (Rule::L17, Class::L, "b", 2),
-        (Rule::U1, Class::U, "b", 2),
+        (Rule::U2, Class::U, "b", 2),
         (Rule::N1, Class::N, "b", 2),
         (Rule::W12, Class::W, "b", 2),
         (Rule::S2, Class::S, "", 0),
