@@ -1,6 +1,8 @@
 -- The words of the command line.
-use Rattle.std.specs.Prelude.{◌≡◌, ℕ, ◌≤◌, Bool, ◌&&◌, ◌||◌, ◌==◌, not, nat_le, nat_lt, nat_eq, List, [], ◌∷◌, length, Option, Some, None, if◌then◌else◌, bytes_eq, codes}
-use Rattle.std.specs.List.{list_all, starts_with}
+use Rattle.std.specs.Prelude.{◌≡◌, ℕ, ◌≤◌, Bool, false, ◌&&◌, ◌||◌, ◌==◌, not, nat_le, nat_lt, List, [], ◌∷◌, length, Option, Some, None, if◌then◌else◌, bytes_eq, codes}
+use Rattle.std.specs.List.{list_all}
+use Rattle.url.specs.Parts.{Parts}
+use Rattle.ix_base.specs.Address.{url_of}
 use Rattle.ixds_run.specs.declared.command.Command.{Command}
 use Rattle.ixds_run.specs.declared.command.Command.TheVariants.{Extract}
 
@@ -11,13 +13,26 @@ may_stand_in_name b = nat_le 32 b && not (b == 127)
 abbrev pub is_page_name : List ℕ → Bool
 is_page_name n = nat_lt 0 (length n) && nat_le (length n) 4096 && list_all may_stand_in_name n
 
-unfoldable pub is_web_address : List ℕ → Bool
-is_web_address url = starts_with nat_eq url (codes "http://") || starts_with nat_eq url (codes "https://")
+-- the scheme of a page of the web, as the URL Standard's parser gives it, in lower case
+unfoldable pub is_web_scheme : List ℕ → Bool
+is_web_scheme scheme = bytes_eq scheme (codes "http") || bytes_eq scheme (codes "https")
+
+abbrev pub is_web_url : Option Parts → Bool
+is_web_url None = false
+is_web_url (Some url) = is_web_scheme url.scheme
+
+-- the longest base, in bytes of its word
+abbrev pub longest_base : ℕ
+longest_base = 65536
+
+-- a word that the URL Standard's parser takes by itself, as a URL of the web
+abbrev pub is_base : List ℕ → Bool
+is_base word = nat_le (length word) longest_base && is_web_url (url_of word)
 
 -- `extract --base URL --out DIR PAGE`
 unfoldable pub is_extract : List ℕ → List ℕ → List ℕ → List ℕ → List ℕ → List ℕ → Bool
 is_extract word base url out dir page =
-    bytes_eq word (codes "extract") && bytes_eq base (codes "--base") && is_web_address url
+    bytes_eq word (codes "extract") && bytes_eq base (codes "--base") && is_base url
     && bytes_eq out (codes "--out") && nat_lt 0 (length dir) && is_page_name page
 
 -- the command that the words give, where they give one

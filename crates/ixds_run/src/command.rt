@@ -5,8 +5,13 @@ ghost use Rattle.ixds_run.specs.Commands.{may_stand_in_name, HasOnePage, dir_of,
 ghost use Rattle.ixds_run.specs.Commands as spec;
 ghost use Rattle.ixds_run.specs.declared.command.Command.TheVariants.{Extract};
 
+use base::is_base;
 use ix_base::{List, NoMemory, Text};
 use std::alloc::Global;
+
+mod base;
+#[cfg(test)]
+mod tests;
 
 /// What the words of a command line ask for.
 #[derive(Debug, Drop)]
@@ -49,14 +54,6 @@ fn is_page_name(name: &str) -> bool
     !name.is_empty() && name.len() <= 4096 && all_may_stand(name.as_bytes())
 }
 
-#[tactic(auto, unfolding(crate::specs::Commands::is_web_address))]
-fn is_web_address(url: &str) -> bool
-    ensures { result ≡ spec.is_web_address url.now }
-{
-    let url = url.as_bytes();
-    url.starts_with(b"http://") || url.starts_with(b"https://")
-}
-
 /// The command that the words of the command line give, without the program's name, or none where they give none.
 pub fn command_of(alloc: Global, words: &[Text]) -> Result<Option<Command>, NoMemory>
     ensures value { IfOk result (λ c. c ≡ spec.command_of words.now) }
@@ -66,13 +63,14 @@ pub fn command_of(alloc: Global, words: &[Text]) -> Result<Option<Command>, NoMe
         return Ok(None);
     };
     if is_extract(
+        alloc,
         word.as_str(),
         base.as_str(),
         url.as_str(),
         out.as_str(),
         dir.as_str(),
         page.as_str(),
-    ) {
+    )? {
         let command = extract_of(alloc, url.as_str(), dir.as_str(), page.as_str())?;
         Ok(Some(command))
     } else {
@@ -80,17 +78,30 @@ pub fn command_of(alloc: Global, words: &[Text]) -> Result<Option<Command>, NoMe
     }
 }
 
+/// Whether the words ask to extract. The base is judged last, as it alone takes memory.
 #[tactic(auto, unfolding(crate::specs::Commands::is_extract))]
-fn is_extract(word: &str, base: &str, url: &str, out: &str, dir: &str, page: &str) -> bool
-    ensures value { result ≡ spec.is_extract word.now base.now url.now out.now dir.now page.now }
-    ensures short { IsTrue result → length page.now ≤ 4096 }
+fn is_extract(
+    alloc: Global,
+    word: &str,
+    base: &str,
+    url: &str,
+    out: &str,
+    dir: &str,
+    page: &str,
+) -> Result<bool, NoMemory>
+    ensures value { IfOk result (λ b. b ≡ spec.is_extract word.now base.now url.now out.now dir.now page.now) }
+    ensures short { IfOk result (λ b. IsTrue b → length page.now ≤ 4096) }
 {
-    word == "extract"
+    if word == "extract"
         && base == "--base"
-        && is_web_address(url)
         && out == "--out"
         && !dir.is_empty()
         && is_page_name(page)
+    {
+        is_base(alloc, url)
+    } else {
+        Ok(false)
+    }
 }
 
 fn extract_of(alloc: Global, url: &str, dir: &str, page: &str) -> Result<Command, NoMemory>

@@ -242,20 +242,12 @@ fn real_days_and_texts_are_taken(rt: HostRuntime) -> Result<(), Fail> {
 #[test]
 fn other_words_are_usage(rt: HostRuntime) -> Result<(), Fail> {
     let alloc = rt.alloc();
-    let rows: [&[&str]; 11] = [
+    let rows: [&[&str]; 10] = [
         &[],
         &["toast"],
         &["extract"],
         &["extract", "--base", "http://example.com/r/", "--out", "d"],
         &["extract", "--base", "mailto:x", "--out", "d", "a.html"],
-        &[
-            "extract",
-            "--base",
-            "HTTP://example.com/",
-            "--out",
-            "d",
-            "a.html",
-        ],
         &[
             "extract",
             "--base",
