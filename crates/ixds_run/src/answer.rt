@@ -75,12 +75,7 @@ fn names_of(command: &Command) -> &[Text]
 }
 
 /// Puts the report of a rule that the page breaks.
-fn answer_broken<T: TextSink>(
-    alloc: Global,
-    command: &Command,
-    found: Found,
-    out: &mut T,
-) -> Status
+fn answer_broken<T: TextSink>(alloc: Global, command: &Command, found: Found, out: &mut T) -> Status
     requires page { HasOnePage command.now }
     requires place { found.place.page ≡ 0 }
     requires out { T.faults out.old + 1 < 2 ^ 64 }

@@ -11,11 +11,11 @@ ghost use Rattle.ixds_run.specs.ShapeRows.{row, row_content};
 ghost use Rattle.ixds_run.specs.ShapeView.{setting_seen, said_seen, passage_seen, parts_seen};
 
 use crate::dates::end_of;
-use crate::parts::{is_address_under, is_identifier, is_name, one};
 use crate::nodes::{
     binds, first_element, inside, is_end, is_of, one_value, only_element, only_text, past_text,
     text_if, two_elements, two_values,
 };
+use crate::parts::{is_address_under, is_identifier, is_name, one};
 use ix_base::{
     Content, Context, Element, Fact, Item, List, NoMemory, OwnName, Period, Text, Value,
 };

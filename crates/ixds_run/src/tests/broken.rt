@@ -9,20 +9,32 @@ const ROWS: [(&[u8], &[u8]); 18] = [
     (b"\xEF\xBB\xBF<a>\xFF", b"a.html:6: W1 not UTF-8\n"),
     (b"<a>\x01", b"a.html:3: W2 character not allowed\n"),
     (b"<p>a<b", b"a.html:4: W3 construct is cut off\n"),
-    (b"<a><!-- x -- y --></a>", b"a.html:3: W4 malformed construct\n"),
+    (
+        b"<a><!-- x -- y --></a>",
+        b"a.html:3: W4 malformed construct\n",
+    ),
     (b"<a>]]></a>", b"a.html:3: W4 malformed construct\n"),
     (b"<a><b></a>", b"a.html:6: W5 end tag doesn't match\n"),
     (b"<p>a", b"a.html:4: W6 page ends with open elements\n"),
     (b"<a b=\"1\" b='2'/>", b"a.html:0: W7 attribute twice\n"),
     (b"<a>&nbsp;</a>", b"a.html:3: W8 bad reference\n"),
     (b"<x:a/>", b"a.html:0: W9 bad namespace\n"),
-    (b"<?xml version=\"1.1\"?><a/>", b"a.html:0: W11 outside the profile\n"),
-    (b"<!DOCTYPE a [ ]><a/>", b"a.html:0: W11 outside the profile\n"),
+    (
+        b"<?xml version=\"1.1\"?><a/>",
+        b"a.html:0: W11 outside the profile\n",
+    ),
+    (
+        b"<!DOCTYPE a [ ]><a/>",
+        b"a.html:0: W11 outside the profile\n",
+    ),
     (b"<a/><b/>", b"a.html:4: W12 wrong place in the document\n"),
     (b"<!DOCTYPE html><a/>", b"a.html:15: U2 not built yet\n"),
     (b"<a/><b", b"a.html:4: W3 construct is cut off\n"),
     (b"</a>\x01", b"a.html:0: W5 end tag doesn't match\n"),
-    (b"<!-- \xF0\x9F\x8D\x8E --><a/>", b"a.html:12: U2 not built yet\n"),
+    (
+        b"<!-- \xF0\x9F\x8D\x8E --><a/>",
+        b"a.html:13: U2 not built yet\n",
+    ),
 ];
 
 /// Each page gives its report, and no target is begun, whatever the pieces in which it is read.

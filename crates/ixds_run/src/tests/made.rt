@@ -73,10 +73,30 @@ fn report_on(
 fn the_size_of_a_page_is_limited(rt: HostRuntime) -> Result<(), Fail> {
     let alloc = rt.alloc();
     let rows: [([u8; 4], u8, usize, &[u8]); 4] = [
-        (*b"</a>", b' ', 268_435_453, b"(set): S1 pages together are too long\n"),
-        (*b"</a>", b' ', 268_435_452, b"a.html:0: W5 end tag doesn't match\n"),
-        (*b"</a>", b'<', 8_388_608, b"(set): S2 pages together hold too many tags\n"),
-        (*b"</a>", b'<', 8_388_607, b"a.html:0: W5 end tag doesn't match\n"),
+        (
+            *b"</a>",
+            b' ',
+            268_435_453,
+            b"(set): S1 pages together are too long\n",
+        ),
+        (
+            *b"</a>",
+            b' ',
+            268_435_452,
+            b"a.html:0: W5 end tag doesn't match\n",
+        ),
+        (
+            *b"<<<<",
+            b'<',
+            8_388_605,
+            b"(set): S2 pages together hold too many tags\n",
+        ),
+        (
+            *b"<<<<",
+            b'<',
+            8_388_604,
+            b"a.html:0: W3 construct is cut off\n",
+        ),
     ];
     for (front, byte, more, report) in rows {
         let (status, out) = report_on(alloc, front, byte, more)?;
