@@ -10,6 +10,7 @@ use std::test::Fail;
 mod broken;
 mod counted;
 mod made;
+mod memory;
 
 const SUMMARY: &[u8] = b"(default): 1 facts, 0 tuples, 1 contexts, 0 units, 0 footnotes\n";
 
