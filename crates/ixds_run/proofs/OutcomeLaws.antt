@@ -1,14 +1,13 @@
 -- A page has one outcome.
-use Rattle.std.proofs.Common.{◌≡◌, ◌∙◌, ap, sym, subst, ℕ, List, Some, None, inl, inr}
+use Rattle.std.proofs.Common.{◌≡◌, ◌∙◌, ap, sym, subst, ℕ, List, Some, inl, inr}
 use Rattle.ix_base.specs.Trees.{Tree}
 use Rattle.ix_base.specs.declared.breach.Found.{Found}
 use Rattle.ix_base.specs.declared.content.Content.{Content}
 use Rattle.ix_base.specs.declared.rule.Rule.TheVariants.{U2}
 use Rattle.page_tree.specs.Break.{Fault, w}
 use Rattle.page_tree.specs.Page.{page}
-use Rattle.ixds_run.specs.Commands.{page_of}
-use Rattle.ixds_run.specs.FirstShape.{FirstShape, NotShape}
-use Rattle.ixds_run.specs.Outcomes.{Outcome, IsOutcome, Breaks, Says, broken_by, done_with, on_first, set_breach}
+use Rattle.ixds_run.specs.FirstShape.{FirstShape}
+use Rattle.ixds_run.specs.Outcomes.{Outcome, IsOutcome, Breaks, Says, broken_by, done_with, on_first}
 use Rattle.ixds_run.specs.declared.command.Command.{Command}
 
 module _

@@ -1,5 +1,5 @@
 -- The report of one breach.
-use Rattle.std.proofs.Common.{◌≡◌, ◌∙◌, ap, refl, List, [], ◌∷◌, filter, map, append-nil, ℕ}
+use Rattle.std.proofs.Common.{◌≡◌, ◌∙◌, ap, refl, [], ◌∷◌, filter, map, append-nil}
 use Rattle.std.specs.List.{flat_map}
 use Rattle.ix_base.specs.Breaches.{all_classes, breach_cmp, class_of, first_any, first_class, report_of}
 use Rattle.ix_base.specs.Once.{in_order}

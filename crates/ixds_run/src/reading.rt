@@ -1,5 +1,6 @@
 //! Reading a page into a builder of its tree.
-ghost use Rattle.std.specs.Prelude.{◌≡◌, ◌+◌, ◌^◌, ◌<◌, ◌≤◌, [], ℕ, List, length, vec_len, true, false, IsTrue, IsErrOf, IfOk, IfSome, OnOk};
+ghost use Rattle.std.specs.Prelude.{◌≡◌, ◌+◌, ◌^◌, ◌<◌, ◌≤◌, [], ℕ, List, length, vec_len, true, false};
+ghost use Rattle.std.specs.Prelude.{IsTrue, IsErrOf, IfOk, IfSome, OnOk};
 ghost use Rattle.page_tree.specs.Standing.{StandsFor, fed_bytes, limit};
 ghost use Rattle.ixds_run.specs.Outcomes.{StopsInTime, tags_in};
 ghost use Rattle.ixds_run.specs.Reading.{HasRead, IsRead};
