@@ -1,6 +1,7 @@
 //! Pages of many bytes, which are made as they are read.
 ghost use Rattle.std.specs.Prelude.{◌≡◌, ◌≤◌, None, length};
 
+use super::counted::watched;
 use super::{PLAIN, texts_of};
 use crate::{Status, run};
 use ix_base::{Failed, MemTargets, MemText, PageSource};
@@ -46,62 +47,53 @@ impl PageSource for Made {
     }
 }
 
-/// What `out` takes where the page is made so: four bytes, and so many more of one value.
-fn report_on(
+/// How a run ends whose page is made so, of four bytes and of so many more of one value, what `out` takes, and how often
+/// the page was called.
+fn run_made(
     alloc: Global,
     front: [u8; 4],
     byte: u8,
     more: usize,
-) -> Result<(Status, MemText), Fail> {
-    let mut pages = Made {
+) -> Result<(Status, MemText, u64), Fail> {
+    let mut pages = watched(Made {
         front,
         byte,
         left: more,
         is_started: false,
         is_begun: false,
-    };
+    });
     let mut sink = MemTargets::new(alloc, 4, 4000, Vec::new(alloc))?;
     let mut out = MemText::new(alloc, 1000, Vec::new(alloc))?;
     let words = texts_of(alloc, &PLAIN)?;
     let status = run(alloc, words.as_slice(), &mut pages, &mut sink, &mut out);
-    Ok((status, out))
+    Ok((status, out, pages.calls))
 }
 
+const S1: &[u8] = b"(set): S1 pages together are too long\n";
+
+const S2: &[u8] = b"(set): S2 pages together hold too many tags\n";
+
+const W3: &[u8] = b"a.html:0: W3 construct is cut off\n";
+
+const W5: &[u8] = b"a.html:0: W5 end tag doesn't match\n";
+
 /// A page with a byte too many, or a `<` too many, breaks a size rule, whatever else it breaks; one with as many as it may
-/// have doesn't.
+/// have doesn't. Reading goes on behind a break of the page, and stops behind the limit.
 #[test]
 fn the_size_of_a_page_is_limited(rt: HostRuntime) -> Result<(), Fail> {
     let alloc = rt.alloc();
-    let rows: [([u8; 4], u8, usize, &[u8]); 4] = [
-        (
-            *b"</a>",
-            b' ',
-            268_435_453,
-            b"(set): S1 pages together are too long\n",
-        ),
-        (
-            *b"</a>",
-            b' ',
-            268_435_452,
-            b"a.html:0: W5 end tag doesn't match\n",
-        ),
-        (
-            *b"<<<<",
-            b'<',
-            8_388_605,
-            b"(set): S2 pages together hold too many tags\n",
-        ),
-        (
-            *b"<<<<",
-            b'<',
-            8_388_604,
-            b"a.html:0: W3 construct is cut off\n",
-        ),
+    let rows: [([u8; 4], u8, usize, &[u8], u64); 5] = [
+        (*b"</a>", b' ', 268_435_452, W5, 4099),
+        (*b"</a>", b' ', 268_435_453, S1, 4098),
+        (*b"</a>", b' ', 999_999_999, S1, 4098),
+        (*b"<<<<", b'<', 8_388_604, W3, 131),
+        (*b"<<<<", b'<', 8_388_605, S2, 131),
     ];
-    for (front, byte, more, report) in rows {
-        let (status, out) = report_on(alloc, front, byte, more)?;
+    for (front, byte, more, report, due) in rows {
+        let (status, out, calls) = run_made(alloc, front, byte, more)?;
         assert!(rt; status == Status::Broken, "{byte} {more}");
         assert!(rt; out.taken() == report, "{byte} {more}");
+        assert!(rt; calls == due, "{byte} {more} {calls}");
     }
     Ok(())
 }
