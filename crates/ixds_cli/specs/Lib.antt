@@ -1,2 +1,4 @@
+pub mod Ending
 pub mod TargetPath
+pub mod Words
 pub mod Written

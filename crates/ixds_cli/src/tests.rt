@@ -1,9 +1,16 @@
-//! The program's own objects over real files, each test in a folder of its own.
+//! The program's own objects over real files, each test in a folder of its own; and words, over objects in memory.
 use crate::pages::FilePages;
+use crate::run_words;
 use crate::targets::FileTargets;
 use crate::text::StdoutText;
-use ix_base::{PageSource, TargetSink, TextSink};
+use crate::words::words_of;
+use ix_base::{
+    List, MemPage, MemPages, MemTargets, MemText, PageSource, TargetSink, Text, TextSink,
+};
+use std::alloc::Global;
+use std::env::Args;
 use std::io::Write;
+use std::process::ExitCode;
 use std::test::Fail;
 use std::{fs, io};
 
@@ -87,5 +94,88 @@ fn a_text_is_put_whole_or_fails(rt: HostRuntime) -> Result<(), Fail> {
     }
     let mut out = StdoutText::new(io::writer(&rt));
     out.put(b"printed by the test of the text\n")?;
+    Ok(())
+}
+
+/// Words as the system hands them over.
+fn handed(alloc: Global, words: &[&str]) -> Result<Args, Fail> {
+    let mut all = Vec::new(alloc);
+    for word in words {
+        all.push(String::from_str(alloc, word)?)?;
+    }
+    Ok(all.into_iter())
+}
+
+#[test]
+fn the_first_word_is_left_out(rt: HostRuntime) -> Result<(), Fail> {
+    let alloc = rt.alloc();
+    let rows: [(&[&str], &[&str]); 4] = [
+        (&[], &[]),
+        (&["ixds"], &[]),
+        (&["ixds", "a"], &["a"]),
+        (&["ixds", "ixds", "", "b c"], &["ixds", "", "b c"]),
+    ];
+    for (all, expected) in rows {
+        let words = words_of(alloc, Ok(handed(alloc, all)?))?;
+        assert!(rt; words.len() == expected.len(), "{all:?}");
+        for (word, text) in words.iter().zip(expected) {
+            assert!(rt; word.as_str() == *text, "{all:?}");
+        }
+    }
+    Ok(())
+}
+
+/// The end of a run of words over a page without bytes, `a.html`.
+fn end_of(alloc: Global, words: io::Result<Args>) -> Result<ExitCode, Fail> {
+    let mut held = Vec::new(alloc);
+    held.push(MemPage {
+        name: Text::of(alloc, "a.html")?,
+        bytes: List::new(alloc),
+    })?;
+    let mut pages = MemPages::new(held, 10, Vec::new(alloc));
+    let mut sink = MemTargets::new(alloc, 4, 4000, Vec::new(alloc))?;
+    let mut out = MemText::new(alloc, 1000, Vec::new(alloc))?;
+    Ok(run_words(alloc, words, &mut pages, &mut sink, &mut out))
+}
+
+const BROKEN: [&str; 7] = [
+    "ixds",
+    "extract",
+    "--base",
+    "http://example.com/",
+    "--out",
+    "d",
+    "a.html",
+];
+
+const MISSING: [&str; 7] = [
+    "ixds",
+    "extract",
+    "--base",
+    "http://example.com/",
+    "--out",
+    "d",
+    "b.html",
+];
+
+#[test]
+fn the_program_ends_with_the_code_of_its_status(rt: HostRuntime) -> Result<(), Fail> {
+    let alloc = rt.alloc();
+    let rows: [(&[&str], u8); 5] = [
+        (&BROKEN, 1),
+        (&[], 2),
+        (&["ixds"], 2),
+        (&BROKEN[1..], 2),
+        (&MISSING, 3),
+    ];
+    for (words, code) in rows {
+        let end = end_of(alloc, Ok(handed(alloc, words)?))?;
+        assert!(rt; end == ExitCode::from(code), "{words:?}");
+    }
+    // Words that aren't text give no command; else, where there are none, memory is wanting.
+    let not_text = Err(io::Error::from(io::ErrorKind::InvalidData));
+    assert!(rt; end_of(alloc, not_text)? == ExitCode::from(2));
+    let no_memory = Err(io::Error::from(io::ErrorKind::OutOfMemory));
+    assert!(rt; end_of(alloc, no_memory)? == ExitCode::from(5));
     Ok(())
 }
