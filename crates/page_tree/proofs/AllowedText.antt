@@ -12,7 +12,7 @@ use Rattle.std.proofs.lemmas.Bool.{and_parts}
 use Rattle.ix_base.specs.NcName.{is_allowed, are_allowed, is_name_of, is_ncname}
 use Rattle.page_tree.proofs.SpanLaws.{and_both, take-front, drop-front}
 
-all-append : (f : ℕ → Bool) (a b : List ℕ) → list_all f a ≡ true → list_all f b ≡ true → list_all f (a ++ b) ≡ true
+pub all-append : (f : ℕ → Bool) (a b : List ℕ) → list_all f a ≡ true → list_all f b ≡ true → list_all f (a ++ b) ≡ true
 all-append f [] b p q = q
 all-append f (c ∷ a) b p q = let z = and_parts (f c) (list_all f a) p in and_both (f c) (list_all f (a ++ b)) z.0 (all-append f a b z.1 q)
 
@@ -39,7 +39,7 @@ allowed-append a b p q =
     let y = allowed-to b q in
     allowed-from (a ++ b) (IsUtf8-append a b x.0 y.0) (ap (list_all is_allowed) (chars-append a b x.0) ∙ all-append is_allowed (chars a) (chars b) x.1 y.1)
 
-at-seam : (a : List ℕ) (c : ℕ) (b : List ℕ) → get_or (a ++ c ∷ b) (length a) 0 ≡ c
+pub at-seam : (a : List ℕ) (c : ℕ) (b : List ℕ) → get_or (a ++ c ∷ b) (length a) 0 ≡ c
 at-seam [] c b = refl
 at-seam (x ∷ a) c b = at-seam a c b
 

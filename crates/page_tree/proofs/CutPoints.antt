@@ -1,22 +1,14 @@
 -- Where the code cuts a page's text.
-use Rattle.std.proofs.Common.{◌≡◌, ℕ, zero, suc, ◌+◌, ◌<◌, ◌≤◌, inl, inr, Bool, List, [], ◌∷◌, ◌++◌, length, take, drop, get_or, Some, refl, sym, ap, ◌∙◌, subst, arith, append_assoc, length-append, length-drop, take-append-drop}
-use Rattle.std.proofs.lemmas.List.{take-map}
+use Rattle.std.proofs.Common.{◌≡◌, ℕ, suc, ◌+◌, ◌<◌, ◌≤◌, inl, inr, Bool, List, [], ◌∷◌, ◌++◌, length, take, drop, get_or, Some, sym, ap, ◌∙◌, subst, arith, append_assoc, length-append, length-drop, take-append-drop}
+use Rattle.std.proofs.lemmas.List.{length-take-le, take-map}
 use Rattle.std.specs.Str.{IsUtf8, IsCharBoundary}
 use Rattle.std.proofs.lemmas.Str.{IsCharBoundary-end, IsCharBoundary-before_ascii, IsCharBoundary-after_ascii}
 use Rattle.page_tree.specs.Constructs.{values, kind_of, whole_size, construct, offset_of}
 use Rattle.page_tree.specs.Placing.{placed}
+use Rattle.page_tree.proofs.AllowedText.{at-seam}
 use Rattle.page_tree.proofs.PieceLaws.{whole-takes}
 use Rattle.page_tree.proofs.PlacingLaws.{values-placed}
 use Rattle.page_tree.proofs.SoundCuts.{PartsWell, whole-parts}
-
-at-seam : (a : List ℕ) (c : ℕ) (b : List ℕ) → get_or (a ++ c ∷ b) (length a) 0 ≡ c
-at-seam [] c b = refl
-at-seam (x ∷ a) c b = at-seam a c b
-
-length-take-le : (k : ℕ) (t : List ℕ) → k ≤ length t → length (take k t) ≡ k
-length-take-le zero t h = refl
-length-take-le (suc k) [] h = absurd (omega arith)
-length-take-le (suc k) (c ∷ t) h = ap suc (length-take-le k t (omega arith))
 
 -- a construct ends where a character does
 pub whole-boundary : (ended first : Bool) (t : List ℕ) (k : ℕ) → IsUtf8 t → whole_size ended first t ≡ Some k → IsCharBoundary t k

@@ -30,7 +30,6 @@ pub mod SpelledTags
 pub mod SpelledCuts
 pub mod SpelledRuns
 pub mod Parting
-pub mod NcNames
 pub mod ValueLaws
 pub mod TagReading
 pub mod Around

@@ -7,17 +7,12 @@ use Rattle.std.proofs.lemmas.Bool.{le-leb, and_parts}
 use Rattle.std.proofs.lemmas.Str.{IsUtf8-from_is_utf8, encodes-chars}
 use Rattle.ix_base.specs.NcName.{is_white, is_name_start, is_name_char, is_name_of, is_ncname}
 use Rattle.ix_base.specs.Scope.{is_colon, has_prefix, prefix_of, local_of, is_qname}
+use Rattle.page_tree.proofs.AllowedText.{all-append}
 use Rattle.page_tree.proofs.SpanLaws.{not_this, and_both, either, same_or}
 
 -- a byte of a name without a colon: of a character from U+0080 on, or a character of a name
 unfoldable pub is_name_byte : ℕ → Bool
 is_name_byte b = nat_le 128 b || is_name_char b
-
-all-append : (f : ℕ → Bool) (p q : List ℕ) → list_all f p ≡ true → list_all f q ≡ true → list_all f (p ++ q) ≡ true
-all-append f [] q a b = b
-all-append f (c ∷ p) q a b =
-    let h = and_parts (f c) (list_all f p) a in
-    and_both (f c) (list_all f (p ++ q)) h.0 (all-append f p q h.1 b)
 
 high : (b : ℕ) → 128 ≤ b → is_name_byte b ≡ true
 unfolding is_name_byte

@@ -136,7 +136,7 @@ abbrev pub BytesClimb : ℕ → List Byte → Type 0
 BytesClimb at [] = Unit {0}
 BytesClimb at (u ∷ us) = (at ≤ u.at) × BytesClimb (suc u.at) us
 
-lower-bytes : (low at : ℕ) (us : List Byte) → low ≤ at → BytesClimb at us → BytesClimb low us
+pub lower-bytes : (low at : ℕ) (us : List Byte) → low ≤ at → BytesClimb at us → BytesClimb low us
 lower-bytes low at [] l c = tt
 lower-bytes low at (u ∷ us) l c = ((let z = c.0 in omega arith), c.1)
 

@@ -1,18 +1,17 @@
 -- The offsets of a page's elements rise in document order.
-use Rattle.std.proofs.Common.{◌≡◌, inl, inr, ℕ, suc, zero, ◌<◌, ◌≤◌, Bool, true, false, ◌&&◌, if◌then◌else◌, List, [], ◌∷◌, ◌++◌, length, map, drop, Option, Some, None, refl, sym, ap, ◌∙◌, subst, arith, append-nil}
-use Rattle.std.proofs.lemmas.Bool.{and_parts}
+use Rattle.std.proofs.Common.{◌≡◌, inl, inr, ℕ, suc, zero, ◌<◌, ◌≤◌, Bool, true, false, List, [], ◌∷◌, ◌++◌, length, map, drop, Some, None, refl, sym, ap, ◌∙◌, subst, arith, append-nil}
 use Rattle.ix_base.specs.Trees.{Bound, Head, Nodes, none, chars, elem, Tree}
 use Rattle.ix_base.specs.Sound.{Rise, offsets_of}
 use Rattle.ix_base.specs.Scope.{outermost}
-use Rattle.page_tree.specs.Constructs.{Byte, Construct, values, size, kind_of, is_run, settled_or, whole_size, cut_at, cut_from, construct}
+use Rattle.page_tree.specs.Constructs.{Byte, Construct, values, whole_size, cut_at, cut_from, construct}
 use Rattle.page_tree.specs.Forms.{HasForm}
 use Rattle.page_tree.specs.Page.{AreRuns, AreBehind, AreBefore, HasTags, Spells, SpellsPage, AllMean}
 use Rattle.page_tree.specs.Tags.{opened}
 use Rattle.page_tree.specs.Tokens.{Tag, Token, start, empty, close, words, refer, section, declaration, doctype, silent}
 use Rattle.page_tree.specs.declared.kind.Kind.{Kind}
 use Rattle.page_tree.specs.declared.kind.Kind.TheVariants.{StartTag}
-use Rattle.page_tree.proofs.CutLaws.{size_by-takes}
-use Rattle.page_tree.proofs.PageMarks.{BytesClimb}
+use Rattle.page_tree.proofs.PageMarks.{BytesClimb, lower-bytes}
+use Rattle.page_tree.proofs.PieceLaws.{whole-takes}
 use Rattle.page_tree.proofs.TagLaws.{opened-fair}
 
 -- numbers from one on, each above the one before it
@@ -33,26 +32,10 @@ climb-rise at (n ∷ m ∷ ns) c = ((let z = c.1.0 in omega arith), climb-rise (
 abbrev pub starts_of : List Construct → List ℕ
 starts_of cs = map (λ c. c.start) cs
 
-whole-takes : (ended first : Bool) (cs : List ℕ) (k : ℕ) → whole_size ended first cs ≡ Some k → (0 < k) × (k ≤ length cs)
-whole-takes ended first cs k e = by_size (size first cs) refl e where
-  by_run : (b : Bool) → (ended && is_run cs) ≡ b → (if b then Some (length cs) else None) ≡ Some k → (0 < k) × (k ≤ length cs)
-  by_run true t q = let z : length cs ≡ k = cc in (some cs (and_parts ended (is_run cs) t).1 z, omega arith) where
-    some : (cs : List ℕ) → is_run cs ≡ true → length cs ≡ k → 0 < k
-    some [] h z = absurd (cc)
-    some (c ∷ cs) h z = omega arith
-  by_run false t q = absurd (cc)
-
-  by_size : (o : Option ℕ) → size first cs ≡ o → settled_or o (ended && is_run cs) (length cs) ≡ Some k → (0 < k) × (k ≤ length cs)
-  by_size (Some j) s q = let same : j ≡ k = cc in size_by-takes (kind_of first cs) cs k (s ∙ ap Some same)
-  by_size None s q = by_run (ended && is_run cs) refl q
-
 dropped-climbs : (at k : ℕ) (us : List Byte) → BytesClimb at us → BytesClimb at (drop k us)
 dropped-climbs at zero us c = c
 dropped-climbs at (suc k) [] c = tt
-dropped-climbs at (suc k) (u ∷ us) c = lower-bytes at (suc u.at) (drop k us) (let z = c.0 in omega arith) (dropped-climbs (suc u.at) k us c.1) where
-  lower-bytes : (low at : ℕ) (us : List Byte) → low ≤ at → BytesClimb at us → BytesClimb low us
-  lower-bytes low at [] l c = tt
-  lower-bytes low at (u ∷ us) l c = ((let z = c.0 in omega arith), c.1)
+dropped-climbs at (suc k) (u ∷ us) c = lower-bytes at (suc u.at) (drop k us) (let z = c.0 in omega arith) (dropped-climbs (suc u.at) k us c.1)
 
 pub cut-climbs : (n at : ℕ) (ended first : Bool) (us : List Byte) → BytesClimb at us → Climb at (starts_of (cut_from n ended first us).constructs)
 unfolding cut_from

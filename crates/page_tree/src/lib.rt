@@ -7,7 +7,6 @@ mod kind;
 pub mod laws;
 mod meaning;
 mod names;
-mod ncname;
 mod pending;
 mod reading;
 mod settle;

@@ -12,12 +12,12 @@ mod tag;
 mod value;
 
 use crate::kind::Kind;
-use crate::ncname::is_ncname;
 use crate::size::is_white;
 use crate::token::Token;
 use bumpalo::Bump;
 use declaration::declared;
 use ix_base::NoMemory;
+use scopes::is_ncname;
 use span::{Stop, split};
 use std::alloc::Global;
 use tag::{end_tag, start_tag};

@@ -8,11 +8,11 @@ ghost use Rattle.page_tree.specs.Views.{token_of};
 
 use crate::meaning::span::{Stop, behind_white, equalled, is_white_text, split};
 use crate::meaning::value::value_of;
-use crate::ncname::is_ncname;
 use crate::token::{Attribute, Tag, Token};
 use bumpalo::Bump;
 use bumpalo::collections::into_bump_slice;
 use ix_base::NoMemory;
+use scopes::is_ncname;
 use std::alloc::Global;
 
 /// A name without a colon, or two with one between.
