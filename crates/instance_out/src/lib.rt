@@ -81,6 +81,7 @@ pub fn write<S: TargetSink>(prepared: &Prepared, sink: &mut S) -> Result<(), Fai
     ensures err { OnErr result (GainsFront (concat prepared.now) (S.targets sink.old) (S.targets sink.new)) }
     ensures opened { IsTrue (S.is_open sink.new) }
     ensures asked { S.asked sink.new ≡ S.asked sink.old }
+    ensures asked_len { S.asked_len sink.new ≡ S.asked_len sink.old }
 {
     put_lines(prepared.lines.as_slice(), sink)
 }
@@ -94,6 +95,7 @@ fn put_lines<S: TargetSink>(lines: &[Text], sink: &mut S) -> Result<(), Failed>
     ensures err { OnErr result (GainsFront (concat lines.now) (S.targets sink.old) (S.targets sink.new)) }
     ensures opened { IsTrue (S.is_open sink.new) }
     ensures asked { S.asked sink.new ≡ S.asked sink.old }
+    ensures asked_len { S.asked_len sink.new ≡ S.asked_len sink.old }
 {
     for line in lines {
         sink.put(line.as_str().as_bytes())?;

@@ -5,7 +5,8 @@ use Rattle.std.proofs.lemmas.Str.{encode_ascii, inside_one}
 use Rattle.std.proofs.lemmas.Bool.{cases_lt}
 use Rattle.std.proofs.lemmas.Bool.Decides.{nat_tests}
 use Rattle.std.proofs.Math.Seq.{take-append_seam}
-use Rattle.ix_base.specs.Escapes.{te_ref, ae_ref, put, escaped, written_as, AppendsFront}
+use Rattle.ix_base.specs.Escapes.{te_ref, ae_ref, put, escaped, written_as}
+use Rattle.ix_base.specs.Fronts.{AppendsFront}
 
 -- a table of ASCII characters alone
 pub record IsLow (table : ℕ → Option (List ℕ)) : Type 0 where

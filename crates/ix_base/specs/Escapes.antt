@@ -1,6 +1,6 @@
 -- How characters of texts and of attribute values are written (XML 1.0, sections 2.4 and 3.3.3): each by its reference,
 -- where it has one in the table, and else as itself.
-use Rattle.std.specs.Prelude.{◌≡◌, ℕ, ◌==◌, List, [], ◌∷◌, ◌++◌, Option, Some, None, if◌then◌else◌, codes, take, encode_utf8}
+use Rattle.std.specs.Prelude.{ℕ, ◌==◌, List, [], ◌∷◌, ◌++◌, Option, Some, None, if◌then◌else◌, codes, encode_utf8}
 
 -- what stands behind `&` in the reference of a character of a text
 abbrev pub te_ref : ℕ → Option (List ℕ)
@@ -37,7 +37,3 @@ ae = escaped ae_ref
 abbrev pub written_as : ℕ → Option (List ℕ) → List ℕ
 written_as c None = encode_utf8 c
 written_as c (Some reference) = reference
-
--- a text gained a front of these bytes
-abbrev pub AppendsFront : List ℕ → List ℕ → List ℕ → Type 0
-AppendsFront bytes old new = (n : ℕ) × (new ≡ old ++ take n bytes)

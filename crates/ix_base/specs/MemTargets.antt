@@ -27,6 +27,10 @@ sink_is_open m = m.shelf.any && not m.shelf.last.finished
 abbrev pub sink_asked : MemTargets → Option (List ℕ × List ℕ)
 sink_asked m = if m.told then Some (take m.asked_dir m.asked.items, drop m.asked_dir m.asked.items) else None
 
+-- how many bytes the two words of the last begin have together
+abbrev pub sink_asked_len : MemTargets → ℕ
+sink_asked_len m = m.asked_len
+
 abbrev pub sink_room_left : MemTargets → ℕ
 sink_room_left m = m.room - length m.shelf.held.items
 

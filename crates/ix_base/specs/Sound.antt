@@ -2,9 +2,12 @@
 use Rattle.std.specs.Prelude.{◌≡◌, ◌≢◌, ◌⊎◌, ℕ, suc, ◌<◌, true, List, [], ◌∷◌, ◌++◌, map, All, Some, codes}
 use Rattle.std.specs.Ordering.{nat_cmp, is_lt}
 use Rattle.std.specs.Cmp.Lexicographic.{slice_cmp}
-use Rattle.ix_base.specs.Trees.{Named, Valued, Bound, Head, Nodes, none, chars, elem, Tree}
+use Rattle.ix_base.specs.declared.tree.Element.{Element}
+use Rattle.ix_base.specs.Elements.{pages_of}
+use Rattle.ix_base.specs.Trees.{Named, Valued, Bound, Head, Nodes, none, chars, elem, Tree, tree_of}
 use Rattle.ix_base.specs.NcName.{is_ncname, are_allowed}
-use Rattle.ix_base.specs.Scope.{xml_namespace, xmlns_namespace, namespace_of}
+use Rattle.ix_base.specs.Scope.{namespace_of}
+use Rattle.ix_base.specs.Namespaces.{xml_namespace, xmlns_namespace}
 
 -- each number is below the next
 abbrev pub Rise : List ℕ → Type 0
@@ -71,3 +74,8 @@ offsets_of (elem head children rest) = head.offset ∷ (offsets_of children ++ o
 pub record IsSoundTree (tree : Tree) (depth : ℕ) : Type 0 where
   pub nodes : AreSound depth (elem tree.head tree.children none)
   pub offsets : Rise (offsets_of (elem tree.head tree.children none))
+
+-- a root of a sound tree whose elements are all of the page with this number
+pub record IsSoundRoot (root : Element) (page depth : ℕ) : Type 0 where
+  pub tree : IsSoundTree (tree_of root) depth
+  pub pages : All (λ p. p ≡ page) (pages_of root)

@@ -1,6 +1,7 @@
 //! How texts and attribute values are written.
 ghost use Rattle.std.specs.Prelude.{◌≡◌, ◌++◌, ◌∷◌, OnOk, OnErr, option_map};
-ghost use Rattle.ix_base.specs.Escapes.{te, ae, te_ref, ae_ref, written_as, AppendsFront};
+ghost use Rattle.ix_base.specs.Escapes.{te, ae, te_ref, ae_ref, written_as};
+ghost use Rattle.ix_base.specs.Fronts.{AppendsFront};
 
 use crate::{NoMemory, Text};
 

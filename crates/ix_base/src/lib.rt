@@ -6,9 +6,13 @@ mod attribute;
 mod breach;
 pub mod breach_laws;
 mod content;
+pub mod content_laws;
 mod escape;
+mod kind;
 mod list;
 mod memory;
+mod name_fault;
+pub mod namespaces;
 mod outside;
 mod place;
 mod rule;
@@ -18,15 +22,17 @@ mod text;
 mod tree;
 mod white;
 
-pub use attribute::attr_of;
+pub use attribute::{attr_of, token_at};
 pub use breach::{Breach, Breaches, Class, Found, Report};
 pub use content::{
     Accuracy, Arc, Content, Context, Dim, Fact, Footnote, Item, Linkbase, Member, NoteLink,
     OwnName, Period, RoleRef, Tuple, Unit, Value,
 };
 pub use escape::{push_ae, push_te};
+pub use kind::{Kind, is_ix, ix_kind, kind_in, kind_of, parent_kind};
 pub use list::List;
 pub use memory::{MemPage, MemPages, MemTargets, MemText};
+pub use name_fault::NameFault;
 pub use outside::{Failed, PageSource, TargetSink, TextSink};
 pub use place::Place;
 pub use rule::Rule;
@@ -34,7 +40,7 @@ use std::alloc::{AllocError, AllocFailed};
 pub use text::Text;
 use thiserror::Error;
 pub use tree::{Attr, Binding, Element, Name, Node, Spot};
-pub use white::token;
+pub use white::{is_white, token, trim_start};
 
 /// Want of memory.
 #[derive(Clone, Copy, Debug, PartialEq, Eq, Error)]

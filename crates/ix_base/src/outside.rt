@@ -66,6 +66,9 @@ pub trait TargetSink {
     /// The two words of the last `begin`, where it tells them.
     ghost asked: { Self → Option (List ℕ × List ℕ) };
 
+    /// How many bytes the two words of the last `begin` have together, also where it doesn't tell them.
+    ghost asked_len: { Self → ℕ };
+
     /// Adds an unfinished target with no bytes. One that answers Failed has added none.
     fn begin(&mut self, dir: &str, target: &str) -> Result<(), Failed>
         requires { faults self.old + 1 < 2 ^ 64 }
@@ -74,7 +77,8 @@ pub trait TargetSink {
         ensures err { OnErr result (targets self.new ≡ targets self.old) }
         ensures opened { OnOk result (IsTrue (is_open self.new)) }
         ensures kept { OnErr result (is_open self.new ≡ is_open self.old) }
-        ensures asked { IfSome (asked self.new) (λ words. words ≡ (dir.now, target.now)) };
+        ensures asked { IfSome (asked self.new) (λ words. words ≡ (dir.now, target.now)) }
+        ensures asked_len { asked_len self.new ≡ length dir.now + length target.now };
 
     /// Gives the target begun last a piece. One that answers Failed has given it a front of the piece.
     fn put(&mut self, piece: &[u8]) -> Result<(), Failed>
@@ -84,7 +88,8 @@ pub trait TargetSink {
         ensures ok { OnOk result (targets self.new ≡ option_map (last_grown piece.now) (targets self.old)) }
         ensures err { OnErr result (GainsFront piece.now (targets self.old) (targets self.new)) }
         ensures opened { IsTrue (is_open self.new) }
-        ensures asked { asked self.new ≡ asked self.old };
+        ensures asked { asked self.new ≡ asked self.old }
+        ensures asked_len { asked_len self.new ≡ asked_len self.old };
 
     /// Finishes the target begun last. One that answers Failed has left it unfinished.
     fn finish(&mut self) -> Result<(), Failed>
@@ -94,7 +99,8 @@ pub trait TargetSink {
         ensures ok { OnOk result (targets self.new ≡ option_map last_finished (targets self.old)) }
         ensures err { OnErr result (targets self.new ≡ targets self.old) }
         ensures closed { is_open self.new ≡ is_err result }
-        ensures asked { asked self.new ≡ asked self.old };
+        ensures asked { asked self.new ≡ asked self.old }
+        ensures asked_len { asked_len self.new ≡ asked_len self.old };
 }
 
 /// Where a text goes. It counts its faults as a source of pages does.

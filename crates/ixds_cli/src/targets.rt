@@ -1,5 +1,5 @@
 //! Targets that are files.
-ghost use Rattle.std.specs.Prelude.{◌≡◌, IfOk, IfSome};
+ghost use Rattle.std.specs.Prelude.{◌≡◌, ◌+◌, IfOk, IfSome, length};
 ghost use Rattle.ixds_cli.specs.TargetPath.{target_path};
 
 use crate::writing::put_all;
@@ -17,6 +17,7 @@ pub struct FileTargets<'a, R: Files> {
     rt: &'a R,
     file: Option<R::File>,
     asked: Option<(Text, Text)>,
+    asked_len: usize,
     faults: u64,
 }
 
@@ -30,6 +31,7 @@ impl<'a, R: Files> FileTargets<'a, R> {
             rt,
             file: None,
             asked: None,
+            asked_len: 0,
             faults: 0,
         }
     }
@@ -65,8 +67,10 @@ impl<'a, R: Files> FileTargets<'a, R> {
         ensures faults { self.new.faults ≡ self.old.faults }
         ensures file { self.new.file ≡ self.old.file }
         ensures asked { IfSome self.new.asked (λ words. words ≡ (dir.now, target.now)) }
+        ensures asked_len { self.new.asked_len ≡ length dir.now + length target.now }
     {
         self.asked = None;
+        self.asked_len = dir.len() + target.len();
         let Ok(words) = words_kept(self.alloc, dir, target) else {
             return None;
         };
@@ -88,6 +92,8 @@ impl<'a, R: Files> TargetSink for FileTargets<'a, R> {
     ghost is_open = { λ t. is_some t.file };
 
     ghost asked = { λ t. t.asked };
+
+    ghost asked_len = { λ t. t.asked_len };
 
     fn begin(&mut self, dir: &str, target: &str) -> Result<(), Failed> {
         match self.create(dir, target) {

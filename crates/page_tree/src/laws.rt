@@ -2,10 +2,12 @@
 ghost use Rattle.std.specs.Prelude.{◌≡◌, ◌++◌, ℕ, Bool, List, Some, None, All, true, false, length, ◌∷◌, []};
 ghost use Rattle.std.specs.Prelude.{codes};
 ghost use Rattle.std.specs.List.{list_any};
-ghost use Rattle.ix_base.specs.Trees.{Tree};
+ghost use Rattle.ix_base.specs.Trees.{Tree, tree_of};
 ghost use Rattle.page_tree.specs.Break.{Fault, w};
 ghost use Rattle.ix_base.specs.Scope.{is_qname};
-ghost use Rattle.ix_base.specs.Sound.{IsSoundTree};
+ghost use Rattle.ix_base.specs.declared.tree.Element.{Element};
+ghost use Rattle.ix_base.specs.Elements.{pages_of};
+ghost use Rattle.ix_base.specs.Sound.{IsSoundTree, IsSoundRoot};
 ghost use Rattle.ix_base.specs.Written.{Attribute, start_text, leaf_text, close_text};
 ghost use Rattle.page_tree.specs.Constructs.{Byte, values, offset_of, kind_of, size, finished, settled, continued};
 ghost use Rattle.page_tree.specs.Forms.{HasForm, holds};
@@ -39,9 +41,12 @@ pub fn no_tree()
 {}
 
 /// Every tree of a page is sound: its names, values, texts and scopes are of their forms, none of its elements is deeper
-/// than the page allows, and their offsets rise in document order.
+/// than the page allows, and their offsets rise in document order. So a root of such a tree, with the page number that its
+/// elements have, is a sound root.
 pub fn sound_tree()
-    ensures { (b : List ℕ) (n : ℕ) (t : Tree) → page b n t → IsSoundTree t n }
+    ensures tree { (b : List ℕ) (n : ℕ) (t : Tree) → page b n t → IsSoundTree t n }
+    ensures root { (b : List ℕ) (n number : ℕ) (e : Element) → page b n (tree_of e)
+        → All (λ p. p ≡ number) (pages_of e) → IsSoundRoot e number n }
 {}
 
 /// A construct that ends within its bytes is cut from in front of anything: it comes first, and then what the rest gives.

@@ -4,7 +4,7 @@ use Rattle.instance_out.proofs.Grown.{grown_none, grown_next, front_grown}
 use Rattle.instance_out.proofs.put_lines.Goals as goal
 
 pub loop-line-init : goal.loop-line-init
-loop-line-init g c = record { faults = refl; is_open = c.requires.opened; targets = sym (grown_none _); asked = refl }
+loop-line-init g c = record { faults = refl; is_open = c.requires.opened; targets = sym (grown_none _); asked = refl; asked_len = refl }
 
 pub returns-in_err-put-clause-err : goal.returns-in_err-put-clause-err
 returns-in_err-put-clause-err g c =
@@ -34,4 +34,5 @@ loop-line-preserved g c =
       is_open = put.opened;
       targets = grown_next lines i d c.as_bytes.result.now (targets c.args.sink.now) (targets c.loop-line.sink) (targets c.put.new.self) below piece inv.targets put.ok;
       asked = put.asked ∙ inv.asked;
+      asked_len = put.asked_len ∙ inv.asked_len;
     }

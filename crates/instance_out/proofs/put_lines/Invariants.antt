@@ -9,4 +9,5 @@ invariant-loop-line g l = record {
   is_open : IsTrue (g.S.TargetSink.is_open l.sink);
   targets : g.S.TargetSink.targets l.sink ≡ option_map (last_grown (concat (take l.line-index l.lines))) (g.S.TargetSink.targets l.initial.sink);
   asked : g.S.TargetSink.asked l.sink ≡ g.S.TargetSink.asked l.initial.sink;
+  asked_len : g.S.TargetSink.asked_len l.sink ≡ g.S.TargetSink.asked_len l.initial.sink;
 }

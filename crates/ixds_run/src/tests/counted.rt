@@ -47,6 +47,8 @@ impl<S: TargetSink> TargetSink for Counted<S> {
 
     ghost asked = { λ c. S.asked c.object };
 
+    ghost asked_len = { λ c. S.asked_len c.object };
+
     fn begin(&mut self, dir: &str, target: &str) -> Result<(), Failed> {
         self.calls = self.calls.saturating_add(1);
         self.object.begin(dir, target)

@@ -1,6 +1,7 @@
 use Rattle.std.proofs.Common.{sym, subst}
 use Rattle.std.proofs.lemmas.Result.{err_from_is_err_and}
-use Rattle.ix_base.specs.Escapes.{ae_ref, AppendsFront, ae}
+use Rattle.ix_base.specs.Escapes.{ae_ref, ae}
+use Rattle.ix_base.specs.Fronts.{AppendsFront}
 use Rattle.ix_base.proofs.EscapeLemmas.{ae_low, front-next, front-gains}
 use Rattle.ix_base.proofs.escape.push_ae.Goals as goal
 

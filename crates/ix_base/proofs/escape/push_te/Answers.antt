@@ -1,6 +1,7 @@
 use Rattle.std.proofs.Common.{sym, subst}
 use Rattle.std.proofs.lemmas.Result.{err_from_is_err_and}
-use Rattle.ix_base.specs.Escapes.{te_ref, AppendsFront, te}
+use Rattle.ix_base.specs.Escapes.{te_ref, te}
+use Rattle.ix_base.specs.Fronts.{AppendsFront}
 use Rattle.ix_base.proofs.EscapeLemmas.{te_low, front-next, front-gains}
 use Rattle.ix_base.proofs.escape.push_te.Goals as goal
 
