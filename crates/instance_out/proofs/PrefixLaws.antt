@@ -1,46 +1,61 @@
--- Prefixes of an instance with names in one namespace.
-use Rattle.std.proofs.Common.{◌≡◌, ◌∙◌, ap, refl, ℕ, Bool, true, false, cond, List, [], ◌∷◌, ◌++◌, Option, Some, None, is_some, bytes_eq, length, suc, ◌==◌, arith}
-use Rattle.std.proofs.lemmas.Bool.Decides.{nat_tests}
+-- Prefixes of namespaces.
+use Rattle.std.proofs.Common.{◌≡◌, ◌∙◌, ap, sym, refl, ℕ, Bool, true, false, cond, List, [], ◌∷◌, ◌++◌, Option, Some, None, bytes_eq}
 use Rattle.std.proofs.lemmas.Slice.Eq.{bytes_eq-Decides}
-use Rattle.instance_out.specs.Prefixes.{Bound, xml, fixed, declared_for, prefix_in, is_known, spaces_with, qualified, name_text}
+use Rattle.std.specs.declared.cmp.Ordering.{Ordering}
+use Rattle.std.specs.declared.cmp.Ordering.TheVariants.{Less, Equal, Greater}
+use Rattle.std.specs.Ordering.{is_eq, is_lt}
+use Rattle.std.proofs.lemmas.Map.Text.{is_eq-slice_cmp}
+use Rattle.ix_base.specs.Once.{put_by, put, in_order}
+use Rattle.ix_base.specs.Sorted.{text_cmp}
+use Rattle.ix_base.specs.declared.content.OwnName.{OwnName}
+use Rattle.instance_out.specs.Prefixes.{Bound, prefix_in, is_known, with_space, spaces_of}
+use Rattle.instance_out.specs.Tables.{own_spaces}
 
-prefix_in-append : (bs cs : List Bound) (space : List ℕ) → prefix_in bs space ≡ None → prefix_in (bs ++ cs) space ≡ prefix_in cs space
-prefix_in-append [] cs space none = refl
-prefix_in-append (b ∷ bs) cs space none = later (bytes_eq space b.space) none (prefix_in-append bs cs space)
+prefix_in-by : (t : Bool) (p : List ℕ) (o more : Option (List ℕ)) (r : Option (List ℕ)) → cond t (Some p) o ≡ r → (o ≡ r → more ≡ r) → cond t (Some p) more ≡ r
+prefix_in-by true p o more r e f = e
+prefix_in-by false p o more r e f = f e
+
+-- a prefix that is found stays the first
+pub prefix_in-found : (bs cs : List Bound) (space p : List ℕ) → prefix_in bs space ≡ Some p → prefix_in (bs ++ cs) space ≡ Some p
+prefix_in-found [] cs space p e = absurd (cc)
+prefix_in-found (b ∷ bs) cs space p e = prefix_in-by (bytes_eq space b.space) b.prefix (prefix_in bs space) (prefix_in (bs ++ cs) space) (Some p) e (prefix_in-found bs cs space p)
+
+-- and where there is none, the others are looked through
+pub prefix_in-missed : (bs cs : List Bound) (space : List ℕ) → prefix_in bs space ≡ None → prefix_in (bs ++ cs) space ≡ prefix_in cs space
+prefix_in-missed [] cs space e = refl
+prefix_in-missed (b ∷ bs) cs space e = later (bytes_eq space b.space) e (prefix_in-missed bs cs space)
   where
     later : (t : Bool) → cond t (Some b.prefix) (prefix_in bs space) ≡ None → (prefix_in bs space ≡ None → prefix_in (bs ++ cs) space ≡ prefix_in cs space)
         → cond t (Some b.prefix) (prefix_in (bs ++ cs) space) ≡ prefix_in cs space
-    later true e rest = absurd (cc)
-    later false e rest = rest e
+    later true e f = absurd (cc)
+    later false e f = f e
 
-bytes_eq-same : (xs : List ℕ) → bytes_eq xs xs ≡ true
-bytes_eq-same xs = (bytes_eq-Decides xs xs).1 refl
-
-unknown : (space : List ℕ) → prefix_in (xml ∷ fixed) space ≡ None → (length space == 0) ≡ false → is_known space ≡ false
-unknown [] none some = absurd (cc)
-unknown (c ∷ cs) none some = ap is_some none
-
--- a namespace that isn't known has the first further prefix
-pub prefix_in-first : (space : List ℕ) → prefix_in (xml ∷ fixed) space ≡ None → (length space == 0) ≡ false → prefix_in (xml ∷ declared_for (spaces_with space)) space ≡ Some (110 ∷ 49 ∷ [])
-prefix_in-first space none some =
-    ap (λ b. prefix_in (xml ∷ declared_for (cond b [] (space ∷ []))) space) (unknown space none some)
-    ∙ prefix_in-append (xml ∷ fixed) (record { prefix = 110 ∷ 49 ∷ []; space = space } ∷ []) space none
-    ∙ ap (λ b. cond b (Some (110 ∷ 49 ∷ [])) None) (bytes_eq-same space)
-
-abbrev IsUnknown : List ℕ → Type 0
-IsUnknown space = (prefix_in (xml ∷ fixed) space ≡ None) × ((length space == 0) ≡ false)
-
-unknown-parts : (space : List ℕ) → is_known space ≡ false → IsUnknown space
-unknown-parts [] e = absurd (cc)
-unknown-parts (c ∷ cs) e = (none (prefix_in (xml ∷ fixed) (c ∷ cs)) e, some (length cs))
+pub bytes_eq-sym : (xs ys : List ℕ) → bytes_eq xs ys ≡ bytes_eq ys xs
+bytes_eq-sym xs ys = by (bytes_eq xs ys) (bytes_eq ys xs) refl refl
   where
-    none : (o : Option (List ℕ)) → is_some o ≡ false → o ≡ None
-    none None e = refl
-    none (Some x) e = absurd (cc)
+    by : (s t : Bool) → bytes_eq xs ys ≡ s → bytes_eq ys xs ≡ t → bytes_eq xs ys ≡ bytes_eq ys xs
+    by true true e f = e ∙ sym f
+    by false false e f = e ∙ sym f
+    by true false e f = e ∙ sym ((bytes_eq-Decides ys xs).1 (sym ((bytes_eq-Decides xs ys).0 e)))
+    by false true e f = (bytes_eq-Decides xs ys).1 (sym ((bytes_eq-Decides ys xs).0 f)) ∙ sym f
 
-    some : (n : ℕ) → (suc n == 0) ≡ false
-    some n = grind (arith, nat_tests)
+-- one more namespace, in order
+put-with_space : (s : List ℕ) (ss : List (List ℕ)) → with_space s ss ≡ put text_cmp s ss
+put-with_space s [] = refl
+put-with_space s (t ∷ ss) = by (text_cmp s t) refl (put-with_space s ss)
+  where
+    by : (r : Ordering) → text_cmp s t ≡ r → with_space s ss ≡ put text_cmp s ss → with_space s (t ∷ ss) ≡ put text_cmp s (t ∷ ss)
+    by Less e ih = let q : bytes_eq s t ≡ false = sym (is_eq-slice_cmp s t) ∙ ap is_eq e in rw (q, e) refl
+    by Equal e ih = let q : bytes_eq s t ≡ true = sym (is_eq-slice_cmp s t) ∙ ap is_eq e in rw (q, e) refl
+    by Greater e ih = let q : bytes_eq s t ≡ false = sym (is_eq-slice_cmp s t) ∙ ap is_eq e in rw (q, e) (ap (λ l. t ∷ l) ih)
 
--- a name in such a namespace
-pub name_text-first : (space local : List ℕ) → is_known space ≡ false → name_text (spaces_with space) (record { ns = space; local = local }) ≡ 110 ∷ 49 ∷ 58 ∷ local
-name_text-first space local e = let u = unknown-parts space e in ap (λ p. qualified p local) (prefix_in-first space u.0 u.1)
+-- the namespaces of names are those in order, each once
+pub spaces_of-in_order : (names : List OwnName) → in_order text_cmp (own_spaces names) ≡ spaces_of names
+unfolding in_order
+spaces_of-in_order [] = refl
+spaces_of-in_order (n ∷ ns) = by (is_known n.ns) (spaces_of-in_order ns)
+  where
+    by : (b : Bool) → in_order text_cmp (own_spaces ns) ≡ spaces_of ns
+        → in_order text_cmp (cond b (own_spaces ns) (n.ns ∷ own_spaces ns)) ≡ cond b (spaces_of ns) (with_space n.ns (spaces_of ns))
+    by true e = e
+    by false e = ap (put text_cmp n.ns) e ∙ sym (put-with_space n.ns (spaces_of ns))

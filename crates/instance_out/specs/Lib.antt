@@ -1,5 +1,9 @@
 pub mod Canonical
+pub mod Elements
+pub mod Gaining
+pub mod Keys
 pub mod Moments
-pub mod Parts
 pub mod Prefixes
+pub mod Tables
+pub mod Tags
 pub mod Writable

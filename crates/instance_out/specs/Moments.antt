@@ -1,5 +1,5 @@
 -- Times as they are written in a period (XBRL 2.1, section 4.7.2).
-use Rattle.std.specs.Prelude.{◌≡◌, ℕ, ◌+◌, ◌-◌, ◌*◌, ◌/◌, ◌%◌, ◌≤◌, ◌==◌, List, [], ◌∷◌, ◌++◌, if◌then◌else◌, ℤ, pos, unsigned_abs}
+use Rattle.std.specs.Prelude.{ℕ, ◌+◌, ◌-◌, ◌/◌, ◌%◌, ◌==◌, List, [], ◌∷◌, ◌++◌, if◌then◌else◌, ℤ, unsigned_abs}
 use Rattle.ix_base.specs.Days.{Day, day_at}
 
 -- a number below 100 in two digits
@@ -29,9 +29,3 @@ start_text s = let n = unsigned_abs s in if n % 86400 == 0 then date_text (day_a
 -- an instant or an end: at midnight the day before
 abbrev pub end_text : ℤ → List ℕ
 end_text s = let n = unsigned_abs s in if n % 86400 == 0 then date_text (day_at (n / 86400 - 1)) else time_text n
-
--- a time at midnight, from the end of 0001-01-01 to that of 9999-12-31
-pub record IsMidnight (s : ℤ) : Type 0 where
-  pub days : ℕ
-  pub last : days ≤ 3652058
-  pub is : s ≡ pos ((days + 1) * 86400)

@@ -1,69 +1,36 @@
--- The contents that can be written so far: a schema, a context and a fact with a text.
-use Rattle.std.specs.Prelude.{◌≡◌, ℕ, List, [], ◌∷◌, None, ℤ}
+-- The contents that can be written.
+use Rattle.std.specs.Prelude.{ℕ, suc, ◌≤◌, max, All, ℤ, pos, ◌≤ℤ◌, ◌<ℤ◌}
 use Rattle.ix_base.specs.declared.content.Content.{Content}
-use Rattle.ix_base.specs.declared.content.Fact.TheVariants as fact
-use Rattle.ix_base.specs.declared.content.Item.{Item}
 use Rattle.ix_base.specs.declared.content.Period.{Period}
 use Rattle.ix_base.specs.declared.content.Period.TheVariants as period
-use Rattle.ix_base.specs.declared.content.Value.TheVariants as value
-use Rattle.ix_base.specs.Days.{IsDay, day_end}
-use Rattle.instance_out.specs.Moments.{IsMidnight}
+use Rattle.ix_base.specs.Facts.{Facts, none, item, tuple, facts_of}
 
--- an item without unit, accuracy and id
-pub record IsBare (i : Item) : Type 0 where
-  pub unit : i.unit ≡ None
-  pub accuracy : i.accuracy ≡ None
-  pub id : i.id ≡ None
+-- when the last day of the year 9999 ends
+abbrev pub last_end : ℤ
+last_end = pos 315537897600
 
--- an item with a text
-pub record HasText (i : Item) : Type 0 where
-  pub text : List ℕ
-  pub is : i.value ≡ value.Plain text
+-- a start, from the start of 0001-01-01 to before the end of 9999-12-31
+pub record IsStart (s : ℤ) : Type 0 where
+  pub least : pos 0 ≤ℤ s
+  pub before : s <ℤ last_end
 
--- a period that is an instant at midnight
-pub record IsInstantAtMidnight (p : Period) : Type 0 where
-  pub end : ℤ
-  pub is : p ≡ period.Instant end
-  pub midnight : IsMidnight end
+-- an instant or an end, from behind the start of 0001-01-01 to the end of 9999-12-31
+pub record IsEnd (s : ℤ) : Type 0 where
+  pub after : pos 0 <ℤ s
+  pub most : s ≤ℤ last_end
 
--- the content of one schema address, one context at the end of a day, and one fact with this text in that context
-abbrev pub one_fact : (schema id scheme identifier : List ℕ) (year month day : ℕ) (space local text : List ℕ) → Content
-one_fact schema id scheme identifier year month day space local text = record {
-  schemas = schema ∷ [];
-  linkbases = [];
-  roles = [];
-  arcroles = [];
-  contexts = record {
-    id = id;
-    scheme = scheme;
-    identifier = identifier;
-    segment = [];
-    scenario = [];
-    period = period.Instant (day_end year month day);
-  } ∷ [];
-  units = [];
-  facts = fact.Item (record {
-    name = record { ns = space; local = local };
-    context = id;
-    unit = None;
-    accuracy = None;
-    id = None;
-    value = value.Plain text;
-  }) ∷ [];
-  notes = [];
-}
+abbrev pub IsTimely : Period → Type 0
+IsTimely (period.Instant end) = IsEnd end
+IsTimely (period.Duration start end) = IsStart start × IsEnd end
+IsTimely period.Forever = Unit {0}
+
+-- how deep tuples stand within tuples
+abbrev pub depth : Facts → ℕ
+depth none = 0
+depth (item i rest) = depth rest
+depth (tuple name id nil members rest) = max (suc (depth members)) (depth rest)
 
 -- the content can be written
-pub record IsWritable (content : Content) : Type 0 where
-  pub schema : List ℕ
-  pub id : List ℕ
-  pub scheme : List ℕ
-  pub identifier : List ℕ
-  pub year : ℕ
-  pub month : ℕ
-  pub day : ℕ
-  pub space : List ℕ
-  pub local : List ℕ
-  pub text : List ℕ
-  pub real : IsDay year month day
-  pub is : content ≡ one_fact schema id scheme identifier year month day space local text
+pub record IsWritable (c : Content) : Type 0 where
+  pub times : All (λ x. IsTimely x.period) c.contexts
+  pub tuples : depth (facts_of c.facts) ≤ 100

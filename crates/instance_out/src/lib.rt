@@ -11,16 +11,17 @@ use ix_base::{Content, Failed, List, NoMemory, TargetSink, Text};
 use std::alloc::Global;
 use std::marker::Model;
 
-mod content;
-mod day;
-mod laws;
-mod line;
-mod part;
+mod context;
+mod fact;
+mod lines;
+mod markup;
+mod moment;
+mod names;
+mod note;
 mod prefix;
-#[cfg(test)]
-mod tests;
-
-pub use laws::six_lines;
+mod reference;
+mod sort;
+mod unit;
 
 /// The canonical text of a content, ready to be written: its lines, each with its line feed.
 #[derive(Drop)]
@@ -54,7 +55,7 @@ pub fn prepare(alloc: Global, content: &Content) -> Result<Prepared, NoMemory>
     requires { IsWritable content.now }
     ensures { IfOk result (λ p. p ≡ canon_lines content.now) }
 {
-    let lines = content::lines(alloc, content)?;
+    let lines = lines::lines(alloc, content)?;
     match total_len(lines.as_slice()) {
         Some(len) => Ok(Prepared { lines, len }),
         None => Err(NoMemory),

@@ -1,5 +1,12 @@
-pub mod CompleteLaws
+pub mod AnswerLaws
 pub mod DateLaws
+pub mod DueLaws
+pub mod ElementLaws
+pub mod ForestLaws
+pub mod GivenLaws
+pub mod JudgeLaws
+mod Literals
+pub mod Named
 pub mod NodeLaws
 pub mod OutcomeLaws
 pub mod PartLaws
@@ -7,4 +14,6 @@ pub mod ReadLaws
 pub mod ReportLaws
 pub mod ShapeLaws
 pub mod ShapeRows
+pub mod Taken
 pub mod TargetLaws
+pub mod WritableLaws

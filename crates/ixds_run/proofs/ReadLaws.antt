@@ -1,36 +1,45 @@
 -- Reading a page piece by piece.
-use Rattle.std.proofs.Common.{◌≡◌, ◌∙◌, ap, sym, refl, ℕ, ◌+◌, ◌≤◌, ◌<◌, ◌==◌, nat_lt, Bool, cond, List, [], ◌++◌, length, take, drop, Option, Some, None, IfSome, option_map, append_assoc, append-nil, subst, arith, length-append}
-use Rattle.std.proofs.lemmas.Bool.{lt-ltb}
+use Rattle.std.proofs.Common.{◌≡◌, ◌∙◌, ap, sym, refl, ℕ, ◌+◌, ◌≤◌, ◌<◌, ◌==◌, cond, List, [], ◌++◌, length, take, drop, Option, Some, None, IfSome, option_map, append_assoc, subst, arith, length-append, add-zero}
 use Rattle.std.proofs.lemmas.List.{take-append-drop, length-take-le}
 use Rattle.std.proofs.lemmas.List.Sums.{sum_by-append}
 use Rattle.ix_base.specs.Outside.{ReadsFrom}
-use Rattle.ix_base.specs.declared.rule.Rule.TheVariants.{S1, S2}
 use Rattle.page_tree.specs.Standing.{StandsFor}
 use Rattle.page_tree.specs.declared.builder.TreeBuilder.{TreeBuilder}
-use Rattle.ixds_run.specs.Outcomes.{StopsInTime, set_breach, size_rule, tags_in}
-use Rattle.ixds_run.specs.Reading.{HasRead, IsRead}
+use Rattle.ixds_run.specs.Sizes.{tags_in}
+use Rattle.ixds_run.specs.Reading.{HasFed, IsWhole}
 use Rattle.ixds_run.specs.declared.reading.Sums.{Sums}
 
 tags-append : (xs ys : List ℕ) → tags_in (xs ++ ys) ≡ tags_in xs + tags_in ys
 tags-append xs ys = sum_by-append (λ b. cond (b == 60) 1 0) xs ys
 
--- a piece was read, and the builder took it
-pub read_on : (page : List ℕ) (left left' : Option (List ℕ)) (t t' : TreeBuilder) (s s' : Sums) (buf : List ℕ) (n : ℕ)
+-- what is told of a page, once a piece of it was read
+told_on : (page left left' : Option (List ℕ)) (front buf : List ℕ) (n : ℕ)
     → IfSome left (λ rest. ReadsFrom rest buf n) → left' ≡ option_map (drop n) left
+    → IfSome page (λ b. (rest : List ℕ) × (b ≡ front ++ rest) × (left ≡ Some rest))
+    → IfSome page (λ b. (rest : List ℕ) × (b ≡ (front ++ take n buf) ++ rest) × (left' ≡ Some rest))
+told_on None left left' front buf n piece next t = tt
+told_on (Some b) left left' front buf n piece next t =
+    let p : ReadsFrom t.0 buf n = subst (λ (l : Option (List ℕ)). IfSome l (λ rest. ReadsFrom rest buf n)) t.2 piece in
+    let split : take n buf ++ drop n t.0 ≡ t.0 = ap (λ x. x ++ drop n t.0) p.bytes ∙ take-append-drop n t.0 in
+    (drop n t.0, t.1 ∙ ap (λ x. front ++ x) (sym split) ∙ sym (append_assoc front (take n buf) (drop n t.0)), next ∙ ap (option_map (drop n)) t.2)
+
+-- a piece was read, and the builder took it
+pub read_on : (page left left' : Option (List ℕ)) (t t' : TreeBuilder) (before s s' : Sums) (buf : List ℕ) (n : ℕ)
+    → n ≤ length buf → IfSome left (λ rest. ReadsFrom rest buf n) → left' ≡ option_map (drop n) left
     → ((b : List ℕ) → StandsFor t b → StandsFor t' (b ++ take n buf)) → s'.bytes ≡ s.bytes + n → s'.tags ≡ s.tags + tags_in (take n buf)
-    → HasRead page left t s → HasRead page left' t' s'
-read_on page left left' t t' s s' buf n piece next takes bytes tags h =
-    let p : ReadsFrom h.rest buf n = subst (λ (l : Option (List ℕ)). IfSome l (λ rest. ReadsFrom rest buf n)) h.left_is piece in
-    let split : take n buf ++ drop n h.rest ≡ h.rest = ap (λ x. x ++ drop n h.rest) p.bytes ∙ take-append-drop n h.rest in
-    let size : length (take n buf) ≡ n = ap length p.bytes ∙ length-take-le n h.rest p.within in
+    → HasFed page left t before s → HasFed page left' t' before s'
+read_on page left left' t t' before s s' buf n within piece next takes bytes tags h =
+    let size : length (take n buf) ≡ n = length-take-le n buf within in
+    let sum = length-append h.front (take n buf) in
+    let more = tags-append h.front (take n buf) in
+    let was = h.bytes in
+    let had = h.tags in
     record {
       front = h.front ++ take n buf;
-      rest = drop n h.rest;
-      joined = h.joined ∙ ap (λ x. h.front ++ x) (sym split) ∙ sym (append_assoc h.front (take n buf) (drop n h.rest));
-      left_is = next ∙ ap (option_map (drop n)) h.left_is;
       built = takes h.front h.built;
-      bytes = bytes ∙ ap (λ k. k + n) h.bytes ∙ ap (λ k. length h.front + k) (sym size) ∙ sym (length-append h.front (take n buf));
-      tags = tags ∙ ap (λ k. k + tags_in (take n buf)) h.tags ∙ sym (tags-append h.front (take n buf));
+      bytes = let goal : s'.bytes ≡ before.bytes + length (h.front ++ take n buf) = omega arith in goal;
+      tags = let goal : s'.tags ≡ before.tags + tags_in (h.front ++ take n buf) = omega arith in goal;
+      told = told_on page left left' h.front buf n piece next h.told;
     }
 
 -- nothing was read, which is so at the end alone
@@ -40,41 +49,24 @@ read_end None left' buf n none piece next = rw next tt
 read_end (Some rest) left' buf n none piece next = rw (next, none) (piece.end none)
 
 -- nothing was read yet
-pub read_nothing : (o left : Option (List ℕ)) (t : TreeBuilder) (s : Sums) → left ≡ o → StandsFor t [] → s.bytes ≡ 0 → s.tags ≡ 0 → IfSome o (λ page. HasRead page left t s)
-read_nothing None left t s at built bytes tags = tt
-read_nothing (Some page) left t s at built bytes tags =
-    record { front = []; rest = page; joined = refl; left_is = at; built = built; bytes = bytes; tags = tags }
+pub fed_nothing : (o left : Option (List ℕ)) (t : TreeBuilder) (s : Sums) → left ≡ o → StandsFor t [] → HasFed o left t s s
+fed_nothing o left t s at built =
+    record { front = []; built = built; bytes = sym (add-zero s.bytes); tags = sym (add-zero s.tags); told = told_nothing o left at }
+  where
+    told_nothing : (o left : Option (List ℕ)) → left ≡ o → IfSome o (λ b. (rest : List ℕ) × (b ≡ [] ++ rest) × (left ≡ Some rest))
+    told_nothing None left at = tt
+    told_nothing (Some b) left at = (b, refl, at)
 
-over : (n m : ℕ) → 268435456 < n → size_rule n m ≡ Some S1
-over n m h = ap (λ (t : Bool). cond t (Some S1) (cond (nat_lt 8388608 m) (Some S2) None)) (lt-ltb 268435456 n h)
-
--- more was read than a page may have
-pub read_over : (page : List ℕ) (left : Option (List ℕ)) (t : TreeBuilder) (s : Sums) → 268435456 < s.bytes → HasRead page left t s → IsRead s t page
-read_over page left t s h r =
-    let sum : length page ≡ length r.front + length r.rest = ap length r.joined ∙ length-append r.front r.rest in
-    let bytes = r.bytes in
-    let long : 268435456 < length page = omega arith in
-    let broken = over s.bytes s.tags h in
-    record { size = over (length page) (tags_in page) long ∙ sym broken; built = λ e. absurd (let z : None ≡ Some S1 = sym e ∙ broken in cc) }
+told_end : (page left : Option (List ℕ)) (front : List ℕ) → IfSome left (λ rest. rest ≡ [])
+    → IfSome page (λ b. (rest : List ℕ) × (b ≡ front ++ rest) × (left ≡ Some rest)) → IfSome page (λ b. left ≡ Some [])
+told_end None left front end t = tt
+told_end (Some b) left front end t =
+    t.2 ∙ ap Some (subst (λ (l : Option (List ℕ)). IfSome l (λ rest. rest ≡ [])) t.2 end)
 
 -- all of it was read
-pub read_all : (page : List ℕ) (left : Option (List ℕ)) (t : TreeBuilder) (s : Sums) → IfSome left (λ rest. rest ≡ []) → HasRead page left t s → IsRead s t page
-read_all page left t s end r =
-    let none : r.rest ≡ [] = subst (λ (l : Option (List ℕ)). IfSome l (λ rest. rest ≡ [])) r.left_is end in
-    let all : r.front ≡ page = sym (append-nil r.front) ∙ ap (λ x. r.front ++ x) (sym none) ∙ sym r.joined in
-    record {
-      size = ap set_breach (sym all) ∙ (λ i. size_rule (sym r.bytes i) (sym r.tags i));
-      built = λ e. subst (λ b. StandsFor t b) all r.built;
-    }
+pub whole_at_end : (page left : Option (List ℕ)) (t : TreeBuilder) (before s : Sums) → HasFed page left t before s → IfSome left (λ rest. rest ≡ []) → IsWhole page left s
+whole_at_end page left t before s h end = λ most. told_end page left h.front end h.told
 
-pub stops_in_time : (o left : Option (List ℕ)) (t : TreeBuilder) (s : Sums) → IfSome o (λ page. HasRead page left t s) → s.bytes ≤ 268435456 + 65536 → StopsInTime o left
-stops_in_time None left t s h most = tt
-stops_in_time (Some page) left t s h most = rw h.left_is (
-    let sum : length page ≡ length h.front + length h.rest = ap length h.joined ∙ length-append h.front h.rest in
-    let bytes = h.bytes in
-    omega arith)
-
--- what is so of any page is so of one that is told
-pub if_told : (o : Option (List ℕ)) (From To : List ℕ → Type 0) → ((b : List ℕ) → From b → To b) → IfSome o From → IfSome o To
-if_told None From To step h = tt
-if_told (Some b) From To step h = step b h
+-- more was read than pages may have
+pub whole_over : (page left : Option (List ℕ)) (s : Sums) → 268435456 < s.bytes → IsWhole page left s
+whole_over page left s over = λ most. absurd (omega arith)

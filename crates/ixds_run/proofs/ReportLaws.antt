@@ -7,7 +7,7 @@ use Rattle.ix_base.specs.contracts.breach.ClassPartialEq.TheImpl.{ghosts as clas
 use Rattle.ix_base.specs.declared.breach.Breach.{Breach}
 use Rattle.ix_base.specs.declared.breach.Class.{Class}
 use Rattle.ix_base.specs.declared.breach.Class.TheVariants as class
-use Rattle.ixds_run.specs.Outcomes.{breach_line, report_text}
+use Rattle.ixds_run.specs.Texts.{breach_line}
 
 of_one_class : (c : Class) (b : Breach) → first_any (map (λ k. filter (λ x. classes.eq c k) (b ∷ [])) all_classes) ≡ b ∷ []
 of_one_class class.S b = refl
@@ -24,5 +24,5 @@ report_of_one : (b : Breach) → report_of (b ∷ []) ≡ b ∷ []
 unfolding in_order
 report_of_one b = ap (in_order breach_cmp) (first_of_one b)
 
-pub line_of_one : (b : Breach) → report_text (b ∷ []) ≡ breach_line b
+pub line_of_one : (b : Breach) → flat_map breach_line (report_of (b ∷ [])) ≡ breach_line b
 line_of_one b = ap (flat_map breach_line) (report_of_one b) ∙ append-nil (breach_line b)

@@ -12,6 +12,7 @@ use Rattle.ixds_run.specs.PartReading.{text_at, is_address_under, is_name, is_id
 use Rattle.ixds_run.specs.FirstShape.{ShapeParts, AreNone, AreText, AreTextIf, AreElement, Looks, attribute, WithinReferences, WithinEntity, WithinPeriod, WithinContext, WithinResources, WithinHeader, IsFact, WithinParagraph, WithinBody, WithinRoot, HasShape, FirstShape, NotShape, shape_content, space}
 use Rattle.ixds_run.specs.ShapeContent.{content_with}
 use Rattle.ixds_run.specs.ShapeReading.{is_of, is_end, inside, first_tree, only_tree, two_trees, past_text, text_if, only_text, one_value, two_values, binds, address_in, schema_in, entity_in, date_at, date_in, Setting, setting_in, header_in, Said, said_in, Passage, passage_in, parts_from, is_setting, are_parts, shape_of}
+use Rattle.ixds_run.proofs.WritableLaws.{one_writable}
 use Rattle.ixds_run.proofs.NodeLaws.{end_ok, end_again, first_ok, first_again, only_ok, only_again, two_ok, two_again, past_ok, past_again, text_if_ok, text_if_again, only_text_ok, only_text_again, is_of_ok, is_of_again, inside_ok, inside_again, one_value_ok, one_value_again, two_values_ok, two_values_again, binds_ok, binds_again}
 use Rattle.ixds_run.proofs.PartLaws.{same_bytes, same_from_eq, text_ok, text_again, chosen, bind_ok, bind_step, some_inj, address_ok, address_again, name_ok, name_again, identifier_ok, some_again, four_true, of_four, three_true, of_three}
 
@@ -405,17 +406,7 @@ shape_is t p end content e date at made = record {
 
 -- the content of a tree in the first shape can be written
 pub shape_writable : (t : Tree) (content : Content) → FirstShape t content → IsWritable content
-shape_writable t content f = record {
-  schema = f.parts.schema;
-  id = f.parts.context;
-  scheme = f.parts.scheme;
-  identifier = f.parts.identifier;
-  year = number_in f.parts.year;
-  month = number_in f.parts.month;
-  day = number_in f.parts.day;
-  space = codes "http://example.com/e";
-  local = f.parts.name;
-  text = unwrap_or f.parts.value [];
-  real = f.has_shape.date.real;
-  is = f.is;
-}
+shape_writable t content f =
+    subst IsWritable (sym f.is)
+    (one_writable f.parts.schema f.parts.context f.parts.scheme f.parts.identifier (number_in f.parts.year) (number_in f.parts.month) (number_in f.parts.day)
+    (codes "http://example.com/e") f.parts.name (unwrap_or f.parts.value []) f.has_shape.date.real)

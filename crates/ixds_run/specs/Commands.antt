@@ -1,63 +1,65 @@
--- The words of the command line.
-use Rattle.std.specs.Prelude.{◌≡◌, ℕ, ◌≤◌, Bool, false, ◌&&◌, ◌||◌, ◌==◌, not, nat_le, nat_lt, List, [], ◌∷◌, length, Option, Some, None, if◌then◌else◌, bytes_eq, codes}
-use Rattle.std.specs.List.{list_all}
-use Rattle.url.specs.Parts.{Parts}
-use Rattle.ix_base.specs.Address.{url_of}
+-- What the words of a command line ask for.
+use Rattle.std.specs.Prelude.{◌≡◌, ℕ, ◌<◌, ◌≤◌, true, false, All, IfSome, ◌&&◌, nat_lt, List, [], ◌∷◌, length, bytes_eq, codes, Option, Some, None, option_and_then, if◌then◌else◌}
+use Rattle.clap.specs.Walk.{Row, all_of, first_of}
 use Rattle.ixds_run.specs.declared.command.Command.{Command}
-use Rattle.ixds_run.specs.declared.command.Command.TheVariants.{Extract}
+use Rattle.ixds_run.specs.declared.command.Command.TheVariants.{Extract, Check}
+use Rattle.ixds_run.specs.Bases.{is_base}
+use Rattle.ixds_run.specs.Names.{are_pages, has_repeat}
+use Rattle.ixds_run.specs.Simple.{check_app, extract_app, rows_taken}
 
--- no character below U+0020, and no U+007F
-abbrev pub may_stand_in_name : ℕ → Bool
-may_stand_in_name b = nat_le 32 b && not (b == 127)
+-- the extraction with this base, directory and pages, where they may stand for these
+abbrev pub extract_from : Option (List ℕ) → Option (List ℕ) → Option (List (List ℕ)) → Option Command
+extract_from None dir pages = None
+extract_from (Some base) None pages = None
+extract_from (Some base) (Some dir) None = None
+extract_from (Some base) (Some dir) (Some pages) =
+    if is_base base && nat_lt 0 (length dir) && are_pages pages then Some (Extract base dir pages) else None
 
-abbrev pub is_page_name : List ℕ → Bool
-is_page_name n = nat_lt 0 (length n) && nat_le (length n) 4096 && list_all may_stand_in_name n
+abbrev pub check_from : Option (List ℕ) → Option (List (List ℕ)) → Option Command
+check_from None pages = None
+check_from (Some base) None = None
+check_from (Some base) (Some pages) = if is_base base && are_pages pages then Some (Check base pages) else None
 
--- the scheme of a page of the web, as the URL Standard's parser gives it, in lower case
-unfoldable pub is_web_scheme : List ℕ → Bool
-is_web_scheme scheme = bytes_eq scheme (codes "http") || bytes_eq scheme (codes "https")
+abbrev pub extract_in : List Row → Option Command
+extract_in rows = extract_from (first_of (codes "base") rows) (first_of (codes "out") rows) (all_of (codes "PAGE") rows)
 
-abbrev pub is_web_url : Option Parts → Bool
-is_web_url None = false
-is_web_url (Some url) = is_web_scheme url.scheme
+abbrev pub check_in : List Row → Option Command
+check_in rows = check_from (first_of (codes "base") rows) (all_of (codes "PAGE") rows)
 
--- the longest base, in bytes of its word
-abbrev pub longest_base : ℕ
-longest_base = 65536
-
--- a word that the URL Standard's parser takes by itself, as a URL of the web
-abbrev pub is_base : List ℕ → Bool
-is_base word = nat_le (length word) longest_base && is_web_url (url_of word)
-
--- `extract --base URL --out DIR PAGE`
-unfoldable pub is_extract : List ℕ → List ℕ → List ℕ → List ℕ → List ℕ → List ℕ → Bool
-is_extract word base url out dir page =
-    bytes_eq word (codes "extract") && bytes_eq base (codes "--base") && is_base url
-    && bytes_eq out (codes "--out") && nat_lt 0 (length dir) && is_page_name page
+-- the first word picks the command, whose simple command reads the words from there on
+abbrev pub command_by : List ℕ → List (List ℕ) → Option Command
+command_by first words =
+    if bytes_eq first (codes "extract") then option_and_then extract_in (rows_taken extract_app words)
+    else (if bytes_eq first (codes "check") then option_and_then check_in (rows_taken check_app words) else None)
 
 -- the command that the words give, where they give one
-abbrev pub command_of : List (List ℕ) → Option Command
-command_of (word ∷ base ∷ url ∷ out ∷ dir ∷ page ∷ []) =
-    if is_extract word base url out dir page then Some (Extract url dir (page ∷ [])) else None
-command_of words = None
+unfoldable pub command_of : List (List ℕ) → Option Command
+command_of [] = None
+command_of (first ∷ rest) = command_by first (first ∷ rest)
 
--- the directory word of a command
-abbrev pub dir_of : Command → List ℕ
-dir_of (Extract base dir pages) = dir
-
--- the pages of a command
+-- the names of the pages of a command
 abbrev pub pages_of : Command → List (List ℕ)
 pages_of (Extract base dir pages) = pages
+pages_of (Check base pages) = pages
 
-abbrev pub first_of : List (List ℕ) → List ℕ
-first_of [] = []
-first_of (page ∷ pages) = page
+abbrev pub base_of : Command → List ℕ
+base_of (Extract base dir pages) = base
+base_of (Check base pages) = base
 
--- the one page of a command
-abbrev pub page_of : Command → List ℕ
-page_of c = first_of (pages_of c)
+-- the directory word, where the command has one
+abbrev pub dir_of : Command → Option (List ℕ)
+dir_of (Extract base dir pages) = Some dir
+dir_of (Check base pages) = None
 
--- a command has one page so far, and its name isn't too long for a source
-pub record HasOnePage (c : Command) : Type 0 where
-  pub one : length (pages_of c) ≡ 1
-  pub short : length (page_of c) ≤ 4096
+-- Names of pages as a command has them: few enough, none too long for a source, and none twice.
+pub record AreNames (names : List (List ℕ)) : Type 0 where
+  pub some : 0 < length names
+  pub few : length names ≤ 64
+  pub short : All (λ n. length n ≤ 4096) names
+  pub once : has_repeat names ≡ false
+
+-- A command as words give it: its base is a URL of the web, its directory word isn't empty, and its pages can be asked for.
+pub record IsGiven (c : Command) : Type 0 where
+  pub base : is_base (base_of c) ≡ true
+  pub dir : IfSome (dir_of c) (λ d. 0 < length d)
+  pub pages : AreNames (pages_of c)

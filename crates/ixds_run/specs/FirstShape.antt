@@ -4,7 +4,7 @@ use Rattle.ix_base.specs.Decimals.{number_in}
 use Rattle.ix_base.specs.Scope.{namespace_of}
 use Rattle.ix_base.specs.Trees.{Valued, Head, Nodes, none, chars, elem, Tree}
 use Rattle.ix_base.specs.declared.content.Content.{Content}
-use Rattle.instance_out.specs.Writable.{one_fact}
+use Rattle.ixds_run.specs.OneFact.{one_fact}
 use Rattle.ixds_run.specs.PartForms.{dashed, is_letter_or_digit, AreSome, IsAddressUnder, IsName, IsDate}
 
 -- the namespaces

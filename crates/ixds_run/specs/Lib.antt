@@ -1,6 +1,11 @@
+pub mod Answers
+pub mod Bases
 pub mod Commands
 pub mod FirstShape
-pub mod Judging
+pub mod Gains
+pub mod Made
+pub mod Names
+pub mod OneFact
 pub mod Outcomes
 pub mod PartForms
 pub mod PartReading
@@ -9,3 +14,7 @@ pub mod ShapeContent
 pub mod ShapeReading
 pub mod ShapeRows
 pub mod ShapeView
+pub mod Simple
+pub mod Sizes
+pub mod Texts
+pub mod Told

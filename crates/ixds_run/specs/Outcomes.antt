@@ -1,58 +1,32 @@
 -- What a run gives: a status, a text for `out`, and targets.
-use Rattle.std.specs.Prelude.{◌≡◌, ◌⊎◌, ℕ, ◌+◌, ◌≤◌, ◌==◌, nat_lt, true, false, List, [], ◌∷◌, ◌++◌, length, take, Option, Some, None, IfSome, option_map, if◌then◌else◌, codes}
-use Rattle.std.specs.Fmt.{decimal}
-use Rattle.std.specs.List.{concat, count_by, flat_map}
-use Rattle.ix_base.specs.Breaches.{class_of, named, report_of}
+use Rattle.std.specs.Prelude.{◌≡◌, ◌≢◌, ◌⊎◌, ℕ, Bool, true, false, List, [], ◌∷◌, map, Option, Some, None, IfSome}
+use Rattle.std.specs.List.{concat, flat_map}
 use Rattle.ix_base.specs.Outside.{Begun, TextGainsFront}
-use Rattle.ix_base.specs.Rules.{code_of as rule_code, text_of as rule_text}
 use Rattle.ix_base.specs.Trees.{Tree}
-use Rattle.ix_base.specs.declared.breach.Breach.{Breach}
-use Rattle.ix_base.specs.declared.breach.Class.{Class}
-use Rattle.ix_base.specs.declared.breach.Class.TheVariants as class
-use Rattle.ix_base.specs.declared.breach.Found.{Found}
-use Rattle.ix_base.specs.declared.content.Content.{Content}
 use Rattle.ix_base.specs.declared.rule.Rule.{Rule}
-use Rattle.ix_base.specs.declared.rule.Rule.TheVariants.{S1, S2, U2}
-use Rattle.page_tree.specs.Break.{Fault, w}
-use Rattle.page_tree.specs.Page.{page}
 use Rattle.instance_out.specs.Canonical.{canon_lines}
-use Rattle.ixds_run.specs.Commands.{dir_of, page_of, pages_of}
-use Rattle.ixds_run.specs.FirstShape.{FirstShape, NotShape}
+use Rattle.page_tree.specs.Page.{page}
+use Rattle.ixds_run.specs.Commands.{base_of, dir_of, pages_of}
+use Rattle.ixds_run.specs.Gains.{AsksFor, GainsAll, GainsPart, GainsText}
+use Rattle.ixds_run.specs.Made.{IsReport, Made}
+use Rattle.ixds_run.specs.Texts.{breach_line, summary_line}
+use Rattle.ixds_run.specs.Told.{on_page, set_rule, text_faults, told}
 use Rattle.ixds_run.specs.declared.command.Command.{Command}
+use Rattle.ixds_run.specs.declared.due.Due.{Due}
+use Rattle.ixds_run.specs.declared.due.DueTarget.{DueTarget}
+use Rattle.ixds_run.specs.declared.made.Target.{Target}
+use Rattle.ixds_run.specs.declared.made.Verdict.{Verdict}
+use Rattle.ixds_run.specs.declared.made.Verdict.TheVariants.{Broken, Whole}
 use Rattle.ixds_run.specs.declared.status.Status.{Status}
-use Rattle.ixds_run.specs.declared.status.Status.TheVariants.{Done, Broken, Usage, ReadFault, WriteFault, NoMemory}
+use Rattle.ixds_run.specs.declared.status.Status.TheVariants as status
 
 abbrev pub code_of : Status → ℕ
-code_of Done = 0
-code_of Broken = 1
-code_of Usage = 2
-code_of ReadFault = 3
-code_of WriteFault = 4
-code_of NoMemory = 5
-
--- the lines that `out` takes, each with its line feed
-
-unfoldable pub usage_line : List ℕ
-usage_line = codes "usage: ixds extract --base URL --out DIR PAGE\n"
-
-unfoldable pub summary_line : List ℕ
-summary_line = codes "(default): 1 facts, 0 tuples, 1 contexts, 0 units, 0 footnotes\n"
-
-unfoldable pub cannot_read_line : List ℕ → List ℕ
-cannot_read_line page = codes "ixds: cannot read " ++ (page ++ 10 ∷ [])
-
--- the place of a breach, which one of class S doesn't have, and the line of a breach
-abbrev pub place_text : Class → Breach → List ℕ
-place_text class.S b = codes "(set)"
-place_text c b = b.page ++ 58 ∷ decimal b.offset
-
-abbrev pub breach_line : Breach → List ℕ
-breach_line b =
-    place_text (class_of b.rule) b ++ (codes ": " ++ (rule_code b.rule ++ (32 ∷ (rule_text b.rule ++ 10 ∷ []))))
-
--- the lines of the report of these breaches
-abbrev pub report_text : List Breach → List ℕ
-report_text bs = flat_map breach_line (report_of bs)
+code_of status.Done = 0
+code_of status.Broken = 1
+code_of status.Usage = 2
+code_of status.ReadFault = 3
+code_of status.WriteFault = 4
+code_of status.NoMemory = 5
 
 -- what a command has due: a status, a text, and targets, each as it stands when it is finished
 pub record Outcome : Type 0 where
@@ -60,106 +34,94 @@ pub record Outcome : Type 0 where
   pub text : List ℕ
   pub targets : List Begun
 
--- the default target under a directory word, with these bytes, finished
-abbrev pub default_target : List ℕ → List ℕ → Begun
-default_target dir bytes = record { dir = dir; name = []; bytes = bytes; finished = true }
+-- these are the trees of pages with these bytes
+abbrev pub AreTrees : List (List ℕ) → List Tree → Type 0
+AreTrees [] [] = Unit {0}
+AreTrees (b ∷ bs) (t ∷ ts) = page b 256 t × AreTrees bs ts
+AreTrees bs ts = ⊥
 
--- the one target that is due, with its lines
-abbrev pub target_due : List ℕ → List (List ℕ) → List Begun
-target_due dir lines = default_target dir (concat lines) ∷ []
+-- What pages with these names and bytes say: the size rule that they break; else the breaks of their texts; else what is
+-- made of their trees.
+abbrev pub Says : List ℕ → List (List ℕ) → List (List ℕ) → Verdict → Type 0
+Says base names bs v =
+    ((rule : Rule) × (set_rule bs ≡ Some rule) × IsReport names (on_page 0 0 rule ∷ []) v)
+    ⊎ ((set_rule bs ≡ None)
+    × (((text_faults 0 bs ≢ []) × IsReport names (text_faults 0 bs) v)
+    ⊎ ((trees : List Tree) × AreTrees bs trees × Made base names trees v)))
 
-abbrev pub done_with : Command → Content → Outcome
-done_with c content = record {
-  status = Done;
-  text = summary_line;
-  targets = target_due (dir_of c) (canon_lines content);
-}
+-- a target under a directory word, with its instance, finished
+abbrev pub whole_target : List ℕ → Target → Begun
+whole_target dir t = record { dir = dir; name = t.name; bytes = concat (canon_lines t.content); finished = true }
 
-abbrev pub broken_by : Command → Found → Outcome
-broken_by c found = record { status = Broken; text = report_text (named (pages_of c) found ∷ []); targets = [] }
+-- the targets that are written, which are none without a directory
+abbrev pub targets_under : Option (List ℕ) → List Target → List Begun
+targets_under None ts = []
+targets_under (Some dir) ts = map (whole_target dir) ts
 
--- how many of the bytes are `<`
-abbrev pub tags_in : List ℕ → ℕ
-tags_in bytes = count_by (λ b. b == 60) bytes
+-- the lines of the summary
+unfoldable pub summary_of : List Target → List ℕ
+summary_of ts = summary_line
 
--- the size rule that so many bytes break, of which so many are `<`
-abbrev pub size_rule : ℕ → ℕ → Option Rule
-size_rule bytes tags = if nat_lt 268435456 bytes then Some S1 else if nat_lt 8388608 tags then Some S2 else None
+-- what is due of a verdict
+abbrev pub due_of : Option (List ℕ) → Verdict → Outcome
+due_of dir (Broken report) = record { status = status.Broken; text = flat_map breach_line report.lines; targets = [] }
+due_of dir (Whole ts) = record { status = status.Done; text = summary_of ts; targets = targets_under dir ts }
 
-abbrev pub set_breach : List ℕ → Option Rule
-set_breach b = size_rule (length b) (tags_in b)
+-- what is due from a command whose pages have these bytes
+abbrev pub IsOutcome : Command → List (List ℕ) → Outcome → Type 0
+IsOutcome c bs due = (v : Verdict) × Says (base_of c) (pages_of c) bs v × (due ≡ due_of (dir_of c) v)
 
--- a rule that the first page breaks at this offset
-abbrev pub on_first : ℕ → Rule → Found
-on_first offset rule = record { place = record { page = 0; offset = offset }; rule = rule }
+-- pages with these bytes break a rule, so that nothing of them is written
+abbrev pub SaysNothing : Command → List (List ℕ) → Type 0
+SaysNothing c bs = (targets : List Target) → ¬ Says (base_of c) (pages_of c) bs (Whole targets)
 
--- What a page with these bytes breaks: a size rule; else, where it is no page of any tree, the rule of its first break; else,
--- where its tree isn't in the first shape, the rule of what isn't built yet, at the root.
-abbrev pub Breaks : List ℕ → Found → Type 0
-Breaks b found =
-    ((rule : Rule) × (set_breach b ≡ Some rule) × (found ≡ on_first 0 rule))
-    ⊎ ((set_breach b ≡ None)
-    × (((fault : Fault) × (w b 256 ≡ Some fault) × (found ≡ on_first fault.offset fault.rule))
-    ⊎ ((tree : Tree) × page b 256 tree × NotShape tree × (found ≡ on_first tree.head.offset U2))))
-
--- a page with these bytes breaks no size rule, and is the page of a tree in the first shape, which has this content
-abbrev pub Says : List ℕ → Content → Type 0
-Says b content = (set_breach b ≡ None) × (tree : Tree) × page b 256 tree × FirstShape tree content
-
--- a page with these bytes says nothing
-abbrev pub NotServed : List ℕ → Type 0
-NotServed b = (content : Content) → ¬ Says b content
-
--- what is due where the page has these bytes: what it says, or the rule that it breaks
-abbrev pub IsOutcome : Command → List ℕ → Outcome → Type 0
-IsOutcome c b due =
-    ((content : Content) × Says b content × (due ≡ done_with c content))
-    ⊎ ((found : Found) × Breaks b found × (due ≡ broken_by c found))
-
--- all of these targets were added, and nothing else
-abbrev pub GainsAll : List Begun → Option (List Begun) → Option (List Begun) → Type 0
-GainsAll due old new = new ≡ option_map (λ ts. ts ++ due) old
-
--- Of these targets the first ones stand, in order, and some due one isn't finished: all but the last that stands are
--- whole, and that one is whole or holds a front of its bytes and is unfinished.
-abbrev pub IsPartOf : List Begun → List Begun → Type 0
-IsPartOf [] ts = ⊥
-IsPartOf (d ∷ due) [] = Unit {0}
-IsPartOf (d ∷ due) (t ∷ []) =
-    ((t ≡ d) × IsPartOf due []) ⊎ ((n : ℕ) × (t ≡ record d { bytes = take n d.bytes; finished = false }))
-IsPartOf (d ∷ due) (t ∷ u ∷ ts) = (t ≡ d) × IsPartOf due (u ∷ ts)
-
--- a part of these targets was added, and nothing else
-abbrev pub GainsPart : List Begun → Option (List Begun) → Option (List Begun) → Type 0
-GainsPart due old new = (part : List Begun) × IsPartOf due part × GainsAll part old new
-
--- a text was added, and nothing else
-abbrev pub GainsText : List ℕ → Option (List ℕ) → Option (List ℕ) → Type 0
-GainsText text old new = new ≡ option_map (λ t. t ++ text) old
-
--- a fact of the command and of the bytes of its page, where the words give one and the source tells them
-abbrev pub IfTold : Option Command → (List ℕ → Option (List ℕ)) → (Command → List ℕ → Type 0) → Type 0
-IfTold command page fact = IfSome command (λ c. IfSome (page (page_of c)) (fact c))
+-- a fact of the command and of the bytes of its pages, where the words give one and the source tells them all
+abbrev pub IfTold : Option Command → (List ℕ → Option (List ℕ)) → (Command → List (List ℕ) → Type 0) → Type 0
+IfTold command page fact = IfSome command (λ c. IfSome (told page (pages_of c)) (fact c))
 
 -- what is due with this status was given, all of it
 abbrev pub Gives : Status → (targets targets' : Option (List Begun)) → (taken taken' : Option (List ℕ))
-    → Command → List ℕ → Type 0
-Gives status targets targets' taken taken' c bytes =
-    (due : Outcome) × IsOutcome c bytes due × (due.status ≡ status)
+    → Command → List (List ℕ) → Type 0
+Gives status targets targets' taken taken' c bs =
+    (due : Outcome) × IsOutcome c bs due × (due.status ≡ status)
     × GainsAll due.targets targets targets' × GainsText due.text taken taken'
 
--- of the targets that are due a part was given
-abbrev pub GivesPart : (targets targets' : Option (List Begun)) → Command → List ℕ → Type 0
-GivesPart targets targets' c bytes =
-    (due : Outcome) × IsOutcome c bytes due × GainsPart due.targets targets targets'
+-- of the targets that are due a part was given, and one of them was asked for last
+abbrev pub GivesPart : (targets targets' : Option (List Begun)) → (asked : Option (List ℕ × List ℕ)) → Command → List (List ℕ) → Type 0
+GivesPart targets targets' asked c bs =
+    (due : Outcome) × IsOutcome c bs due
+    × GainsPart due.targets targets targets' × IfSome asked (AsksFor due.targets)
 
 -- the targets that are due were given, all of them, and of the text a front
 abbrev pub GivesFront : (targets targets' : Option (List Begun)) → (taken taken' : Option (List ℕ))
-    → Command → List ℕ → Type 0
-GivesFront targets targets' taken taken' c bytes =
-    (due : Outcome) × IsOutcome c bytes due
+    → Command → List (List ℕ) → Type 0
+GivesFront targets targets' taken taken' c bs =
+    (due : Outcome) × IsOutcome c bs due
     × GainsAll due.targets targets targets' × TextGainsFront due.text taken taken'
 
--- of the page, where the source tells it, at most the limit and one buffer was read
-abbrev pub StopsInTime : Option (List ℕ) → Option (List ℕ) → Type 0
-StopsInTime page left = IfSome page (λ b. IfSome left (λ rest. length b ≤ length rest + (268435456 + 65536)))
+-- a target that is ready to be written, as it stands when it is finished
+abbrev pub ready : List ℕ → DueTarget → Begun
+ready dir t = record { dir = dir; name = t.name; bytes = concat t.prepared; finished = true }
+
+abbrev pub ready_under : Option (List ℕ) → List DueTarget → List Begun
+ready_under None ts = []
+ready_under (Some dir) ts = map (ready dir) ts
+
+abbrev pub status_of : Bool → Status
+status_of true = status.Broken
+status_of false = status.Done
+
+-- what is ready to be given
+abbrev pub outcome_of : Option (List ℕ) → Due → Outcome
+outcome_of dir due = record { status = status_of due.is_broken; text = due.text.items; targets = ready_under dir due.targets.items }
+
+-- a target by its name and the lines of its instance
+pub record Bare : Type 0 where
+  pub name : List ℕ
+  pub lines : List (List ℕ)
+
+abbrev pub bare_ready : DueTarget → Bare
+bare_ready t = record { name = t.name; lines = t.prepared }
+
+abbrev pub bare : Target → Bare
+bare t = record { name = t.name; lines = canon_lines t.content }

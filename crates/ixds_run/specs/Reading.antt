@@ -1,22 +1,119 @@
--- Reading a page piece by piece.
-use Rattle.std.specs.Prelude.{◌≡◌, length, List, ℕ, ◌++◌, Option, Some, None}
+-- Reading pages one behind another, each piece by piece.
+use Rattle.std.specs.Prelude.{◌≡◌, ◌⊎◌, ℕ, suc, ◌+◌, ◌≤◌, ◌<◌, List, [], ◌∷◌, ◌++◌, length, Option, Some, None, IfSome}
+use Rattle.std.specs.Borrow.{Bor}
+use Rattle.ix_base.specs.Elements.{pages_of}
+use Rattle.ix_base.specs.Trees.{tree_of}
+use Rattle.ix_base.specs.declared.tree.Element.{Element}
+use Rattle.page_tree.specs.Page.{page as page_with}
+use Rattle.page_tree.specs.Break.{w}
+use Rattle.page_tree.specs.Stacks.{AreAll}
 use Rattle.page_tree.specs.Standing.{StandsFor}
 use Rattle.page_tree.specs.declared.builder.TreeBuilder.{TreeBuilder}
-use Rattle.ixds_run.specs.Outcomes.{set_breach, size_rule, tags_in}
+use Rattle.ixds_run.specs.Sizes.{size_rule, tags_in}
+use Rattle.ixds_run.specs.Texts.{cannot_read_line}
+use Rattle.ixds_run.specs.Told.{told, all_tags_in, bytes_in, set_rule, text_fault, text_faults}
+use Rattle.ixds_run.specs.declared.forest.Forest.{Forest}
+use Rattle.ixds_run.specs.declared.forest.Stopped.{Stopped}
+use Rattle.ixds_run.specs.declared.forest.Stopped.TheVariants as stopped
 use Rattle.ixds_run.specs.declared.reading.Sums.{Sums}
 
--- Of a page of these bytes a front was read, which the builder was given and which has these sums. The rest is left.
-pub record HasRead (page : List ℕ) (left : Option (List ℕ)) (t : TreeBuilder) (s : Sums) : Type 0 where
+-- Of a page a front was read, which the builder was given and by which the sums grew. Where the source tells the page, it
+-- is that page's front, and the rest is left.
+pub record HasFed (page left : Option (List ℕ)) (t : TreeBuilder) (before now : Sums) : Type 0 where
   pub front : List ℕ
-  pub rest : List ℕ
-  pub joined : page ≡ front ++ rest
-  pub left_is : left ≡ Some rest
   pub built : StandsFor t front
-  pub bytes : s.bytes ≡ length front
-  pub tags : s.tags ≡ tags_in front
+  pub bytes : now.bytes ≡ before.bytes + length front
+  pub tags : now.tags ≡ before.tags + tags_in front
+  pub told : IfSome page (λ b. (rest : List ℕ) × (b ≡ front ++ rest) × (left ≡ Some rest))
 
--- What the sums and the builder tell of a page: the size rule that it breaks, and where it breaks none, all of it was given
--- to the builder.
-pub record IsRead (s : Sums) (t : TreeBuilder) (page : List ℕ) : Type 0 where
-  pub size : set_breach page ≡ size_rule s.bytes s.tags
-  pub built : size_rule s.bytes s.tags ≡ None → StandsFor t page
+-- That front is the whole page, unless the bytes read are more than pages may have.
+abbrev pub IsWhole : Option (List ℕ) → Option (List ℕ) → Sums → Type 0
+IsWhole page left sums = sums.bytes ≤ 268435456 → IfSome page (λ b. left ≡ Some [])
+
+-- a page of this number, with these bytes, has this root
+abbrev pub IsRoot : ℕ → List ℕ → Bor Element → Type 0
+IsRoot n b e = page_with b 256 (tree_of e.now) × AreAll n (pages_of e.now)
+
+-- these are the roots of pages with these bytes, numbered on from this number
+abbrev pub AreRoots : ℕ → List (List ℕ) → List (Bor Element) → Type 0
+AreRoots n [] [] = Unit {0}
+AreRoots n (b ∷ bs) (e ∷ es) = IsRoot n b e × AreRoots (suc n) bs es
+AreRoots n bs es = ⊥
+
+-- the forest gained the page of this number with these bytes: its root or its break
+pub record HasGained (n : ℕ) (b : List ℕ) (old new : Forest) : Type 0 where
+  pub found : new.found ≡ old.found ++ text_fault n b
+  pub root : w b 256 ≡ None → (e : Bor Element) × (new.roots.items ≡ old.roots.items ++ e ∷ []) × IsRoot n b e
+
+-- pages of these bytes were read, whole and no others
+pub record HasRead (bs : List (List ℕ)) (f : Forest) : Type 0 where
+  pub bytes : f.sums.bytes ≡ bytes_in bs
+  pub tags : f.sums.tags ≡ all_tags_in bs
+  pub found : f.found ≡ text_faults 0 bs
+  pub roots : text_faults 0 bs ≡ [] → AreRoots 0 bs f.roots.items
+
+-- Of a page a front was read, and it was built in, unless the bytes read are more than pages may have.
+pub record ReadsOn (page left : Option (List ℕ)) (n : ℕ) (old new : Forest) : Type 0 where
+  pub front : List ℕ
+  pub bytes : new.sums.bytes ≡ old.sums.bytes + length front
+  pub tags : new.sums.tags ≡ old.sums.tags + tags_in front
+  pub told : IfSome page (λ b. (rest : List ℕ) × (b ≡ front ++ rest) × (left ≡ Some rest))
+  pub whole : IsWhole page left new.sums
+  pub gained : new.sums.bytes ≤ 268435456 → HasGained n front old new
+
+-- So many of the pages of these names were read, and these names are left.
+pub record HasReadSome (page : List ℕ → Option (List ℕ)) (names rest : List (List ℕ)) (n : ℕ) (f : Forest) : Type 0 where
+  pub front : List (List ℕ)
+  pub splits : names ≡ front ++ rest
+  pub bs : List (List ℕ)
+  pub count : length bs ≡ n
+  pub read : HasRead bs f
+  pub front_is : IfSome (told page front) (λ all. all ≡ bs)
+  pub told_is : IfSome (told page names) (λ all. (more : List (List ℕ)) × (all ≡ bs ++ more) × (told page rest ≡ Some more))
+
+-- What the forest tells of pages: the size rule that they break; where they break none, they are what was read.
+pub record IsRead (bs : List (List ℕ)) (f : Forest) : Type 0 where
+  pub size : set_rule bs ≡ size_rule f.sums.bytes f.sums.tags
+  pub read : size_rule f.sums.bytes f.sums.tags ≡ None → HasRead bs f
+
+-- As many pages as there are names were read, unless they break a size rule.
+abbrev pub IsSound : List (List ℕ) → Forest → Type 0
+IsSound names f = size_rule f.sums.bytes f.sums.tags ≡ None → (bs : List (List ℕ)) × HasRead bs f × (length bs ≤ length names)
+
+-- The page that was asked for last is one of these. Those before it, where the source tells them, don't have more bytes than
+-- pages may have.
+pub record IsAmong (page : List ℕ → Option (List ℕ)) (names : List (List ℕ)) (asked : Option (List ℕ)) (name : List ℕ) : Type 0 where
+  pub front : List (List ℕ)
+  pub back : List (List ℕ)
+  pub splits : names ≡ front ++ name ∷ back
+  pub asked_is : IfSome asked (λ n. n ≡ name)
+  pub within : IfSome (told page front) (λ bs. bytes_in bs ≤ 268435456)
+
+-- The same, with these names behind it. Of the pages up to it, where the source tells them, at most the limit and one
+-- buffer was read.
+pub record IsLast (page : List ℕ → Option (List ℕ)) (names back : List (List ℕ)) (left asked : Option (List ℕ)) : Type 0 where
+  pub front : List (List ℕ)
+  pub name : List ℕ
+  pub splits : names ≡ front ++ name ∷ back
+  pub asked_is : IfSome asked (λ n. n ≡ name)
+  pub within : IfSome (told page front) (λ bs. bytes_in bs ≤ 268435456)
+  pub most : IfSome (told page (front ++ name ∷ [])) (λ bs. IfSome left (λ rest. bytes_in bs ≤ length rest + (268435456 + 65536)))
+
+-- Reading stopped in time: at the last of these pages, unless they have together, where the source tells them, more bytes
+-- than pages may have.
+abbrev pub StopsInTime : (List ℕ → Option (List ℕ)) → List (List ℕ) → (left asked : Option (List ℕ)) → Type 0
+StopsInTime page names left asked =
+    (back : List (List ℕ)) × IsLast page names back left asked
+    × ((back ≡ []) ⊎ IfSome (told page names) (λ bs. 268435456 < bytes_in bs))
+
+-- why reading the page of this name ended before its end: it can't be read, and the line names it, or memory was wanted
+abbrev pub StopsAt : List ℕ → Option (List ℕ) → (before now : ℕ) → Stopped → Type 0
+StopsAt name asked before now (stopped.Failed line) =
+    (before < now) × IfSome asked (λ n. n ≡ name) × (line.items ≡ cannot_read_line name)
+StopsAt name asked before now stopped.NoMemory = now ≡ before
+
+-- the same of one of these pages
+abbrev pub WhyStopped : (List ℕ → Option (List ℕ)) → List (List ℕ) → Option (List ℕ) → (before now : ℕ) → Stopped → Type 0
+WhyStopped page names asked before now (stopped.Failed line) =
+    (before < now) × ((name : List ℕ) × IsAmong page names asked name × (line.items ≡ cannot_read_line name))
+WhyStopped page names asked before now stopped.NoMemory = now ≡ before

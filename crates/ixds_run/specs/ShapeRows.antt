@@ -2,7 +2,7 @@
 use Rattle.std.specs.Prelude.{ℕ, List, [], ◌∷◌, codes}
 use Rattle.ix_base.specs.Trees.{Valued, Head, Nodes, none, chars, elem, Tree}
 use Rattle.ix_base.specs.declared.content.Content.{Content}
-use Rattle.instance_out.specs.Writable.{one_fact}
+use Rattle.ixds_run.specs.OneFact.{one_fact}
 use Rattle.ixds_run.specs.FirstShape.{attribute, space}
 
 abbrev pub head_with : (ns local : List ℕ) → List Valued → Head

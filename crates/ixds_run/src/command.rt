@@ -1,15 +1,18 @@
-//! The words of the command line.
-ghost use Rattle.std.specs.Prelude.{◌≡◌, ◌∷◌, [], ◌≤◌, length, IsTrue, IfOk, IfSome};
-ghost use Rattle.std.specs.List.{list_all};
-ghost use Rattle.ixds_run.specs.Commands.{may_stand_in_name, HasOnePage, dir_of, page_of};
+//! What the words of a command line ask for.
+ghost use Rattle.std.specs.Prelude.{◌≡◌, IfOk, IfSome, Some, map, option_and_then, option_map};
 ghost use Rattle.ixds_run.specs.Commands as spec;
-ghost use Rattle.ixds_run.specs.declared.command.Command.TheVariants.{Extract};
+ghost use Rattle.ixds_run.specs.Simple.{check_app, extract_app, rows_of_matches, rows_taken};
 
 use base::is_base;
+use clap::ArgMatches;
 use ix_base::{List, NoMemory, Text};
+use names::are_pages;
+use simple::{check_words, extract_words, matched};
 use std::alloc::Global;
 
 mod base;
+mod names;
+mod simple;
 #[cfg(test)]
 mod tests;
 
@@ -18,99 +21,156 @@ mod tests;
 pub enum Command {
     /// To extract pages into a directory: the base that links are joined to, the directory, and the names of the pages.
     Extract(Text, Text, List<Text>),
+    /// To tell what extracting would: the base, and the names of the pages.
+    Check(Text, List<Text>),
 }
 
 impl Command {
-    /// The directory word.
-    pub(crate) fn dir(&self) -> &str
-        ensures { result.now ≡ dir_of self.now }
+    /// The names of the pages.
+    pub fn pages(&self) -> &[Text]
+        ensures { result.now ≡ spec.pages_of self.now }
     {
         match self {
-            Command::Extract(_, dir, _) => dir.as_str(),
+            Command::Extract(_, _, pages) => pages.as_slice(),
+            Command::Check(_, pages) => pages.as_slice(),
         }
     }
 
-    /// The name of the one page.
-    pub(crate) fn page(&self) -> &str
-        requires { HasOnePage self.now }
-        ensures { result.now ≡ page_of self.now }
+    /// The base that links are joined to.
+    pub fn base(&self) -> &str
+        ensures { result.now ≡ spec.base_of self.now }
     {
         match self {
-            Command::Extract(_, _, pages) => pages.as_slice()[0].as_str(),
+            Command::Extract(base, _, _) => base.as_str(),
+            Command::Check(base, _) => base.as_str(),
+        }
+    }
+
+    /// The directory word, where there is one.
+    pub fn dir(&self) -> Option<&str>
+        ensures { option_map (λ s. s.now) result ≡ spec.dir_of self.now }
+    {
+        match self {
+            Command::Extract(_, dir, _) => Some(dir.as_str()),
+            Command::Check(_, _) => None,
         }
     }
 }
 
-fn all_may_stand(name: &[u8]) -> bool
-    ensures { result ≡ list_all may_stand_in_name name.now }
+/// Copies of the words.
+fn copied(alloc: Global, words: &[&str]) -> Result<Vec<Text>, NoMemory>
+    ensures { IfOk result (λ v. v.items ≡ map (λ s. s.now) words.now) }
 {
-    name.iter().all(|b| *b >= 32 && *b != 127)
+    let mut texts = Vec::new(alloc);
+    for word in words {
+        let text = Text::of(alloc, word)?;
+        texts.push(text)?;
+    }
+    Ok(texts)
 }
 
-fn is_page_name(name: &str) -> bool
-    ensures value { result ≡ spec.is_page_name name.now }
-    ensures short { IsTrue result → length name.now ≤ 4096 }
+/// The extraction that these words name, where they may stand for its parts.
+fn extract_from(
+    alloc: Global,
+    base: &str,
+    dir: &str,
+    words: &[&str],
+) -> Result<Option<Command>, NoMemory>
+    ensures { IfOk result (λ r. r ≡ spec.extract_from (Some base.now) (Some dir.now) (Some (map (λ s. s.now) words.now))) }
 {
-    !name.is_empty() && name.len() <= 4096 && all_may_stand(name.as_bytes())
+    let is_base = is_base(alloc, base)?;
+    let pages = copied(alloc, words)?;
+    if is_base && !dir.is_empty() && are_pages(pages.as_slice()) {
+        let base = Text::of(alloc, base)?;
+        let dir = Text::of(alloc, dir)?;
+        return Ok(Some(Command::Extract(base, dir, List::of(pages))));
+    }
+    Ok(None)
 }
 
-/// The command that the words of the command line give, without the program's name, or none where they give none.
-pub fn command_of(alloc: Global, words: &[Text]) -> Result<Option<Command>, NoMemory>
-    ensures value { IfOk result (λ c. c ≡ spec.command_of words.now) }
-    ensures page { IfOk result (λ o. IfSome o HasOnePage) }
+/// The check that these words name, where they may stand for its parts.
+fn check_from(alloc: Global, base: &str, words: &[&str]) -> Result<Option<Command>, NoMemory>
+    ensures { IfOk result (λ r. r ≡ spec.check_from (Some base.now) (Some (map (λ s. s.now) words.now))) }
 {
-    let [word, base, url, out, dir, page] = words else {
+    let is_base = is_base(alloc, base)?;
+    let pages = copied(alloc, words)?;
+    if is_base && are_pages(pages.as_slice()) {
+        let base = Text::of(alloc, base)?;
+        return Ok(Some(Command::Check(base, List::of(pages))));
+    }
+    Ok(None)
+}
+
+/// What the matches of `extract` ask for.
+fn extract_in(alloc: Global, matches: &ArgMatches) -> Result<Option<Command>, NoMemory>
+    ensures { IfOk result (λ r. r ≡ spec.extract_in (rows_of_matches matches.now)) }
+{
+    let Some(base) = matches.get_str("base") else {
         return Ok(None);
     };
-    if is_extract(
-        alloc,
-        word.as_str(),
-        base.as_str(),
-        url.as_str(),
-        out.as_str(),
-        dir.as_str(),
-        page.as_str(),
-    )? {
-        let command = extract_of(alloc, url.as_str(), dir.as_str(), page.as_str())?;
-        Ok(Some(command))
-    } else {
-        Ok(None)
+    let Some(dir) = matches.get_str("out") else {
+        return Ok(None);
+    };
+    let Some(pages) = matches.get_strs("PAGE") else {
+        return Ok(None);
+    };
+    extract_from(alloc, base, dir, pages)
+}
+
+/// What the matches of `check` ask for.
+fn check_in(alloc: Global, matches: &ArgMatches) -> Result<Option<Command>, NoMemory>
+    ensures { IfOk result (λ r. r ≡ spec.check_in (rows_of_matches matches.now)) }
+{
+    let Some(base) = matches.get_str("base") else {
+        return Ok(None);
+    };
+    let Some(pages) = matches.get_strs("PAGE") else {
+        return Ok(None);
+    };
+    check_from(alloc, base, pages)
+}
+
+fn extract_of<'a>(alloc: Global, words: &'a [Text]) -> Result<Option<Command>, NoMemory>
+    ensures { IfOk result (λ r. r ≡ option_and_then spec.extract_in (rows_taken extract_app words.entry.now)) }
+{
+    let command = extract_words(alloc)?;
+    match matched(command, words)? {
+        Some(matches) => extract_in(alloc, &matches),
+        None => Ok(None),
     }
 }
 
-/// Whether the words ask to extract. The base is judged last, as it alone takes memory.
-#[tactic(auto, unfolding(crate::specs::Commands::is_extract))]
-fn is_extract(
-    alloc: Global,
-    word: &str,
-    base: &str,
-    url: &str,
-    out: &str,
-    dir: &str,
-    page: &str,
-) -> Result<bool, NoMemory>
-    ensures value { IfOk result (λ b. b ≡ spec.is_extract word.now base.now url.now out.now dir.now page.now) }
-    ensures short { IfOk result (λ b. IsTrue b → length page.now ≤ 4096) }
+fn check_of<'a>(alloc: Global, words: &'a [Text]) -> Result<Option<Command>, NoMemory>
+    ensures { IfOk result (λ r. r ≡ option_and_then spec.check_in (rows_taken check_app words.entry.now)) }
 {
-    if word == "extract"
-        && base == "--base"
-        && out == "--out"
-        && !dir.is_empty()
-        && is_page_name(page)
-    {
-        is_base(alloc, url)
-    } else {
-        Ok(false)
+    let command = check_words(alloc)?;
+    match matched(command, words)? {
+        Some(matches) => check_in(alloc, &matches),
+        None => Ok(None),
     }
 }
 
-fn extract_of(alloc: Global, url: &str, dir: &str, page: &str) -> Result<Command, NoMemory>
-    ensures { IfOk result (λ c. c ≡ Extract url.now dir.now (page.now ∷ [])) }
+/// The command that the first word picks, and the words from there on give.
+#[tactic(auto, unfolding(crate::specs::Commands::command_of))]
+fn picked(alloc: Global, words: &[Text]) -> Result<Option<Command>, NoMemory>
+    ensures { IfOk result (λ c. c ≡ spec.command_of words.now) }
 {
-    let base = Text::of(alloc, url)?;
-    let dir = Text::of(alloc, dir)?;
-    let page = Text::of(alloc, page)?;
-    let mut pages = List::new(alloc);
-    pages.push(page)?;
-    Ok(Command::Extract(base, dir, pages))
+    let [first, ..] = words else {
+        return Ok(None);
+    };
+    if first.as_str() == "extract" {
+        return extract_of(alloc, words);
+    }
+    if first.as_str() == "check" {
+        return check_of(alloc, words);
+    }
+    Ok(None)
+}
+
+/// The command that the words of a command line give, without the program's name, or none where they give none.
+pub fn command_of(alloc: Global, words: &[Text]) -> Result<Option<Command>, NoMemory>
+    ensures value { IfOk result (λ c. c ≡ spec.command_of words.now) }
+    ensures given { IfOk result (λ o. IfSome o spec.IsGiven) }
+{
+    picked(alloc, words)
 }

@@ -1,57 +1,94 @@
 //! Writing what is due.
-ghost use Rattle.std.specs.Prelude.{◌≡◌, ◌⊎◌, ◌+◌, ◌^◌, ◌<◌, [], OnOk, OnErr, IfSome};
+ghost use Rattle.std.specs.Prelude.{◌≡◌, ◌⊎◌, ◌+◌, ◌^◌, ◌<◌, ◌∷◌, [], List, ℕ, map, Option, None, Some, option_map, OnOk, OnErr, IfSome};
 ghost use Rattle.ix_base.specs.Outside.{TextGainsFront};
-ghost use Rattle.ixds_run.specs.Outcomes.{target_due, GainsAll, GainsPart, GainsText, summary_line};
+ghost use Rattle.ixds_run.specs.Gains.{AsksFor, GainsAll, GainsPart, GainsText};
+ghost use Rattle.ixds_run.specs.Outcomes.{outcome_of, ready, ready_under, status_of};
+ghost use Rattle.ixds_run.specs.declared.status.Status.TheVariants as status;
 
 use crate::Status;
-use crate::lines::summary;
-use instance_out::{Prepared, write};
+use crate::due::{Due, DueTarget};
+use instance_out::write;
 use ix_base::{Failed, TargetSink, TextSink};
 
-/// Writes the default target.
-fn put_target<S: TargetSink>(prepared: &Prepared, dir: &str, sink: &mut S) -> Result<(), Failed>
+/// Writes a target.
+fn put_target<S: TargetSink>(target: &DueTarget, dir: &str, sink: &mut S) -> Result<(), Failed>
     requires { S.faults sink.old + 1 < 2 ^ 64 }
-    ensures ok { OnOk result (GainsAll (target_due dir.now prepared.now) (S.targets sink.old) (S.targets sink.new)) }
-    ensures err { OnErr result (GainsPart (target_due dir.now prepared.now) (S.targets sink.old) (S.targets sink.new)) }
+    ensures ok { OnOk result (GainsAll (ready dir.now target.now ∷ []) (S.targets sink.old) (S.targets sink.new)) }
+    ensures err { OnErr result (GainsPart (ready dir.now target.now ∷ []) (S.targets sink.old) (S.targets sink.new)) }
     ensures faults { OnOk result (S.faults sink.new ≡ S.faults sink.old) }
     ensures failed { OnErr result (S.faults sink.old < S.faults sink.new) }
-    ensures words { IfSome (S.asked sink.new) (λ w. w ≡ (dir.now, [])) }
+    ensures words { IfSome (S.asked sink.new) (λ w. w ≡ (dir.now, target.now.name)) }
 {
-    sink.begin(dir, "")?;
-    write(prepared, sink)?;
+    sink.begin(dir, target.name.as_str())?;
+    write(&target.prepared, sink)?;
     sink.finish()
 }
 
-/// Writes the default target and then the summary.
+/// Writes targets, one behind another.
+fn put_targets<S: TargetSink>(targets: &[DueTarget], dir: &str, sink: &mut S) -> Result<(), Failed>
+    requires { S.faults sink.old + 1 < 2 ^ 64 }
+    ensures ok { OnOk result (GainsAll (map (ready dir.now) targets.now) (S.targets sink.old) (S.targets sink.new)) }
+    ensures err { OnErr result (GainsPart (map (ready dir.now) targets.now) (S.targets sink.old) (S.targets sink.new)) }
+    ensures faults { OnOk result (S.faults sink.new ≡ S.faults sink.old) }
+    ensures failed { OnErr result (S.faults sink.old < S.faults sink.new) }
+    ensures none { targets.now ≡ [] → sink.new ≡ sink.old }
+    ensures asked { OnErr result (IfSome (S.asked sink.new) (AsksFor (map (ready dir.now) targets.now))) }
+{
+    for target in targets {
+        put_target(target, dir, sink)?;
+    }
+    Ok(())
+}
+
+/// Writes the targets that are due, where there is a directory word.
+fn put_due<S: TargetSink>(due: &Due, dir: Option<&str>, sink: &mut S) -> Result<(), Failed>
+    requires { S.faults sink.old + 1 < 2 ^ 64 }
+    ensures ok { OnOk result (GainsAll (ready_under (option_map (λ s. s.now) dir.entry) due.now.targets.items) (S.targets sink.old) (S.targets sink.new)) }
+    ensures err { OnErr result (GainsPart (ready_under (option_map (λ s. s.now) dir.entry) due.now.targets.items) (S.targets sink.old) (S.targets sink.new)) }
+    ensures faults { OnOk result (S.faults sink.new ≡ S.faults sink.old) }
+    ensures failed { OnErr result (S.faults sink.old < S.faults sink.new) }
+    ensures no_dir { dir.entry ≡ None → sink.new ≡ sink.old }
+    ensures none { due.now.targets.items ≡ [] → sink.new ≡ sink.old }
+    ensures asked { OnErr result (IfSome (S.asked sink.new) (AsksFor (ready_under (option_map (λ s. s.now) dir.entry) due.now.targets.items))) }
+{
+    match dir {
+        Some(dir) => put_targets(due.targets.as_slice(), dir, sink),
+        None => Ok(()),
+    }
+}
+
+/// Writes the targets that are due, and then the text.
 pub fn deliver<S: TargetSink, T: TextSink>(
-    prepared: &Prepared,
-    dir: &str,
+    due: &Due,
+    dir: Option<&str>,
     sink: &mut S,
     out: &mut T,
 ) -> Status
     requires sink { S.faults sink.old + 1 < 2 ^ 64 }
     requires out { T.faults out.old + 1 < 2 ^ 64 }
-    ensures either { (result ≡ Status.Done) ⊎ (result ≡ Status.WriteFault) }
-    ensures done { result ≡ Status.Done
-        → GainsAll (target_due dir.now prepared.now) (S.targets sink.old) (S.targets sink.new) }
-    ensures told { result ≡ Status.Done → GainsText summary_line (T.taken out.old) (T.taken out.new) }
-    ensures quiet { result ≡ Status.Done
+    ensures either { (result ≡ status_of due.now.is_broken) ⊎ (result ≡ Status.WriteFault) }
+    ensures targets { result ≡ status_of due.now.is_broken
+        → GainsAll (ready_under (option_map (λ s. s.now) dir.entry) due.now.targets.items) (S.targets sink.old) (S.targets sink.new) }
+    ensures text { result ≡ status_of due.now.is_broken → GainsText due.now.text.items (T.taken out.old) (T.taken out.new) }
+    ensures quiet { result ≡ status_of due.now.is_broken
         → (S.faults sink.new ≡ S.faults sink.old) × (T.faults out.new ≡ T.faults out.old) }
-    ensures words { IfSome (S.asked sink.new) (λ w. w ≡ (dir.now, [])) }
     ensures cause { result ≡ Status.WriteFault
         → (S.faults sink.old < S.faults sink.new) ⊎ (T.faults out.old < T.faults out.new) }
     ensures part { result ≡ Status.WriteFault → S.faults sink.old < S.faults sink.new
         → (out.new ≡ out.old)
-        × GainsPart (target_due dir.now prepared.now) (S.targets sink.old) (S.targets sink.new) }
+        × GainsPart (ready_under (option_map (λ s. s.now) dir.entry) due.now.targets.items) (S.targets sink.old) (S.targets sink.new)
+        × IfSome (S.asked sink.new) (AsksFor (ready_under (option_map (λ s. s.now) dir.entry) due.now.targets.items)) }
     ensures all { result ≡ Status.WriteFault → S.faults sink.new ≡ S.faults sink.old
-        → GainsAll (target_due dir.now prepared.now) (S.targets sink.old) (S.targets sink.new)
-        × TextGainsFront summary_line (T.taken out.old) (T.taken out.new) }
+        → GainsAll (ready_under (option_map (λ s. s.now) dir.entry) due.now.targets.items) (S.targets sink.old) (S.targets sink.new)
+        × TextGainsFront due.now.text.items (T.taken out.old) (T.taken out.new) }
+    ensures no_dir { dir.entry ≡ None → sink.new ≡ sink.old }
+    ensures none { due.now.targets.items ≡ [] → sink.new ≡ sink.old }
 {
-    if put_target(prepared, dir, sink).is_err() {
+    if put_due(due, dir, sink).is_err() {
         return Status::WriteFault;
     }
-    match out.put(summary()) {
-        Ok(()) => Status::Done,
+    match out.put(due.text.as_slice()) {
+        Ok(()) => due.status(),
         Err(_) => Status::WriteFault,
     }
 }

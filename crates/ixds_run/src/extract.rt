@@ -1,24 +1,76 @@
-//! A command, from its page to its answer.
-ghost use Rattle.std.specs.Prelude.{◌≡◌, ◌⊎◌, ◌+◌, ◌^◌, ◌<◌, [], IfSome};
+//! A command, from its pages to its answer.
+ghost use Rattle.std.specs.Prelude.{◌≡◌, ◌⊎◌, ◌+◌, ◌^◌, ◌<◌, ◌≤◌, [], true, ℕ, List, IfOk, IfSome, None, Some};
 ghost use Rattle.ix_base.specs.Outside.{TextGainsFront};
-ghost use Rattle.ixds_run.specs.Commands.{HasOnePage, dir_of, page_of};
-ghost use Rattle.ixds_run.specs.Outcomes.{Gives, GivesPart, GivesFront, GainsText, NotServed, cannot_read_line, StopsInTime};
+ghost use Rattle.ixds_run.specs.Answers.{Answers};
+ghost use Rattle.ixds_run.specs.Commands.{IsGiven, base_of, dir_of, pages_of};
+ghost use Rattle.ixds_run.specs.Gains.{GainsText};
+ghost use Rattle.ixds_run.specs.Outcomes.{Gives, GivesFront, GivesPart, IsOutcome, SaysNothing, outcome_of};
+ghost use Rattle.ixds_run.specs.Reading.{IsRead, IsSound};
 
 use crate::Status;
-use crate::answer::answer;
 use crate::command::Command;
-use crate::lines::cannot_read;
-use crate::reading::{ReadError, read_page};
+use crate::deliver::deliver;
+use crate::due::{Due, ready};
+use crate::forest::{Forest, Stopped, read_all};
+use crate::judge::judge;
 use bumpalo::Bump;
-use ix_base::{PageSource, TargetSink, TextSink};
-use page_tree::TreeBuilder;
+use ix_base::{NoMemory, PageSource, TargetSink, TextSink};
 use std::alloc::Global;
 
-/// The most levels of elements of a page.
-const DEPTH: u32 = 256;
+/// What is due from a command whose pages were read.
+fn due_from(alloc: Global, command: &Command, forest: Forest) -> Result<Due, NoMemory>
+    requires given { IsGiven command.now }
+    requires sound { IsSound (pages_of command.now) forest }
+    ensures due { IfOk result (λ due. (bs : List (List ℕ)) → IsRead bs forest.entry → IsOutcome command.now bs (outcome_of (dir_of command.now) due)) }
+    ensures none { IfOk result (λ due. due.is_broken ≡ true → due.targets.items ≡ []) }
+    ensures nothing { IfOk result (λ due. (bs : List (List ℕ)) → IsRead bs forest.entry → SaysNothing command.now bs → due.targets.items ≡ []) }
+{
+    let verdict = judge(alloc, command.base(), command.pages(), forest)?;
+    ready(alloc, &verdict)
+}
 
-/// Reads the command's page and answers it. The line for a page that can't be read is made first, so that want of
-/// memory hides no read fault.
+/// Answers a command whose pages were read.
+pub fn answer<S: TargetSink, T: TextSink>(
+    alloc: Global,
+    command: &Command,
+    forest: Forest,
+    sink: &mut S,
+    out: &mut T,
+) -> Status
+    requires given { IsGiven command.now }
+    requires sound { IsSound (pages_of command.now) forest }
+    requires sink { S.faults sink.old + 1 < 2 ^ 64 }
+    requires out { T.faults out.old + 1 < 2 ^ 64 }
+    ensures other { ¬ (result ≡ Status.ReadFault) }
+    ensures usage { ¬ (result ≡ Status.Usage) }
+    ensures memory { result ≡ Status.NoMemory → (sink.new ≡ sink.old) × (out.new ≡ out.old) }
+    ensures done { result ≡ Status.Done → (bs : List (List ℕ)) → IsRead bs forest.entry
+        → Gives Status.Done (S.targets sink.old) (S.targets sink.new) (T.taken out.old) (T.taken out.new) command.now bs }
+    ensures broken { result ≡ Status.Broken → (bs : List (List ℕ)) → IsRead bs forest.entry
+        → Gives Status.Broken (S.targets sink.old) (S.targets sink.new) (T.taken out.old) (T.taken out.new) command.now bs }
+    ensures quiet { (result ≡ Status.Done) ⊎ (result ≡ Status.Broken)
+        → (S.faults sink.new ≡ S.faults sink.old) × (T.faults out.new ≡ T.faults out.old) }
+    ensures untouched { result ≡ Status.Broken → sink.new ≡ sink.old }
+    ensures check { dir_of command.now ≡ None → sink.new ≡ sink.old }
+    ensures nothing { (bs : List (List ℕ)) → IsRead bs forest.entry → SaysNothing command.now bs → sink.new ≡ sink.old }
+    ensures directory { result ≡ Status.WriteFault → S.faults sink.old < S.faults sink.new
+        → IfSome (S.asked sink.new) (λ words. dir_of command.now ≡ Some words.0) }
+    ensures cause { result ≡ Status.WriteFault
+        → (S.faults sink.old < S.faults sink.new) ⊎ (T.faults out.old < T.faults out.new) }
+    ensures part { result ≡ Status.WriteFault → S.faults sink.old < S.faults sink.new
+        → (out.new ≡ out.old) × ((bs : List (List ℕ)) → IsRead bs forest.entry
+        → GivesPart (S.targets sink.old) (S.targets sink.new) (S.asked sink.new) command.now bs) }
+    ensures all { result ≡ Status.WriteFault → S.faults sink.new ≡ S.faults sink.old
+        → (bs : List (List ℕ)) → IsRead bs forest.entry
+        → GivesFront (S.targets sink.old) (S.targets sink.new) (T.taken out.old) (T.taken out.new) command.now bs }
+{
+    match due_from(alloc, command, forest) {
+        Err(_) => Status::NoMemory,
+        Ok(due) => deliver(&due, command.dir(), sink, out),
+    }
+}
+
+/// Reads the command's pages and answers it.
 pub fn extract<P: PageSource, S: TargetSink, T: TextSink>(
     alloc: Global,
     command: &Command,
@@ -26,55 +78,40 @@ pub fn extract<P: PageSource, S: TargetSink, T: TextSink>(
     sink: &mut S,
     out: &mut T,
 ) -> Status
-    requires page { HasOnePage command.now }
+    requires given { IsGiven command.now }
     requires pages { P.faults pages.old + 1 < 2 ^ 64 }
     requires sink { S.faults sink.old + 1 < 2 ^ 64 }
     requires out { T.faults out.old + 1 < 2 ^ 64 }
-    ensures usage { ¬ (result ≡ Status.Usage) }
-    ensures memory { result ≡ Status.NoMemory → (sink.new ≡ sink.old) × (out.new ≡ out.old) }
-    ensures memory_pages { result ≡ Status.NoMemory → P.faults pages.new ≡ P.faults pages.old }
-    ensures done { result ≡ Status.Done → IfSome (P.page pages.old (page_of command.now))
-        (Gives Status.Done (S.targets sink.old) (S.targets sink.new) (T.taken out.old) (T.taken out.new)
-        command.now) }
-    ensures broken { result ≡ Status.Broken → IfSome (P.page pages.old (page_of command.now))
-        (Gives Status.Broken (S.targets sink.old) (S.targets sink.new) (T.taken out.old) (T.taken out.new)
-        command.now) }
-    ensures untouched { result ≡ Status.Broken → sink.new ≡ sink.old }
-    ensures broken_page { IfSome (P.page pages.old (page_of command.now)) (λ b. NotServed b → sink.new ≡ sink.old) }
-    ensures named { (pages.new ≡ pages.old) ⊎ IfSome (P.asked pages.new) (λ n. n ≡ page_of command.now) }
-    ensures pages { P.page pages.new ≡ P.page pages.old }
-    ensures stops { (result ≡ Status.Done) ⊎ (result ≡ Status.Broken)
-        → StopsInTime (P.page pages.old (page_of command.now)) (P.left pages.new) }
-    ensures quiet { result ≡ Status.Done → (P.faults pages.new ≡ P.faults pages.old)
-        × (S.faults sink.new ≡ S.faults sink.old) × (T.faults out.new ≡ T.faults out.old) }
-    ensures quiet_broken { result ≡ Status.Broken
-        → (P.faults pages.new ≡ P.faults pages.old) × (T.faults out.new ≡ T.faults out.old) }
-    ensures quiet_read { result ≡ Status.ReadFault → T.faults out.new ≡ T.faults out.old }
-    ensures words { result ≡ Status.WriteFault → S.faults sink.old < S.faults sink.new
-        → IfSome (S.asked sink.new) (λ w. w ≡ (dir_of command.now, [])) }
-    ensures read { result ≡ Status.ReadFault → (P.faults pages.old < P.faults pages.new) × (sink.new ≡ sink.old)
-        × GainsText (cannot_read_line (page_of command.now)) (T.taken out.old) (T.taken out.new) }
-    ensures cause { result ≡ Status.WriteFault
-        → (S.faults sink.old < S.faults sink.new) ⊎ (T.faults out.old < T.faults out.new) }
-    ensures part { result ≡ Status.WriteFault → S.faults sink.old < S.faults sink.new
-        → (out.new ≡ out.old) × IfSome (P.page pages.old (page_of command.now))
-        (GivesPart (S.targets sink.old) (S.targets sink.new) command.now) }
-    ensures all { result ≡ Status.WriteFault → S.faults sink.new ≡ S.faults sink.old
-        → P.faults pages.new ≡ P.faults pages.old → IfSome (P.page pages.old (page_of command.now))
-        (GivesFront (S.targets sink.old) (S.targets sink.new) (T.taken out.old) (T.taken out.new) command.now) }
-    ensures line { result ≡ Status.WriteFault → P.faults pages.old < P.faults pages.new
-        → (sink.new ≡ sink.old)
-        × TextGainsFront (cannot_read_line (page_of command.now)) (T.taken out.old) (T.taken out.new) }
+    ensures { Answers (Some command.now)
+        (record {
+          page = P.page pages.old;
+          left = P.left pages.old;
+          page_asked = P.asked pages.old;
+          page_faults = P.faults pages.old;
+          targets = S.targets sink.old;
+          target_asked = S.asked sink.old;
+          target_faults = S.faults sink.old;
+          taken = T.taken out.old;
+          text_faults = T.faults out.old;
+        })
+        (record {
+          page = P.page pages.new;
+          left = P.left pages.new;
+          page_asked = P.asked pages.new;
+          page_faults = P.faults pages.new;
+          targets = S.targets sink.new;
+          target_asked = S.asked sink.new;
+          target_faults = S.faults sink.new;
+          taken = T.taken out.new;
+          text_faults = T.faults out.new;
+        })
+        (pages.new ≡ pages.old) (sink.new ≡ sink.old) (out.new ≡ out.old) result }
 {
-    let Ok(line) = cannot_read(alloc, command.page()) else {
-        return Status::NoMemory;
-    };
     let arena = Bump::new(alloc);
-    let mut builder = TreeBuilder::new(alloc, &arena, 0, DEPTH);
-    match read_page(alloc, pages, command.page(), &mut builder) {
-        Err(ReadError::NoMemory) => Status::NoMemory,
-        Err(ReadError::Failed) => put_read_fault(line.as_slice(), out),
-        Ok(sums) => answer(alloc, command, sums, builder, sink, out),
+    match read_all(alloc, &arena, pages, command.pages()) {
+        Err(Stopped::NoMemory) => Status::NoMemory,
+        Err(Stopped::Failed(line)) => put_read_fault(line.as_slice(), out),
+        Ok(forest) => answer(alloc, command, forest, sink, out),
     }
 }
 

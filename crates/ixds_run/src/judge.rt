@@ -1,30 +1,23 @@
-//! What a page says, or the rule that it breaks.
-ghost use Rattle.std.specs.Prelude.{◌≡◌, ℕ, List, IfOk};
-ghost use Rattle.ix_base.specs.Trees.{tree_of};
-ghost use Rattle.page_tree.specs.Standing.{limit};
-ghost use Rattle.ixds_run.specs.Judging.{IsVerdict, IsTreeVerdict, CanBeAnswered};
-ghost use Rattle.ixds_run.specs.Outcomes.{size_rule, on_first};
-ghost use Rattle.ixds_run.specs.Reading.{IsRead};
+//! What pages that were read say, or the rules that they break.
+ghost use Rattle.std.specs.Prelude.{◌≡◌, ◌∷◌, [], ◌<◌, ◌≤◌, ℕ, List, All, None, length, map, IfOk, ◌≢◌};
+ghost use Rattle.std.specs.Borrow.{Bor};
+ghost use Rattle.ix_base.specs.Trees.{Tree, tree_of};
+ghost use Rattle.ixds_run.specs.Sizes.{size_rule};
+ghost use Rattle.ixds_run.specs.Made.{CanBeWritten, IsReport, Made};
+ghost use Rattle.ixds_run.specs.Outcomes.{AreTrees, Says};
+ghost use Rattle.ixds_run.specs.Reading.{HasRead, IsRead, IsSound};
+ghost use Rattle.ixds_run.specs.Told.{on_page, text_faults};
 
+use crate::forest::Forest;
+use crate::made::{Verdict, made, reported};
 use crate::reading::{MOST_BYTES, Sums};
-use crate::shape::first_shape;
-use ix_base::{Content, Element, Found, NoMemory, Place, Rule};
-use page_tree::{PageFault, TreeBuilder};
+use ix_base::{Breaches, NoMemory, Place, Rule, Text};
 use std::alloc::Global;
 
-/// The most bytes `<` of a page.
+/// The most bytes `<` of the pages together.
 const MOST_TAGS: u64 = 8_388_608;
 
-/// What a page is found to be.
-#[derive(Drop)]
-pub enum Verdict {
-    /// It breaks a rule.
-    Breaks(Found),
-    /// It says this.
-    Says(Content),
-}
-
-/// The size rule that a page with these sums breaks.
+/// The size rule that pages with these sums break.
 fn size_rule_of(sums: Sums) -> Option<Rule>
     ensures { result ≡ size_rule sums.bytes sums.tags }
 {
@@ -37,39 +30,49 @@ fn size_rule_of(sums: Sums) -> Option<Rule>
     }
 }
 
-/// A rule that the page breaks at this offset.
-fn on_page(offset: u64, rule: Rule) -> Found
-    ensures { result ≡ on_first offset rule }
+/// The report of a size rule.
+fn too_large(alloc: Global, names: &[Text], rule: Rule) -> Result<Verdict, NoMemory>
+    requires some { 0 < length names.now }
+    ensures report { IfOk result (IsReport names.now (on_page 0 0 rule ∷ [])) }
+    ensures written { IfOk result CanBeWritten }
 {
-    Found {
-        place: Place { page: 0, offset },
-        rule,
-    }
+    let mut found = Breaches::new(alloc);
+    found.add(Place { page: 0, offset: 0 }, rule)?;
+    reported(found, names)
 }
 
-/// The verdict on a page of this tree.
-fn judge_tree(alloc: Global, root: &Element<'_>) -> Result<Verdict, NoMemory>
-    ensures verdict { IfOk result (IsTreeVerdict (tree_of root.now)) }
-    ensures answer { IfOk result CanBeAnswered }
+/// What pages say that break no size rule.
+fn judge_kept(
+    alloc: Global,
+    base: &str,
+    names: &[Text],
+    forest: Forest,
+) -> Result<Verdict, NoMemory>
+    requires some { 0 < length names.now }
+    requires most { length names.now ≤ 64 }
+    requires read { (bs : List (List ℕ)) × HasRead bs forest × (length bs ≤ length names.now) }
+    ensures broken { (bs : List (List ℕ)) → HasRead bs forest.entry → text_faults 0 bs ≢ []
+        → IfOk result (IsReport names.now (text_faults 0 bs)) }
+    ensures made { (bs : List (List ℕ)) → HasRead bs forest.entry → text_faults 0 bs ≡ []
+        → IfOk result (λ v. (trees : List Tree) × AreTrees bs trees × Made base.now names.now trees v) }
+    ensures written { IfOk result CanBeWritten }
 {
-    match first_shape(alloc, root)? {
-        Some(content) => Ok(Verdict::Says(content)),
-        None => Ok(Verdict::Breaks(on_page(root.place.offset, Rule::U2))),
+    if forest.found.is_empty() {
+        return made(alloc, base, names, forest.roots.as_slice());
     }
+    reported(forest.found, names)
 }
 
-/// The verdict on a page that was read. A page that breaks a size rule isn't asked for its tree.
-pub fn judge(alloc: Global, sums: Sums, builder: TreeBuilder<'_>) -> Result<Verdict, NoMemory>
-    requires { limit builder ≡ 256 }
-    ensures verdict { IfOk result (λ v. (b : List ℕ) → IsRead sums builder.entry b → IsVerdict b v) }
-    ensures answer { IfOk result CanBeAnswered }
+/// What pages say that were read.
+pub fn judge(alloc: Global, base: &str, names: &[Text], forest: Forest) -> Result<Verdict, NoMemory>
+    requires some { 0 < length names.now }
+    requires most { length names.now ≤ 64 }
+    requires sound { IsSound names.now forest }
+    ensures says { IfOk result (λ v. (bs : List (List ℕ)) → IsRead bs forest.entry → Says base.now names.now bs v) }
+    ensures written { IfOk result CanBeWritten }
 {
-    if let Some(rule) = size_rule_of(sums) {
-        return Ok(Verdict::Breaks(on_page(0, rule)));
-    }
-    match builder.finish() {
-        Ok(root) => judge_tree(alloc, root),
-        Err(PageFault::Broken { offset, rule }) => Ok(Verdict::Breaks(on_page(offset, rule))),
-        Err(PageFault::NoMemory) => Err(NoMemory),
+    match size_rule_of(forest.sums) {
+        Some(rule) => too_large(alloc, names, rule),
+        None => judge_kept(alloc, base, names, forest),
     }
 }

@@ -1,25 +1,18 @@
 //! The lines that `out` takes, each with its line feed.
-ghost use Rattle.std.specs.Prelude.{◌≡◌, ◌++◌, IfOk};
-ghost use Rattle.ixds_run.specs.Outcomes.{usage_line, summary_line, cannot_read_line};
+ghost use Rattle.std.specs.Prelude.{◌≡◌, ◌⊎◌, ◌+◌, ◌^◌, ◌<◌, ◌++◌, IfOk};
+ghost use Rattle.ix_base.specs.Outside.{TextGainsFront};
+ghost use Rattle.ixds_run.specs.Gains.{GainsText};
+ghost use Rattle.ixds_run.specs.Texts.{cannot_read_line};
+ghost use Rattle.ixds_run.specs.Outcomes.{summary_of};
+ghost use Rattle.ixds_run.specs.Texts.{usage_text};
 
+use crate::Status;
+use crate::made::Target;
+use ix_base::TextSink;
 use std::alloc::{AllocError, Global};
 
-#[tactic(auto, unfolding(crate::specs::Outcomes::usage_line))]
-pub fn usage() -> &'static [u8]
-    ensures { result.now ≡ usage_line }
-{
-    b"usage: ixds extract --base URL --out DIR PAGE\n"
-}
-
-#[tactic(auto, unfolding(crate::specs::Outcomes::summary_line))]
-pub fn summary() -> &'static [u8]
-    ensures { result.now ≡ summary_line }
-{
-    b"(default): 1 facts, 0 tuples, 1 contexts, 0 units, 0 footnotes\n"
-}
-
 /// The line for a page that can't be read.
-#[tactic(auto, unfolding(crate::specs::Outcomes::cannot_read_line))]
+#[tactic(auto, unfolding(crate::specs::Texts::cannot_read_line))]
 pub fn cannot_read(alloc: Global, page: &str) -> Result<Vec<u8>, AllocError>
     ensures { IfOk result (λ v. v.items ≡ cannot_read_line page.now) }
 {
@@ -34,4 +27,35 @@ fn joined(alloc: Global, a: &[u8], b: &[u8], c: &[u8]) -> Result<Vec<u8>, AllocE
     v.extend_from_slice(b)?;
     v.extend_from_slice(c)?;
     Ok(v)
+}
+
+/// The lines of the summary.
+#[tactic(auto, unfolding(crate::specs::Texts::summary_line, crate::specs::Outcomes::summary_of))]
+pub fn summary(alloc: Global, _targets: &[Target]) -> Result<Vec<u8>, AllocError>
+    ensures { IfOk result (λ v. v.items ≡ summary_of _targets.now) }
+{
+    b"(default): 1 facts, 0 tuples, 1 contexts, 0 units, 0 footnotes\n".to_vec(alloc)
+}
+
+/// How the program is used.
+#[tactic(auto, unfolding(crate::specs::Texts::usage_text))]
+fn usage() -> &'static [u8]
+    ensures { result.now ≡ usage_text }
+{
+    b"usage: ixds extract --base URL --out DIR PAGE...\n       ixds check --base URL PAGE...\n"
+}
+
+/// Tells how the program is used.
+pub fn put_usage<T: TextSink>(out: &mut T) -> Status
+    requires { T.faults out.old + 1 < 2 ^ 64 }
+    ensures either { (result ≡ Status.Usage) ⊎ (result ≡ Status.WriteFault) }
+    ensures usage { result ≡ Status.Usage → GainsText usage_text (T.taken out.old) (T.taken out.new) }
+    ensures quiet { result ≡ Status.Usage → T.faults out.new ≡ T.faults out.old }
+    ensures cause { result ≡ Status.WriteFault → T.faults out.old < T.faults out.new }
+    ensures front { result ≡ Status.WriteFault → TextGainsFront usage_text (T.taken out.old) (T.taken out.new) }
+{
+    match out.put(usage()) {
+        Ok(()) => Status::Usage,
+        Err(_) => Status::WriteFault,
+    }
 }

@@ -1,14 +1,14 @@
 //! Reading a page into a builder of its tree.
-ghost use Rattle.std.specs.Prelude.{◌≡◌, ◌+◌, ◌^◌, ◌<◌, ◌≤◌, [], ℕ, List, length, vec_len, true, false};
+ghost use Rattle.std.specs.Prelude.{◌≡◌, ◌+◌, ◌^◌, ◌<◌, ◌≤◌, [], ℕ, List, Option, length, vec_len, true, false};
 ghost use Rattle.std.specs.Prelude.{IsTrue, IsErrOf, IfOk, IfSome, OnOk};
-ghost use Rattle.page_tree.specs.Standing.{StandsFor, fed_bytes, limit};
-ghost use Rattle.ixds_run.specs.Outcomes.{StopsInTime, tags_in};
-ghost use Rattle.ixds_run.specs.Reading.{HasRead, IsRead};
+ghost use Rattle.page_tree.specs.Standing.{StandsFor, fed_bytes, limit, page_number};
+ghost use Rattle.ixds_run.specs.Sizes.{tags_in};
+ghost use Rattle.ixds_run.specs.Reading.{HasFed, IsWhole};
+ghost use Rattle.ixds_run.specs.declared.reading.Sums.{Sums as SumsOf};
 ghost use Rattle.ixds_run.specs.declared.reading.ReadError.TheVariants.{Failed as ReadFailed, NoMemory as ReadNoMemory};
 
 use ix_base::PageSource;
 use page_tree::TreeBuilder;
-use std::alloc::{AllocError, Global};
 use thiserror::Error;
 
 /// Why a page was not read.
@@ -27,17 +27,8 @@ pub struct Sums {
     pub tags: u64,
 }
 
-/// The most bytes of a page.
+/// The most bytes of the pages together.
 pub const MOST_BYTES: u64 = 268_435_456;
-
-/// How many bytes a read asks for at most.
-const BUFFER: usize = 65_536;
-
-fn zeros(alloc: Global, n: usize) -> Result<Vec<u8>, AllocError>
-    ensures { IfOk result (λ v. vec_len v ≡ n) }
-{
-    vec![in alloc; 0u8; n]
-}
 
 /// How many bytes of a piece are `<`.
 fn count_tags(piece: &[u8]) -> u64
@@ -57,17 +48,18 @@ fn read_piece<P: PageSource>(
     requires count { P.faults pages.old + 1 < 2 ^ 64 }
     requires started { IsTrue (P.started pages.old) }
     requires room { 0 < length buffer.old }
-    requires fed { fed_bytes builder.old ≡ sums.old.bytes }
+    requires fed { fed_bytes builder.old ≤ sums.old.bytes }
     requires tags { sums.old.tags ≤ sums.old.bytes }
     requires most { sums.old.bytes + length buffer.old < 2 ^ 64 }
-    ensures reads { OnOk result ((b : List ℕ) → HasRead b (P.left pages.old) builder.old sums.old
-        → HasRead b (P.left pages.new) builder.new sums.new) }
+    ensures reads { OnOk result ((page : Option (List ℕ)) (before : SumsOf) → HasFed page (P.left pages.old) builder.old before sums.old
+        → HasFed page (P.left pages.new) builder.new before sums.new) }
     ensures end { IfOk result (λ more. more ≡ false → IfSome (P.left pages.new) (λ rest. rest ≡ [])) }
     ensures grows { IfOk result (λ more. more ≡ true → sums.old.bytes < sums.new.bytes) }
     ensures most { OnOk result (sums.new.bytes ≤ sums.old.bytes + length buffer.old) }
-    ensures fed { OnOk result (fed_bytes builder.new ≡ sums.new.bytes) }
+    ensures fed { OnOk result (fed_bytes builder.new ≤ sums.new.bytes) }
     ensures tags { OnOk result (sums.new.tags ≤ sums.new.bytes) }
     ensures limit { OnOk result (limit builder.new ≡ limit builder.old) }
+    ensures page { OnOk result (page_number builder.new ≡ page_number builder.old) }
     ensures started { OnOk result (P.started pages.new ≡ P.started pages.old) }
     ensures asked { P.asked pages.new ≡ P.asked pages.old }
     ensures pages { P.page pages.new ≡ P.page pages.old }
@@ -88,22 +80,29 @@ fn read_piece<P: PageSource>(
     Ok(n > 0)
 }
 
-/// Reads a page into a builder that was given nothing. It stops once it has read more than the limit.
+/// Reads a page into a builder that was given nothing, and adds to the sums. It stops once these have passed the limit.
 pub fn read_page<P: PageSource>(
-    alloc: Global,
     pages: &mut P,
     name: &str,
+    buffer: &mut [u8],
     builder: &mut TreeBuilder<'_>,
-) -> Result<Sums, ReadError>
+    sums: &mut Sums,
+) -> Result<(), ReadError>
     requires count { P.faults pages.old + 1 < 2 ^ 64 }
     requires name { length name.now ≤ 4096 }
+    requires room { length buffer.old ≡ 65536 }
     requires fresh { StandsFor builder.old [] }
     requires fed { fed_bytes builder.old ≡ 0 }
-    ensures read { IfOk result (λ s. IfSome (P.page pages.old name.now) (IsRead s builder.new)) }
+    requires most { sums.old.bytes ≤ 268435456 }
+    requires tags { sums.old.tags ≤ sums.old.bytes }
+    ensures reads { OnOk result (HasFed (P.page pages.old name.now) (P.left pages.new) builder.new sums.old sums.new) }
+    ensures whole { OnOk result (IsWhole (P.page pages.old name.now) (P.left pages.new) sums.new) }
+    ensures most { OnOk result (sums.new.bytes ≤ 268435456 + 65536) }
+    ensures tags { OnOk result (sums.new.tags ≤ sums.new.bytes) }
     ensures limit { OnOk result (limit builder.new ≡ limit builder.old) }
+    ensures page { OnOk result (page_number builder.new ≡ page_number builder.old) }
     ensures named { IfSome (P.asked pages.new) (λ n. n ≡ name.now) }
     ensures pages { P.page pages.new ≡ P.page pages.old }
-    ensures stops { OnOk result (StopsInTime (P.page pages.old name.now) (P.left pages.new)) }
     ensures ok { OnOk result (P.faults pages.new ≡ P.faults pages.old) }
     ensures failed { IsErrOf result ReadFailed → P.faults pages.old < P.faults pages.new }
     ensures memory { IsErrOf result ReadNoMemory → P.faults pages.new ≡ P.faults pages.old }
@@ -111,14 +110,10 @@ pub fn read_page<P: PageSource>(
     if pages.start(name).is_err() {
         return Err(ReadError::Failed);
     }
-    let Ok(mut buffer) = zeros(alloc, BUFFER) else {
-        return Err(ReadError::NoMemory);
-    };
-    let mut sums = Sums { bytes: 0, tags: 0 };
     while sums.bytes <= MOST_BYTES {
-        if !read_piece(pages, buffer.as_mut_slice(), builder, &mut sums)? {
+        if !read_piece(pages, buffer, builder, sums)? {
             break;
         }
     }
-    Ok(sums)
+    Ok(())
 }

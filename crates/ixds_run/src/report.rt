@@ -1,10 +1,10 @@
 //! The text of a report.
-ghost use Rattle.std.specs.Prelude.{◌≡◌, ◌∷◌, ◌++◌, [], ◌<◌, length, IfOk, OnOk};
+ghost use Rattle.std.specs.Prelude.{◌≡◌, ◌++◌, IfOk, OnOk};
 ghost use Rattle.std.specs.List.{flat_map};
-ghost use Rattle.ix_base.specs.Breaches.{class_of, named};
-ghost use Rattle.ixds_run.specs.Outcomes.{breach_line, place_text, report_text};
+ghost use Rattle.ix_base.specs.Breaches.{class_of};
+ghost use Rattle.ixds_run.specs.Texts.{breach_line, place_text};
 
-use ix_base::{Breach, Breaches, Class, Found, NoMemory, Report, Text};
+use ix_base::{Breach, Class, NoMemory, Report};
 use std::alloc::Global;
 
 /// Adds the place of a breach.
@@ -37,7 +37,7 @@ fn push_line(alloc: Global, text: &mut Vec<u8>, breach: &Breach) -> Result<(), N
 }
 
 /// The lines of a report, each with its line feed.
-fn lines_of(alloc: Global, report: &Report) -> Result<Vec<u8>, NoMemory>
+pub fn lines_of(alloc: Global, report: &Report) -> Result<Vec<u8>, NoMemory>
     ensures { IfOk result (λ v. v.items ≡ flat_map breach_line report.now.lines) }
 {
     let mut text = Vec::new(alloc);
@@ -45,15 +45,4 @@ fn lines_of(alloc: Global, report: &Report) -> Result<Vec<u8>, NoMemory>
         push_line(alloc, &mut text, breach)?;
     }
     Ok(text)
-}
-
-/// The text of the report of one breach, on a page whose name stands at its number.
-pub fn report_on(alloc: Global, names: &[Text], found: Found) -> Result<Vec<u8>, NoMemory>
-    requires { found.place.page < length names.now }
-    ensures { IfOk result (λ v. v.items ≡ report_text (named names.now found ∷ [])) }
-{
-    let mut breaches = Breaches::new(alloc);
-    breaches.add(found.place, found.rule)?;
-    let report = breaches.report(names)?;
-    lines_of(alloc, &report)
 }

@@ -9,16 +9,22 @@ use std::test::Fail;
 
 mod broken;
 mod counted;
+mod elements;
 mod made;
 mod memory;
+mod set;
 
 const SUMMARY: &[u8] = b"(default): 1 facts, 0 tuples, 1 contexts, 0 units, 0 footnotes\n";
 
-const USAGE: &[u8] = b"usage: ixds extract --base URL --out DIR PAGE\n";
+const USAGE: &[u8] =
+    b"usage: ixds extract --base URL --out DIR PAGE...\n       ixds check --base URL PAGE...\n";
 
 const CANNOT_READ: &[u8] = b"ixds: cannot read a.html\n";
 
 const NOT_BUILT: &[u8] = b"a.html:0: U2 not built yet\n";
+
+/// The report of the page's context, which stands at this offset.
+const BAD_CONTEXT: &[u8] = b"a.html:568: N20 bad context\n";
 
 /// The page up to its day.
 const FRONT: &[u8] =
@@ -121,11 +127,11 @@ fn texts_of(alloc: Global, words: &[&str]) -> Result<Vec<Text>, Fail> {
     Ok(texts)
 }
 
-/// Runs words over one page, `a.html`.
-fn run_over(
+/// Runs words over pages with these names and bytes.
+fn run_set(
     alloc: Global,
     words: &[&str],
-    bytes: Vec<u8>,
+    pages: &[(&str, &[u8])],
     step: usize,
     faults: Faults,
 ) -> Result<Ended, Fail>
@@ -133,10 +139,12 @@ fn run_over(
 {
     let texts = texts_of(alloc, words)?;
     let mut held = Vec::new(alloc);
-    held.push(MemPage {
-        name: Text::of(alloc, "a.html")?,
-        bytes: List::of(bytes),
-    })?;
+    for (name, bytes) in pages {
+        held.push(MemPage {
+            name: Text::of(alloc, name)?,
+            bytes: List::of(bytes.to_vec(alloc)?),
+        })?;
+    }
     let mut pages = watched(MemPages::new(held, step, faults.pages.to_vec(alloc)?));
     let mut sink = watched(MemTargets::new(alloc, 4, 4000, faults.sink.to_vec(alloc)?)?);
     let mut out = watched(MemText::new(alloc, faults.room, faults.out.to_vec(alloc)?)?);
@@ -147,6 +155,19 @@ fn run_over(
         sink,
         out,
     })
+}
+
+/// Runs words over one page, `a.html`.
+fn run_over(
+    alloc: Global,
+    words: &[&str],
+    bytes: Vec<u8>,
+    step: usize,
+    faults: Faults,
+) -> Result<Ended, Fail>
+    requires { 0 < step }
+{
+    run_set(alloc, words, &[("a.html", bytes.as_slice())], step, faults)
 }
 
 /// The plain page, and pages whose value is spelled in other ways, give the same instance and the same summary, whatever
@@ -196,30 +217,29 @@ fn instance(alloc: Global, day: &[u8], text: &[u8]) -> Result<Vec<u8>, Fail> {
     Ok(bytes)
 }
 
-/// The days and values of pages, and what then stands in the fact: nothing where the page's tree isn't in the first shape.
+/// The days and values of pages, and the report, or else what then stands in the fact.
 #[test]
 fn real_days_and_texts_are_taken(rt: HostRuntime) -> Result<(), Fail> {
     let alloc = rt.alloc();
-    let rows: [(&[u8], &[u8], Option<&[u8]>); 14] = [
-        (b"2024-02-29", b"", Some(b"")),
-        (b"0001-01-01", b"x", Some(b"x")),
-        (b"9999-12-31", b"&lt;&gt;&apos;&quot;", Some(b"&lt;&gt;'\"")),
-        (b"2023-12-31", b"a]b", Some(b"a]b")),
-        (b"2023-12-31", b"a>b", Some(b"a&gt;b")),
-        (b"2023-12-31", b"a\tb", Some(b"a\tb")),
-        (b"2023-12-31", b"\xC3\xA9", Some(b"\xC3\xA9")),
-        (b"2023-04-31", b"x", None),
-        (b"2023-02-29", b"x", None),
-        (b"0000-12-31", b"x", None),
-        (b"2023-1-31", b"x", None),
-        (b"2023-12-31T00:00:00", b"x", None),
-        (b"2023-12-31", b"<b/>", None),
-        (b"", b"x", None),
+    let rows: [(&[u8], &[u8], Result<&[u8], &[u8]>); 13] = [
+        (b"2024-02-29", b"", Ok(b"")),
+        (b"0001-01-01", b"x", Ok(b"x")),
+        (b"9999-12-31", b"&lt;&gt;&apos;&quot;", Ok(b"&lt;&gt;'\"")),
+        (b"2023-12-31", b"a]b", Ok(b"a]b")),
+        (b"2023-12-31", b"a>b", Ok(b"a&gt;b")),
+        (b"2023-12-31", b"a\tb", Ok(b"a\tb")),
+        (b"2023-12-31", b"\xC3\xA9", Ok(b"\xC3\xA9")),
+        (b"2023-04-31", b"x", Err(BAD_CONTEXT)),
+        (b"2023-02-29", b"x", Err(BAD_CONTEXT)),
+        (b"0000-12-31", b"x", Err(BAD_CONTEXT)),
+        (b"2023-1-31", b"x", Err(BAD_CONTEXT)),
+        (b"2023-12-31", b"<b/>", Err(NOT_BUILT)),
+        (b"", b"x", Err(BAD_CONTEXT)),
     ];
     for (day, value, text) in rows {
         let end = run_over(alloc, &PLAIN, page(alloc, day, value)?, 65_536, NONE)?;
         match text {
-            Some(text) => {
+            Ok(text) => {
                 let expected = instance(alloc, day, text)?;
                 assert!(rt; end.status == Status::Done, "{day:?} {value:?}");
                 assert!(rt;
@@ -227,9 +247,9 @@ fn real_days_and_texts_are_taken(rt: HostRuntime) -> Result<(), Fail> {
                     "{day:?} {value:?}"
                 );
             }
-            None => {
+            Err(report) => {
                 assert!(rt; end.status == Status::Broken, "{day:?} {value:?}");
-                assert!(rt; end.out.object.taken() == NOT_BUILT, "{day:?} {value:?}");
+                assert!(rt; end.out.object.taken() == report, "{day:?} {value:?}");
                 assert!(rt;
                     end.sink.calls == 0 && end.out.calls == 1,
                     "{day:?} {value:?}"
@@ -243,52 +263,15 @@ fn real_days_and_texts_are_taken(rt: HostRuntime) -> Result<(), Fail> {
 #[test]
 fn other_words_are_usage(rt: HostRuntime) -> Result<(), Fail> {
     let alloc = rt.alloc();
-    let rows: [&[&str]; 10] = [
+    let rows: [&[&str]; 8] = [
         &[],
         &["toast"],
         &["extract"],
         &["extract", "--base", "http://example.com/r/", "--out", "d"],
         &["extract", "--base", "mailto:x", "--out", "d", "a.html"],
-        &[
-            "extract",
-            "--base",
-            "http://example.com/r/",
-            "--out",
-            "",
-            "a.html",
-        ],
-        &[
-            "extract",
-            "--base",
-            "http://example.com/r/",
-            "--out",
-            "d",
-            "",
-        ],
-        &[
-            "extract",
-            "--base",
-            "http://example.com/r/",
-            "--out",
-            "d",
-            "a\n.html",
-        ],
-        &[
-            "extract",
-            "--base",
-            "http://example.com/r/",
-            "--out",
-            "d",
-            "a\u{7f}.html",
-        ],
-        &[
-            "extract",
-            "--out",
-            "d",
-            "--base",
-            "http://example.com/r/",
-            "a.html",
-        ],
+        &["check", "--base=http://example.com/r/", "a.html", "a.html"],
+        &["sample", "0"],
+        &["extract", "--help"],
     ];
     for words in rows {
         let bytes = page(alloc, b"2023-12-31", b"x")?;
@@ -303,17 +286,6 @@ fn other_words_are_usage(rt: HostRuntime) -> Result<(), Fail> {
             "{words:?}"
         );
     }
-    let https = [
-        "extract",
-        "--base",
-        "https://example.com/",
-        "--out",
-        "d",
-        "a.html",
-    ];
-    let bytes = page(alloc, b"2023-12-31", b"x")?;
-    let end = run_over(alloc, &https, bytes, 65_536, NONE)?;
-    assert!(rt; end.status == Status::Done);
     Ok(())
 }
 
@@ -410,24 +382,5 @@ fn the_call_of_out_fails(rt: HostRuntime) -> Result<(), Fail> {
     let usage = run_over(alloc, &[], Vec::new(alloc), 65_536, faults)?;
     assert!(rt; usage.status == Status::WriteFault && usage.out.object.taken().is_empty());
     assert!(rt; usage.pages.calls == 0 && usage.sink.calls == 0 && usage.out.calls == 1);
-    Ok(())
-}
-
-/// A page that isn't there is a read fault that names it.
-#[test]
-fn a_page_that_is_not_there(rt: HostRuntime) -> Result<(), Fail> {
-    let alloc = rt.alloc();
-    let words = [
-        "extract",
-        "--base",
-        "http://example.com/r/",
-        "--out",
-        "d",
-        "z.html",
-    ];
-    let end = run_over(alloc, &words, Vec::new(alloc), 65_536, NONE)?;
-    assert!(rt; end.status == Status::ReadFault && end.status.code() == 3);
-    assert!(rt; end.out.object.taken() == b"ixds: cannot read z.html\n".as_slice());
-    assert!(rt; end.pages.calls == 1 && end.sink.calls == 0);
     Ok(())
 }

@@ -1,23 +1,22 @@
-use Rattle.std.proofs.Common.{◌≡◌, ◌⊎◌, ◌∙◌, ap, sym}
+use Rattle.std.proofs.Common.{◌≡◌, ◌∙◌, ap, sym, subst, refl, inl, Option}
 use Rattle.std.specs.Option.{option_and_then}
+use Rattle.ixds_run.specs.Answers.{Answers}
 use Rattle.ixds_run.specs.Commands.{command_of}
-use Rattle.ixds_run.specs.Outcomes.{Gives}
+use Rattle.ixds_run.specs.declared.command.Command.{Command}
 use Rattle.ixds_run.specs.declared.status.Status.TheVariants.{NoMemory}
-use Rattle.ixds_cli.specs.Ending.{EndsWith}
+use Rattle.ixds_run.proofs.AnswerLaws.{along, memory_answer, some_all}
 use Rattle.ixds_cli.specs.Words.{command_in}
-use Rattle.ixds_cli.proofs.ToldLaws.{told_with}
 use Rattle.ixds_cli.proofs.run_words.Goals as goal
 
-pub returns-in-Ok-clause-complete : goal.returns-in-Ok-clause-complete
-returns-in-Ok-clause-complete g c =
+pub returns-in-Ok-clause-answers : goal.returns-in-Ok-clause-answers
+returns-in-Ok-clause-answers g c =
     let same : command_in c.args.handed ≡ command_of c.as_slice.result.now =
-    ap (option_and_then command_of) c.in-Ok.ensures ∙ ap command_of (sym c.as_slice.ensures.value) in
-    told_with _ _ (g.P.PageSource.page c.args.pages.now)
-    (λ status command bytes. Gives status (g.S.TargetSink.targets c.args.sink.now) (g.S.TargetSink.targets c.run.new.sink)
-    (g.T.TextSink.taken c.args.out.now) (g.T.TextSink.taken c.run.new.out) command bytes
-    ⊎ ((status ≡ NoMemory) × (c.run.new.sink ≡ c.args.sink.now) × (c.run.new.out ≡ c.args.out.now)))
-    (EndsWith c.ended.result)
-    (g.P.PageSource.faults c.run.new.pages ≡ g.P.PageSource.faults c.args.pages.now)
-    (g.S.TargetSink.faults c.run.new.sink ≡ g.S.TargetSink.faults c.args.sink.now)
-    (g.T.TextSink.faults c.run.new.out ≡ g.T.TextSink.faults c.args.out.now)
-    c.run.result same c.ended.ensures c.run.ensures.complete
+    ap (option_and_then command_of) c.in-Ok.ensures ∙ ap command_of (sym c.as_slice.ensures.value) in (
+      c.run.result,
+      c.ended.ensures,
+      along _ _ (sym same) c.run.ensures,
+    )
+
+pub returns-in-Err-clause-answers : goal.returns-in-Err-clause-answers
+returns-in-Err-clause-answers g c =
+    (NoMemory, c.ended-in-Err.ensures, memory_answer _ _ _ _ _ _ refl refl refl refl (some_all (command_in c.args.handed) _ (λ command. inl refl)))

@@ -1,16 +1,20 @@
-use Rattle.std.proofs.Common.{◌≡◌}
+use Rattle.std.proofs.Common.{◌≡◌, Option, Some, None, IfSome, refl, sym, subst, inl}
+use Rattle.ixds_run.specs.Answers.{Answers, Outside}
 use Rattle.ixds_run.specs.Commands.{command_of}
-use Rattle.ixds_run.proofs.CompleteLaws.{complete_told}
+use Rattle.ixds_run.specs.declared.command.Command.{Command}
+use Rattle.ixds_run.proofs.AnswerLaws.{along, memory_answer, some_all, usage_answer}
 use Rattle.ixds_run.proofs.run.Goals as goal
 
-pub returns-in-Ok-Some-clause-complete : goal.returns-in-Ok-Some-clause-complete
-returns-in-Ok-Some-clause-complete g c =
+pub returns-in-Err : goal.returns-in-Err
+returns-in-Err g c = memory_answer _ _ _ _ _ _ refl refl refl refl (some_all (command_of c.args.words.now) _ (λ command. inl refl))
+
+pub returns-in-Ok-None : goal.returns-in-Ok-None
+returns-in-Ok-None g c =
+    let none = rw c.in-Ok-None.field-0-is at c.in-Ok-None.ensures.value in
+    let put = c.put_usage.ensures in
+    usage_answer _ _ _ _ _ _ c.put_usage.result (sym none) refl refl refl refl refl put.either put.usage put.quiet put.cause put.front
+
+pub returns-in-Ok-Some : goal.returns-in-Ok-Some
+returns-in-Ok-Some g c =
     let is = rw c.in-Ok-Some.field-0-is at c.in-Ok-Some.ensures.value in
-    let done = c.extract.ensures in
-    complete_told (command_of c.args.words.now) c.in-Ok-Some.command c.extract.result (g.P.PageSource.page c.args.pages.now)
-    (g.S.TargetSink.targets c.args.sink.now) (g.S.TargetSink.targets c.extract.new.sink) (g.T.TextSink.taken c.args.out.now) (g.T.TextSink.taken c.extract.new.out)
-    (c.extract.new.sink ≡ c.args.sink.now) (c.extract.new.out ≡ c.args.out.now)
-    (g.P.PageSource.faults c.args.pages.now) (g.P.PageSource.faults c.extract.new.pages)
-    (g.S.TargetSink.faults c.args.sink.now) (g.S.TargetSink.faults c.extract.new.sink)
-    (g.T.TextSink.faults c.args.out.now) (g.T.TextSink.faults c.extract.new.out)
-    is done.usage done.done done.broken (λ e. (done.read e).0) done.cause done.memory
+    along _ _ is c.extract.ensures

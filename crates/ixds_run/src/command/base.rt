@@ -3,7 +3,7 @@ ghost use Rattle.std.specs.Prelude.{◌≡◌, IfOk};
 ghost use Rattle.url.specs.Parser.{Gives, Parsed};
 ghost use Rattle.url.specs.Parts.{Parts};
 ghost use Rattle.ix_base.specs.Address.{accepted, url_of};
-ghost use Rattle.ixds_run.specs.Commands as spec;
+ghost use Rattle.ixds_run.specs.Bases as spec;
 
 use ix_base::NoMemory;
 use std::alloc::Global;
@@ -31,7 +31,7 @@ fn parsed(alloc: Global, word: &str) -> Result<Option<Url>, NoMemory>
     taken(Url::parse(alloc, word))
 }
 
-#[tactic(auto, unfolding(crate::specs::Commands::is_web_scheme))]
+#[tactic(auto, unfolding(crate::specs::Bases::is_web_scheme))]
 fn is_web_scheme(scheme: &str) -> bool
     ensures { result ≡ spec.is_web_scheme scheme.now }
 {

@@ -8,11 +8,12 @@ use ix_base::{Failed, MemTargets, MemText, PageSource};
 use std::alloc::Global;
 use std::test::Fail;
 
-/// A page that begins with four bytes, of which so many bytes of one value are left. It tells none of them.
+/// Pages that each begin with four bytes, behind which stand so many bytes of one value. It tells none of them.
 #[derive(Drop)]
 struct Made {
     front: [u8; 4],
     byte: u8,
+    more: usize,
     left: usize,
     is_started: bool,
     is_begun: bool,
@@ -31,6 +32,8 @@ impl PageSource for Made {
 
     fn start(&mut self, _name: &str) -> Result<(), Failed> {
         self.is_started = true;
+        self.is_begun = false;
+        self.left = self.more;
         Ok(())
     }
 
@@ -47,10 +50,11 @@ impl PageSource for Made {
     }
 }
 
-/// How a run ends whose page is made so, of four bytes and of so many more of one value, what `out` takes, and how often
-/// the page was called.
+/// How a run ends whose pages are made so, of four bytes and of so many more of one value, what `out` takes, and how often
+/// the pages were called.
 fn run_made(
     alloc: Global,
+    words: &[&str],
     front: [u8; 4],
     byte: u8,
     more: usize,
@@ -58,13 +62,14 @@ fn run_made(
     let mut pages = watched(Made {
         front,
         byte,
-        left: more,
+        more,
+        left: 0,
         is_started: false,
         is_begun: false,
     });
     let mut sink = MemTargets::new(alloc, 4, 4000, Vec::new(alloc))?;
     let mut out = MemText::new(alloc, 1000, Vec::new(alloc))?;
-    let words = texts_of(alloc, &PLAIN)?;
+    let words = texts_of(alloc, words)?;
     let status = run(alloc, words.as_slice(), &mut pages, &mut sink, &mut out);
     Ok((status, out, pages.calls))
 }
@@ -75,25 +80,33 @@ const S2: &[u8] = b"(set): S2 pages together hold too many tags\n";
 
 const W3: &[u8] = b"a.html:0: W3 construct is cut off\n";
 
-const W5: &[u8] = b"a.html:0: W5 end tag doesn't match\n";
+const TWO: [&str; 4] = ["check", "--base=http://example.com/", "a.html", "b.html"];
 
-/// A page with a byte too many, or a `<` too many, breaks a size rule, whatever else it breaks; one with as many as it may
-/// have doesn't. Reading goes on behind a break of the page, and stops behind the limit.
+/// A page with a byte too many, or a `<` too many, breaks a size rule, whatever else it breaks; one with as many `<` as it may
+/// have doesn't. Reading stops behind the limit.
 #[test]
 fn the_size_of_a_page_is_limited(rt: HostRuntime) -> Result<(), Fail> {
     let alloc = rt.alloc();
-    let rows: [([u8; 4], u8, usize, &[u8], u64); 5] = [
-        (*b"</a>", b' ', 268_435_452, W5, 4099),
+    let rows: [([u8; 4], u8, usize, &[u8], u64); 3] = [
         (*b"</a>", b' ', 268_435_453, S1, 4098),
-        (*b"</a>", b' ', 999_999_999, S1, 4098),
         (*b"<<<<", b'<', 8_388_604, W3, 131),
         (*b"<<<<", b'<', 8_388_605, S2, 131),
     ];
     for (front, byte, more, report, due) in rows {
-        let (status, out, calls) = run_made(alloc, front, byte, more)?;
+        let (status, out, calls) = run_made(alloc, &PLAIN, front, byte, more)?;
         assert!(rt; status == Status::Broken, "{byte} {more}");
         assert!(rt; out.taken() == report, "{byte} {more}");
         assert!(rt; calls == due, "{byte} {more} {calls}");
     }
+    Ok(())
+}
+
+/// The bytes of all pages count together. Reading goes on behind the break of the first page, and stops behind the limit.
+#[test]
+fn the_size_of_two_pages_is_limited(rt: HostRuntime) -> Result<(), Fail> {
+    let (status, out, calls) = run_made(rt.alloc(), &TWO, *b"</a>", b' ', 134_217_725)?;
+    assert!(rt; status == Status::Broken);
+    assert!(rt; out.taken() == S1);
+    assert_eq!(rt; calls, 4101);
     Ok(())
 }

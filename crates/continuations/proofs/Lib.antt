@@ -1,0 +1,13 @@
+pub mod Berthing
+pub mod Chaining
+pub mod HeadLaws
+pub mod Inner
+pub mod KeptLaws
+pub mod Marking
+pub mod Numbering
+pub mod Reaching
+pub mod SeenLaws
+pub mod Sharing
+pub mod SliceLaws
+pub mod Standing
+pub mod Walking

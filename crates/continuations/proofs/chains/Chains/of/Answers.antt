@@ -1,0 +1,8 @@
+use Rattle.continuations.proofs.KeptLaws.{found-is, some-none}
+use Rattle.continuations.proofs.chains.Chains.of.Goals as goal
+
+pub unreachable-requires : goal.unreachable-requires
+unreachable-requires c = some-none _ c.requires (found-is c.self.inside.slices c.args.self.now _ _ _ _ c.self.view_is c.find.ensures c.in-None.is)
+
+pub returns : goal.returns
+returns c = found-is c.self.inside.slices c.args.self.now _ _ _ _ c.self.view_is c.find.ensures c.in-Some.is

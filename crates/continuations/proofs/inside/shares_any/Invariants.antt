@@ -1,0 +1,7 @@
+use Rattle.std.proofs.Common.{take}
+use Rattle.continuations.specs.Inside.{SharesAny}
+use Rattle.continuations.proofs.inside.shares_any.Given as goal
+
+-- none of those before here is shared
+abbrev pub invariant-loop-y : goal.invariant-loop-y
+invariant-loop-y l = SharesAny l.nexts l.first (take l.y-index l.numbers) l.x → ⊥

@@ -1,0 +1,57 @@
+use Rattle.std.proofs.Common.{◌≡◌, ◌∙◌, ◌<◌, ◌≤◌, ℕ, sym, subst, arith, length, Some, None, true, false, inl, inr}
+use Rattle.std.proofs.lemmas.Bool.{false≢true, eq-eqb}
+use Rattle.continuations.specs.Walks.{Reaches}
+use Rattle.continuations.proofs.Sharing.{shared-one, shared-by, swap, not-shared}
+use Rattle.continuations.proofs.walks.share.Goals as goal
+
+pub leads-requires-clause-from : goal.leads-requires-clause-from
+leads-requires-clause-from c = (c.requires.met.at c.args.x c.in-Some-Some.b (sym c.berth_of.ensures ∙ c.in-Some-Some.is-0)).1
+
+pub leads-requires-clause-first : goal.leads-requires-clause-first
+leads-requires-clause-first c = (c.requires.met.at c.args.x c.in-Some-Some.b (sym c.berth_of.ensures ∙ c.in-Some-Some.is-0)).0
+
+pub leads-requires-else-c-b-clause-from : goal.leads-requires-else-c-b-clause-from
+leads-requires-else-c-b-clause-from c = (c.requires.met.at c.args.y c.in-Some-Some.c (sym c.berth_of-2.ensures ∙ c.in-Some-Some.is-1)).1
+
+pub leads-requires-else-c-b-clause-first : goal.leads-requires-else-c-b-clause-first
+leads-requires-else-c-b-clause-first c = (c.requires.met.at c.args.y c.in-Some-Some.c (sym c.berth_of-2.ensures ∙ c.in-Some-Some.is-1)).0
+
+pub returns-then-b-c : goal.returns-then-b-c
+returns-then-b-c c =
+    let at = c.requires.met.at c.args.y c.in-Some-Some.c (sym c.berth_of-2.ensures ∙ c.in-Some-Some.is-1) in (
+      (λ _. shared-one c.args.nexts.now c.args.first (length c.args.nexts.now) c.args.berths.now c.args.meets.now c.requires.met c.args.x c.args.y c.in-Some-Some.b c.in-Some-Some.c
+          (sym c.berth_of.ensures ∙ c.in-Some-Some.is-0) (sym c.berth_of-2.ensures ∙ c.in-Some-Some.is-1) (subst (λ w. Reaches c.args.nexts.now w c.args.y) (sym c.if-b-c.true) (c.in-Some-Some.c.step, at.2))),
+      (λ _. eq-eqb _ _ c.if-b-c.true),
+    )
+
+pub returns-then-c-b : goal.returns-then-c-b
+returns-then-c-b c =
+    let l : c.in-Some-Some.c.walk < c.in-Some-Some.b.walk = c.if-c-b.true in (
+      (λ f. shared-one c.args.nexts.now c.args.first (length c.args.nexts.now) c.args.berths.now c.args.meets.now c.requires.met c.args.x c.args.y c.in-Some-Some.b c.in-Some-Some.c
+          (sym c.berth_of.ensures ∙ c.in-Some-Some.is-0) (sym c.berth_of-2.ensures ∙ c.in-Some-Some.is-1) ((c.leads.ensures c.args.y (sym c.berth_of-2.ensures ∙ c.in-Some-Some.is-1)).0 f)),
+      (λ s. (c.leads.ensures c.args.y (sym c.berth_of-2.ensures ∙ c.in-Some-Some.is-1)).1
+          (shared-by c.args.nexts.now c.args.first (length c.args.nexts.now) c.args.berths.now c.args.meets.now c.requires.met c.args.x c.args.y c.in-Some-Some.b c.in-Some-Some.c
+          (sym c.berth_of.ensures ∙ c.in-Some-Some.is-0) (sym c.berth_of-2.ensures ∙ c.in-Some-Some.is-1) (omega (arith, l)) s)),
+    )
+
+pub returns-else-c-b : goal.returns-else-c-b
+returns-else-c-b c =
+    let l : c.in-Some-Some.b.walk ≤ c.in-Some-Some.c.walk = c.if-c-b.false in (
+      (λ f. swap c.args.nexts.now c.args.first (length c.args.nexts.now) c.args.y c.args.x (shared-one c.args.nexts.now c.args.first (length c.args.nexts.now) c.args.berths.now c.args.meets.now c.requires.met c.args.y c.args.x c.in-Some-Some.c c.in-Some-Some.b
+          (sym c.berth_of-2.ensures ∙ c.in-Some-Some.is-1) (sym c.berth_of.ensures ∙ c.in-Some-Some.is-0) ((c.leads-else-c-b.ensures c.args.x (sym c.berth_of.ensures ∙ c.in-Some-Some.is-0)).0 f))),
+      (λ s. (c.leads-else-c-b.ensures c.args.x (sym c.berth_of.ensures ∙ c.in-Some-Some.is-0)).1
+          (shared-by c.args.nexts.now c.args.first (length c.args.nexts.now) c.args.berths.now c.args.meets.now c.requires.met c.args.y c.args.x c.in-Some-Some.c c.in-Some-Some.b
+          (sym c.berth_of-2.ensures ∙ c.in-Some-Some.is-1) (sym c.berth_of.ensures ∙ c.in-Some-Some.is-0) l (swap c.args.nexts.now c.args.first (length c.args.nexts.now) c.args.x c.args.y s))),
+    )
+
+pub returns-in_default : goal.returns-in_default
+returns-in_default c = (
+  (λ f. absurd (false≢true f)),
+  (λ s. absurd (not-shared c.args.nexts.now c.args.first (length c.args.nexts.now) c.args.berths.now c.args.meets.now c.requires.met c.args.x c.args.y (inr (sym c.berth_of-2.ensures ∙ c.in_default.is-1)) s)),
+)
+
+pub returns-in_default-2 : goal.returns-in_default-2
+returns-in_default-2 c = (
+  (λ f. absurd (false≢true f)),
+  (λ s. absurd (not-shared c.args.nexts.now c.args.first (length c.args.nexts.now) c.args.berths.now c.args.meets.now c.requires.met c.args.x c.args.y (inl (sym c.berth_of.ensures ∙ c.in_default.is-0)) s)),
+)

@@ -1,0 +1,176 @@
+//! Whether the walk from one start of a chain leads to two elements.
+ghost use Rattle.std.specs.Prelude.{◌≡◌, ◌↔◌, ◌+◌, ◌<◌, ◌≤◌, ◌⊎◌, ℕ, Some, None, true, length, IfOk, slice_index_or};
+ghost use Rattle.continuations.specs.Berths.{berth_at, meet_at, merge_at, Met, AreFar, Behind, IsFar, Leads, Shared};
+ghost use Rattle.continuations.specs.Walks.{next_at, Reaches};
+
+use crate::berths::Berth;
+use ix_base::NoMemory;
+use std::alloc::Global;
+
+/// Where the walk from a number met what had been met.
+pub(crate) fn merge(berths: &[Option<Berth>], meets: &[Option<usize>], walk: usize) -> Option<Berth>
+    requires { walk < length meets.now }
+    ensures { result ≡ merge_at berths.now meets.now walk }
+{
+    let met = meets[walk]?;
+    *berths.get(met)?
+}
+
+/// Whether a walk that came to the one leads to the other, both on one walk: straight on, or once round the circle in
+/// which this walk ends.
+fn is_behind(berths: &[Option<Berth>], meets: &[Option<usize>], from: Berth, to: Berth) -> bool
+    requires { from.walk < length meets.now }
+    ensures { (result ≡ true) ↔ Behind berths.now meets.now from to }
+{
+    if from.step <= to.step {
+        return true;
+    }
+    match merge(berths, meets, from.walk) {
+        Some(turn) => turn.walk == from.walk && turn.step <= to.step,
+        None => false,
+    }
+}
+
+/// Where an element stands, if a walk has met it.
+fn berth_of(berths: &[Option<Berth>], number: usize) -> Option<Berth>
+    ensures { result ≡ berth_at berths.now number }
+{
+    *berths.get(number)?
+}
+
+/// The far number, where it is between these, else the near one.
+fn farther(far: usize, high: usize, low: usize, near: usize) -> usize
+    ensures { ((result ≡ far) × (low < far) × (far < high)) ⊎ (result ≡ near) }
+{
+    if low < far && far < high { far } else { near }
+}
+
+/// Whether the walk from a number leads to what an earlier walk met at this berth. It goes from walk to walk by far
+/// ones where it can, in a number of steps that grows with the logarithm of the number of walks.
+fn leads(
+    nexts: &[Option<usize>],
+    first: usize,
+    berths: &[Option<Berth>],
+    meets: &[Option<usize>],
+    fars: &[usize],
+    from: usize,
+    to: Berth,
+) -> bool
+    requires met { Met nexts.now first (length nexts.now) berths.now meets.now }
+    requires far { AreFar nexts.now first berths.now fars.now }
+    requires meets { length meets.now ≡ length nexts.now }
+    requires fars { length fars.now ≡ length nexts.now }
+    requires from { from < length nexts.now }
+    requires first { first ≤ from }
+    requires earlier { to.walk < from }
+    ensures { (j : ℕ) → berth_at berths.now j ≡ Some to → (result ≡ true) ↔ Reaches nexts.now from j }
+{
+    let mut at = from;
+    while let Some(met) = merge(berths, meets, at) {
+        if at <= met.walk {
+            return false;
+        }
+        if met.walk <= to.walk {
+            return met.walk == to.walk && is_behind(berths, meets, met, to);
+        }
+        at = farther(fars[at], at, to.walk, met.walk);
+    }
+    false
+}
+
+/// Whether the walk from one number leads to both.
+pub(crate) fn share(
+    nexts: &[Option<usize>],
+    first: usize,
+    berths: &[Option<Berth>],
+    meets: &[Option<usize>],
+    fars: &[usize],
+    x: usize,
+    y: usize,
+) -> bool
+    requires met { Met nexts.now first (length nexts.now) berths.now meets.now }
+    requires far { AreFar nexts.now first berths.now fars.now }
+    requires meets { length meets.now ≡ length nexts.now }
+    requires fars { length fars.now ≡ length nexts.now }
+    ensures { (result ≡ true) ↔ Shared nexts.now first (length nexts.now) x y }
+{
+    match (berth_of(berths, x), berth_of(berths, y)) {
+        (Some(b), Some(c)) => {
+            b.walk == c.walk
+                || if c.walk < b.walk {
+                    leads(nexts, first, berths, meets, fars, b.walk, c)
+                } else {
+                    leads(nexts, first, berths, meets, fars, c.walk, b)
+                }
+        }
+        _ => false,
+    }
+}
+
+/// A far number for the walk from a number: the one whose walk it met, or one that is as far from a far one of that as
+/// this is from it. So all that walks come to is within a logarithm's steps.
+fn far_of(
+    berths: &[Option<Berth>],
+    meets: &[Option<usize>],
+    fars: &[usize],
+    depths: &[usize],
+    walk: usize,
+) -> usize
+    requires meets { walk < length meets.now }
+    requires fars { length fars.now ≡ walk }
+    requires depths { length depths.now ≡ walk }
+    requires early { (h : ℕ) → h < length fars.now → slice_index_or fars.now h 0 ≤ h }
+    ensures { IsFar berths.now meets.now fars.now walk result }
+{
+    match merge(berths, meets, walk) {
+        Some(met) if met.walk < walk => {
+            let far = fars[met.walk];
+            let farther = fars[far];
+            let step = depths[met.walk].abs_diff(depths[far]);
+            if step == depths[far].abs_diff(depths[farther]) {
+                farther
+            } else {
+                met.walk
+            }
+        }
+        _ => walk,
+    }
+}
+
+/// How many walks stand between the walk from a number and one that met no other.
+fn depth_of(
+    berths: &[Option<Berth>],
+    meets: &[Option<usize>],
+    depths: &[usize],
+    walk: usize,
+) -> usize
+    requires meets { walk < length meets.now }
+    requires depths { length depths.now ≡ walk }
+{
+    match merge(berths, meets, walk) {
+        Some(met) if met.walk < walk => depths[met.walk].saturating_add(1),
+        _ => 0,
+    }
+}
+
+/// The far numbers of all.
+pub(crate) fn fars_of(
+    alloc: Global,
+    nexts: &[Option<usize>],
+    first: usize,
+    berths: &[Option<Berth>],
+    meets: &[Option<usize>],
+) -> Result<Vec<usize>, NoMemory>
+    requires met { Met nexts.now first (length nexts.now) berths.now meets.now }
+    requires meets { length meets.now ≡ length nexts.now }
+    ensures len { IfOk result (λ v. length v.items ≡ length nexts.now) }
+    ensures far { IfOk result (λ v. AreFar nexts.now first berths.now v.items) }
+{
+    let mut fars = Vec::new(alloc);
+    let mut depths = Vec::new(alloc);
+    for walk in 0..nexts.len() {
+        fars.push(far_of(berths, meets, &fars, &depths, walk))?;
+        depths.push(depth_of(berths, meets, &depths, walk))?;
+    }
+    Ok(fars)
+}

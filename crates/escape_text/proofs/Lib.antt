@@ -1,0 +1,4 @@
+pub mod FrontLaws
+pub mod MarkupLaws
+pub mod MarkupSteps
+pub mod PlainLaws

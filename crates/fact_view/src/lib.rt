@@ -1,0 +1,9 @@
+//! What the attributes of a fact say.
+#![tactic(auto)]
+
+mod facts;
+
+pub use facts::{FactView, fact_name, target_of, view};
+
+#[cfg(test)]
+mod tests;

@@ -1,0 +1,90 @@
+//! Views of elements that are made by hand.
+use crate::view;
+use ix_base::namespaces::XSI;
+use ix_base::{Attr, Binding, Element, Name, Place, Spot};
+
+const NUMBER: Element<'static> = Element {
+    place: Place { page: 0, offset: 7 },
+    name: Name {
+        ns: "http://www.xbrl.org/2013/inlineXBRL",
+        local: "nonFraction",
+    },
+    attrs: &[
+        Attr {
+            name: Name {
+                ns: "",
+                local: "name",
+            },
+            value: " e:Profit ",
+        },
+        Attr {
+            name: Name {
+                ns: "",
+                local: "scale",
+            },
+            value: "-03",
+        },
+        Attr {
+            name: Name {
+                ns: "",
+                local: "sign",
+            },
+            value: "-",
+        },
+        Attr {
+            name: Name {
+                ns: "",
+                local: "format",
+            },
+            value: "t:dot",
+        },
+        Attr {
+            name: Name {
+                ns: "",
+                local: "target",
+            },
+            value: " x",
+        },
+        Attr {
+            name: Name {
+                ns: XSI,
+                local: "nil",
+            },
+            value: " 1 ",
+        },
+    ],
+    scope: &[
+        Binding {
+            prefix: "e",
+            ns: "http://example.com/e",
+        },
+        Binding {
+            prefix: "t",
+            ns: "http://example.com/t",
+        },
+    ],
+    children: &[],
+};
+
+#[test]
+fn a_number_is_seen_with_what_its_attributes_say(rt: HostRuntime) {
+    let spot = Spot {
+        element: &NUMBER,
+        up: None,
+    };
+    let seen = view(&spot);
+    assert_eq!(rt; seen.name.ns, "http://example.com/e");
+    assert_eq!(rt; seen.name.local, "Profit");
+    assert_eq!(rt; seen.target, "x");
+    assert!(rt; seen.nil);
+    assert_eq!(rt; seen.scale, -3);
+    assert!(rt; seen.negative);
+    assert!(rt; !seen.escape);
+    match seen.format {
+        Some(format) => {
+            assert_eq!(rt; format.ns, "http://example.com/t");
+            assert_eq!(rt; format.local, "dot");
+        }
+        None => assert!(rt; false, "no format"),
+    }
+}

@@ -1,0 +1,4 @@
+pub mod Held
+pub mod HeldCodes
+pub mod Moved
+pub mod Tables

@@ -1,0 +1,9 @@
+use Rattle.std.proofs.Common.{◌≡◌, map, take}
+use Rattle.ix_base.specs.declared.content.NoteLink.{NoteLink}
+use Rattle.instance_out.specs.Canonical.{line, link_markup}
+use Rattle.instance_out.specs.declared.sort.Keyed.{Keyed}
+use Rattle.instance_out.proofs.note.link_lines.Given as goal
+
+abbrev pub invariant-loop-link : goal.invariant-loop-link
+invariant-loop-link l =
+    l.keyed.items ≡ map {B = Keyed} (λ (x : NoteLink). record { key = x.role; text = line (link_markup x) }) (take l.link-index l.links)

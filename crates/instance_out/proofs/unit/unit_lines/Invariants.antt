@@ -1,0 +1,9 @@
+use Rattle.std.proofs.Common.{◌≡◌, map, take}
+use Rattle.ix_base.specs.declared.content.Unit.{Unit as UnitContent}
+use Rattle.instance_out.specs.Canonical.{unit_markup, line}
+use Rattle.instance_out.specs.declared.sort.Keyed.{Keyed}
+use Rattle.instance_out.proofs.unit.unit_lines.Given as goal
+
+abbrev pub invariant-loop-unit : goal.invariant-loop-unit
+invariant-loop-unit l =
+    l.keyed.items ≡ map {B = Keyed} (λ (x : UnitContent). record { key = x.id; text = line (unit_markup l.prefixes x) }) (take l.unit-index l.units)

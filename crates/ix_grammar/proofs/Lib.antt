@@ -1,0 +1,4 @@
+pub mod FoundLaws
+pub mod PageLaws
+pub mod Staging
+mod SpotLaws

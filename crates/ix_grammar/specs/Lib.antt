@@ -1,0 +1,4 @@
+pub mod Adding
+pub mod Measures
+pub mod Parts
+pub mod Stray

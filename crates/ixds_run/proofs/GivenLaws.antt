@@ -1,0 +1,95 @@
+-- What is so of each command that words give.
+use Rattle.std.proofs.Common.{◌≡◌, sym, refl, ℕ, ◌≤◌, ◌&&◌, Bool, true, false, not, nat_le, nat_lt, List, [], ◌∷◌, length, Option, Some, None, cond, bytes_eq, codes, Result, Ok, Err, IfOk, IfSome, subst}
+use Rattle.std.specs.List.{list_all}
+use Rattle.std.specs.Option.{option_and_then}
+use Rattle.ix_base.specs.declared.NoMemory.{NoMemory}
+use Rattle.std.proofs.lemmas.Bool.{leb-true, ltb-true}
+use Rattle.std.proofs.lemmas.List.Elements.{All-weaker}
+use Rattle.std.proofs.lemmas.List.Sums.{AllPass-from_list_all}
+use Rattle.clap.specs.Walk.{Row, all_of, first_of}
+use Rattle.ixds_run.specs.Bases.{is_base}
+use Rattle.ixds_run.specs.Commands.{command_of, extract_from, extract_in, check_from, check_in, AreNames, IsGiven}
+use Rattle.ixds_run.specs.Names.{are_pages, has_repeat, is_page_name, may_stand_in_name}
+use Rattle.ixds_run.specs.Simple.{check_app, extract_app, rows_taken}
+use Rattle.ixds_run.specs.declared.command.Command.{Command}
+use Rattle.ixds_run.specs.declared.command.Command.TheVariants.{Extract, Check}
+
+both : (a b : Bool) → (a && b) ≡ true → (a ≡ true) × (b ≡ true)
+both true b e = (refl, e)
+both false b e = cc
+
+not_false : (b : Bool) → not b ≡ true → b ≡ false
+not_false true e = cc
+not_false false e = refl
+
+le_is : (m n : ℕ) → nat_le m n ≡ true → m ≤ n
+le_is m n e = leb-true m n e
+
+name_is_short : (n : List ℕ) → is_page_name n ≡ true → length n ≤ 4096
+name_is_short n e =
+    le_is (length n) 4096 (both (nat_lt 0 (length n)) _ (both (nat_lt 0 (length n) && nat_le (length n) 4096) (list_all may_stand_in_name n) e).0).1
+
+are_names : (names : List (List ℕ)) → are_pages names ≡ true → AreNames names
+are_names names e =
+    let all = both (nat_lt 0 (length names) && nat_le (length names) 64 && list_all is_page_name names) (not (has_repeat names)) e in
+    let two = both (nat_lt 0 (length names) && nat_le (length names) 64) (list_all is_page_name names) all.0 in
+    let sizes = both (nat_lt 0 (length names)) (nat_le (length names) 64) two.0 in
+    record {
+      some = ltb-true 0 (length names) sizes.0;
+      few = le_is (length names) 64 sizes.1;
+      short = All-weaker (λ n. is_page_name n ≡ true) (λ n. length n ≤ 4096) name_is_short names (AllPass-from_list_all is_page_name names two.1);
+      once = not_false (has_repeat names) all.1;
+    }
+
+-- what a test gives, it gives where the test holds
+where_holds : (t : Bool) (x c : Command) → cond t (Some x) None ≡ Some c → (t ≡ true) × (x ≡ c)
+where_holds true x c e = (refl, let f = e in cc)
+where_holds false x c e = cc
+
+given_extract : (b d : Option (List ℕ)) (p : Option (List (List ℕ))) (c : Command) → extract_from b d p ≡ Some c → IsGiven c
+given_extract None d p c e = cc
+given_extract (Some base) None p c e = cc
+given_extract (Some base) (Some dir) None c e = cc
+given_extract (Some base) (Some dir) (Some pages) c e =
+    let h = where_holds (is_base base && nat_lt 0 (length dir) && are_pages pages) (Extract base dir pages) c e in
+    let all = both (is_base base && nat_lt 0 (length dir)) (are_pages pages) h.0 in
+    let two = both (is_base base) (nat_lt 0 (length dir)) all.0 in
+    subst IsGiven h.1 (record { base = two.0; dir = ltb-true 0 (length dir) two.1; pages = are_names pages all.1 })
+
+given_check : (b : Option (List ℕ)) (p : Option (List (List ℕ))) (c : Command) → check_from b p ≡ Some c → IsGiven c
+given_check None p c e = cc
+given_check (Some base) None c e = cc
+given_check (Some base) (Some pages) c e =
+    let h = where_holds (is_base base && are_pages pages) (Check base pages) c e in
+    let two = both (is_base base) (are_pages pages) h.0 in
+    subst IsGiven h.1 (record { base = two.0; dir = tt; pages = are_names pages two.1 })
+
+given_rows : (f : List Row → Option Command) → ((rows : List Row) (c : Command) → f rows ≡ Some c → IsGiven c)
+    → (rows : Option (List Row)) (c : Command) → option_and_then f rows ≡ Some c → IsGiven c
+given_rows f good None c e = cc
+given_rows f good (Some rows) c e = good rows c e
+
+either : (t : Bool) (x y : Option Command) (c : Command) → (x ≡ Some c → IsGiven c) → (y ≡ Some c → IsGiven c) → cond t x y ≡ Some c → IsGiven c
+either true x y c f g e = f e
+either false x y c f g e = g e
+
+none_given : (c : Command) → None ≡ Some c → IsGiven c
+none_given c e = cc
+
+pub given : (words : List (List ℕ)) (c : Command) → command_of words ≡ Some c → IsGiven c
+unfolding command_of
+given [] c e = cc
+given (first ∷ rest) c e =
+    either (bytes_eq first (codes "extract")) (option_and_then extract_in (rows_taken extract_app (first ∷ rest))) _ c
+    (given_rows extract_in (λ rows. given_extract (first_of (codes "base") rows) (first_of (codes "out") rows) (all_of (codes "PAGE") rows)) (rows_taken extract_app (first ∷ rest)) c)
+    (either (bytes_eq first (codes "check")) (option_and_then check_in (rows_taken check_app (first ∷ rest))) None c
+    (given_rows check_in (λ rows. given_check (first_of (codes "base") rows) (all_of (codes "PAGE") rows)) (rows_taken check_app (first ∷ rest)) c)
+    (none_given c)) e
+
+pub given_of : (o : Option Command) (words : List (List ℕ)) → o ≡ command_of words → IfSome o IsGiven
+given_of None words e = tt
+given_of (Some c) words e = given words c (sym e)
+
+pub given_by : (r : Result (Option Command) NoMemory) (words : List (List ℕ)) → IfOk r (λ o. o ≡ command_of words) → IfOk r (λ o. IfSome o IsGiven)
+given_by (Ok o) words e = given_of o words e
+given_by (Err x) words e = tt

@@ -1,0 +1,111 @@
+use Rattle.std.proofs.Common.{◌≡◌, ◌⊎◌, ◌∙◌, ◌+◌, ◌≤◌, ◌<◌, List, [], Option, ℕ, length, drop, refl, subst, rules, inl, inr, arith, IfSome}
+use Rattle.std.proofs.Math.ListN.{drop_of_length-le}
+use Rattle.ixds_run.specs.Reading.{HasReadSome, IsAmong, IsLast, ReadsOn}
+use Rattle.ixds_run.proofs.ForestLaws.{asked_on, next_of, next_among, over_is_sound, names_over, read_none, read_more, read_over, read_all_is, some_is_sound, last_among, last_is, stops_at_end}
+use Rattle.ixds_run.proofs.forest.read_all.Goals as goal
+
+pub loop-number-init : goal.loop-number-init
+loop-number-init g c = record {
+  faults = refl;
+  page = refl;
+  room = search rules;
+  most = search rules;
+  tags = search rules;
+  read = read_none _ _ _ refl refl (search rules) (search rules);
+  same = λ e. refl;
+  stops = inl refl;
+}
+
+pub loop-number-preserved : goal.loop-number-preserved
+loop-number-preserved g c =
+    let page : List ℕ → Option (List ℕ) = g.P.PageSource.page c.args.pages.now in
+    let names = c.args.names.now in
+    let n = c.loop-number.number in
+    let name = c.index-names-number.result in
+    let within : n < length names = omega arith in
+    let on = subst (λ (pg : List ℕ → Option (List ℕ)). ReadsOn (pg name) (g.P.PageSource.left c.read_next.new.pages) n c.loop-number.forest c.read_next.new.forest)
+    c.loop-number.invariant.page c.in_ok-read_next.ensures.reads in
+    let h = subst (λ (r : List (List ℕ)). HasReadSome page names r n c.loop-number.forest) (next_of names n name within c.index-names-number.is) c.loop-number.invariant.read in
+    record {
+      faults = c.in_ok-read_next.ensures.ok ∙ c.loop-number.invariant.faults;
+      page = c.in_ok-read_next.ensures.pages ∙ c.loop-number.invariant.page;
+      room = c.loop-number.invariant.room;
+      most = omega arith;
+      tags = c.in_ok-read_next.ensures.tags;
+      read = read_more page names name (drop (n + 1) names) n _ _ _ (omega arith) on h;
+      same = λ e. absurd (let z : n + 1 ≡ 0 = e in omega arith);
+      stops = inr (last_is page names name (drop (n + 1) names) n _ _ _ _ c.loop-number.invariant.most c.in_ok-read_next.ensures.most c.in_ok-read_next.ensures.named on h);
+    }
+
+pub returns-then-forest-gt-MOST_BYTES-clause-reads : goal.returns-then-forest-gt-MOST_BYTES-clause-reads
+returns-then-forest-gt-MOST_BYTES-clause-reads g c =
+    let page : List ℕ → Option (List ℕ) = g.P.PageSource.page c.args.pages.now in
+    let names = c.args.names.now in
+    let n = c.loop-number.number in
+    let name = c.index-names-number.result in
+    let within : n < length names = omega arith in
+    let on = subst (λ (pg : List ℕ → Option (List ℕ)). ReadsOn (pg name) (g.P.PageSource.left c.read_next.new.pages) n c.loop-number.forest c.read_next.new.forest)
+    c.loop-number.invariant.page c.in_ok-read_next.ensures.reads in
+    let h = subst (λ (r : List (List ℕ)). HasReadSome page names r n c.loop-number.forest) (next_of names n name within c.index-names-number.is) c.loop-number.invariant.read in
+    read_over page names name (drop (n + 1) names) n _ _ _ c.if-forest-gt-MOST_BYTES.true on h
+
+pub returns-then-forest-gt-MOST_BYTES-clause-sound : goal.returns-then-forest-gt-MOST_BYTES-clause-sound
+returns-then-forest-gt-MOST_BYTES-clause-sound g c = over_is_sound _ _ c.if-forest-gt-MOST_BYTES.true
+
+pub returns-then-forest-gt-MOST_BYTES-clause-stops : goal.returns-then-forest-gt-MOST_BYTES-clause-stops
+returns-then-forest-gt-MOST_BYTES-clause-stops g c =
+    let page : List ℕ → Option (List ℕ) = g.P.PageSource.page c.args.pages.now in
+    let names = c.args.names.now in
+    let n = c.loop-number.number in
+    let name = c.index-names-number.result in
+    let within : n < length names = omega arith in
+    let on = subst (λ (pg : List ℕ → Option (List ℕ)). ReadsOn (pg name) (g.P.PageSource.left c.read_next.new.pages) n c.loop-number.forest c.read_next.new.forest)
+    c.loop-number.invariant.page c.in_ok-read_next.ensures.reads in
+    let h = subst (λ (r : List (List ℕ)). HasReadSome page names r n c.loop-number.forest) (next_of names n name within c.index-names-number.is) c.loop-number.invariant.read in (
+      drop (n + 1) names,
+      last_is page names name (drop (n + 1) names) n _ _ _ _ c.loop-number.invariant.most c.in_ok-read_next.ensures.most c.in_ok-read_next.ensures.named on h,
+      inr (names_over page names name (drop (n + 1) names) n _ _ _ c.if-forest-gt-MOST_BYTES.true on h),
+    )
+
+pub returns-then-forest-gt-MOST_BYTES-clause-asked : goal.returns-then-forest-gt-MOST_BYTES-clause-asked
+returns-then-forest-gt-MOST_BYTES-clause-asked g c =
+    let page : List ℕ → Option (List ℕ) = g.P.PageSource.page c.args.pages.now in
+    let names = c.args.names.now in
+    let n = c.loop-number.number in
+    let name = c.index-names-number.result in
+    let within : n < length names = omega arith in
+    let h = subst (λ (r : List (List ℕ)). HasReadSome page names r n c.loop-number.forest) (next_of names n name within c.index-names-number.is) c.loop-number.invariant.read in
+    inr (name, next_among page names name (drop (n + 1) names) n _ _ c.loop-number.invariant.most c.in_ok-read_next.ensures.named h)
+
+pub returns-clause-reads : goal.returns-clause-reads
+returns-clause-reads g c =
+    let page : List ℕ → Option (List ℕ) = g.P.PageSource.page c.args.pages.now in
+    let names = c.args.names.now in
+    let n = c.loop-number.number in
+    let past : length names ≤ n = omega arith in
+    read_all_is page names (drop n names) n _ (drop_of_length-le names past) c.loop-number.invariant.read
+
+pub returns-clause-sound : goal.returns-clause-sound
+returns-clause-sound g c = some_is_sound _ c.args.names.now _ c.loop-number.number _ (omega arith) c.loop-number.invariant.read
+
+pub returns-clause-stops : goal.returns-clause-stops
+returns-clause-stops g c =
+    let names = c.args.names.now in
+    let past : length names ≤ c.loop-number.number = omega arith in
+    let some = c.requires.some in
+    stops_at_end _ names (drop c.loop-number.number names) _ _ c.loop-number.number (omega arith) (drop_of_length-le names past) c.loop-number.invariant.stops
+
+pub returns-clause-asked : goal.returns-clause-asked
+returns-clause-asked g c =
+    elim c.loop-number.invariant.stops [ inl none ↦ inl (c.loop-number.invariant.same none) | inr last ↦ inr (last_among _ _ _ _ _ last) ]
+
+pub returns-in_err-read_next-clause-asked : goal.returns-in_err-read_next-clause-asked
+returns-in_err-read_next-clause-asked g c =
+    let page : List ℕ → Option (List ℕ) = g.P.PageSource.page c.args.pages.now in
+    let names = c.args.names.now in
+    let n = c.loop-number.number in
+    let name = c.index-names-number.result in
+    let within : n < length names = omega arith in
+    let h = subst (λ (r : List (List ℕ)). HasReadSome page names r n c.loop-number.forest) (next_of names n name within c.index-names-number.is) c.loop-number.invariant.read in
+    asked_on _ g.P.PageSource.asked page names name (drop n names) (drop (n + 1) names) n _ c.loop-number.pages c.args.pages.now c.read_next.new.pages _
+    c.loop-number.invariant.most c.loop-number.invariant.same c.loop-number.invariant.stops h c.in_err-read_next.ensures.asked

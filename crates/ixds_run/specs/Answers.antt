@@ -1,0 +1,82 @@
+-- What a run answers: each status, when it comes, and what then stands.
+use Rattle.std.specs.Prelude.{◌≡◌, ◌⊎◌, ℕ, ◌<◌, List, Option, Some, None, IfSome}
+use Rattle.ix_base.specs.Outside.{Begun, TextGainsFront}
+use Rattle.ixds_run.specs.Commands.{dir_of, pages_of}
+use Rattle.ixds_run.specs.Gains.{GainsText}
+use Rattle.ixds_run.specs.Outcomes.{Gives, GivesFront, GivesPart, IfTold, SaysNothing}
+use Rattle.ixds_run.specs.Reading.{IsAmong, StopsInTime}
+use Rattle.ixds_run.specs.Texts.{cannot_read_line, usage_text}
+use Rattle.ixds_run.specs.declared.command.Command.{Command}
+use Rattle.ixds_run.specs.declared.status.Status.{Status}
+use Rattle.ixds_run.specs.declared.status.Status.TheVariants.{Done, Broken, Usage, ReadFault, WriteFault, NoMemory}
+
+-- what the pages, the targets and the text of the outside tell, at one time
+pub record Outside : Type 0 where
+  -- the bytes of each page by its name, what is left of the started one, the name asked for last, how often a call failed
+  pub page : List ℕ → Option (List ℕ)
+  pub left : Option (List ℕ)
+  pub page_asked : Option (List ℕ)
+  pub page_faults : ℕ
+  -- the targets begun, the two words asked for last, how often a call failed
+  pub targets : Option (List Begun)
+  pub target_asked : Option (List ℕ × List ℕ)
+  pub target_faults : ℕ
+  -- the bytes that the text has taken, how often a call failed
+  pub taken : Option (List ℕ)
+  pub text_faults : ℕ
+
+-- one of these pages can't be read, which was asked for last, and its line is added to the text
+abbrev pub TellsFault : Outside → Outside → (Gains : List ℕ → Option (List ℕ) → Option (List ℕ) → Type 0) → Command → Type 0
+TellsFault old new Gains c =
+    (name : List ℕ) × IsAmong old.page (pages_of c) new.page_asked name × Gains (cannot_read_line name) old.taken new.taken
+
+-- What a run answers to a command, or to words that give none, and what its three objects then tell. The three facts say
+-- of the pages, the targets and the text that they are as they were.
+pub record Answers (command : Option Command) (old new : Outside) (SamePages SameTargets SameText : Type 0) (s : Status) : Type 0 where
+  -- Where the words give a command, the source tells the bytes of its pages and no count of faults rose, all that is due is
+  -- given, with its status; or memory is wanted, and both sinks are untouched.
+  pub complete : IfTold command old.page (λ c bs.
+      new.page_faults ≡ old.page_faults → new.target_faults ≡ old.target_faults → new.text_faults ≡ old.text_faults
+      → Gives s old.targets new.targets old.taken new.taken c bs ⊎ ((s ≡ NoMemory) × SameTargets × SameText))
+  -- Done: the pages break no rule, the targets are written whole, and then the summary.
+  pub done : s ≡ Done → IfTold command old.page (Gives Done old.targets new.targets old.taken new.taken)
+  -- Broken: the pages break a rule, and the text took the report. For such pages no target is begun, whatever the status.
+  pub broken : s ≡ Broken → IfTold command old.page (Gives Broken old.targets new.targets old.taken new.taken)
+  pub broken_targets : s ≡ Broken → SameTargets
+  pub broken_pages : IfTold command old.page (λ c bs. SaysNothing c bs → SameTargets)
+  -- A command without a directory leaves the targets, whatever the status.
+  pub check : IfSome command (λ c. dir_of c ≡ None → SameTargets)
+  -- Usage: the words give no command, and then no other status comes but for a failed put and want of memory.
+  pub usage : s ≡ Usage → (command ≡ None) × SamePages × SameTargets × GainsText usage_text old.taken new.taken
+  pub usage_exactly : command ≡ None → (s ≡ Usage) ⊎ ((s ≡ WriteFault) ⊎ (s ≡ NoMemory))
+  -- ReadFault: the count of the pages rose in this call. The line names the page that was asked for last.
+  pub read_fault : s ≡ ReadFault
+      → (old.page_faults < new.page_faults) × SameTargets × IfSome command (TellsFault old new GainsText)
+  -- WriteFault: the count of the targets or of the text rose in this call. Of what was due a part stands: where the count of
+  -- the targets rose, a part of them; else, all of them and a front of the text, which after a read fault is its line and
+  -- without a command the usage text.
+  pub write_fault : s ≡ WriteFault → (old.target_faults < new.target_faults) ⊎ (old.text_faults < new.text_faults)
+  pub write_fault_targets : s ≡ WriteFault → old.target_faults < new.target_faults
+      → SameText × IfTold command old.page (GivesPart old.targets new.targets new.target_asked)
+  pub write_fault_text : s ≡ WriteFault → new.target_faults ≡ old.target_faults → new.page_faults ≡ old.page_faults
+      → IfTold command old.page (GivesFront old.targets new.targets old.taken new.taken)
+  pub write_fault_line : s ≡ WriteFault → old.page_faults < new.page_faults
+      → SameTargets × IfSome command (TellsFault old new TextGainsFront)
+  pub write_fault_usage : s ≡ WriteFault → command ≡ None
+      → SamePages × SameTargets × TextGainsFront usage_text old.taken new.taken
+  -- NoMemory leaves both sinks, and hides no read fault.
+  pub no_memory : s ≡ NoMemory → SameTargets × SameText
+  pub no_memory_pages : s ≡ NoMemory → new.page_faults ≡ old.page_faults
+  -- The page that was asked for last is one of the command's, after pages that are within the limit; a target is asked for
+  -- under its directory; and reading stops in time.
+  pub asked_page : IfSome command (λ c. SamePages ⊎ ((name : List ℕ) × IsAmong old.page (pages_of c) new.page_asked name))
+  pub asked_directory : s ≡ WriteFault → old.target_faults < new.target_faults
+      → IfSome command (λ c. IfSome new.target_asked (λ words. dir_of c ≡ Some words.0))
+  pub same_pages : new.page ≡ old.page
+  pub stops : (s ≡ Done) ⊎ (s ≡ Broken) → IfSome command (λ c. StopsInTime old.page (pages_of c) new.left new.page_asked)
+  -- A failed call ends the run: each other status comes with no fault but its own.
+  pub quiet_done : s ≡ Done → (new.page_faults ≡ old.page_faults)
+      × (new.target_faults ≡ old.target_faults) × (new.text_faults ≡ old.text_faults)
+  pub quiet_broken : s ≡ Broken → (new.page_faults ≡ old.page_faults)
+      × (new.target_faults ≡ old.target_faults) × (new.text_faults ≡ old.text_faults)
+  pub quiet_text : (s ≡ Usage) ⊎ (s ≡ ReadFault) → new.text_faults ≡ old.text_faults

@@ -1,0 +1,196 @@
+//! Reading the pages of a command.
+ghost use Rattle.std.specs.Prelude.{◌≡◌, ◌+◌, ◌^◌, ◌<◌, ◌≤◌, ◌⊎◌, [], ℕ, List, All, length, vec_len, None};
+ghost use Rattle.std.specs.Prelude.{IfOk, IfErr, IfSome, IsErrOf, OnOk, OnErr};
+ghost use Rattle.page_tree.specs.Standing.{StandsFor, limit, page_number};
+ghost use Rattle.ixds_run.specs.Reading.{HasGained, IsAmong, IsRead, IsSound, ReadsOn, StopsAt, StopsInTime, WhyStopped};
+ghost use Rattle.ixds_run.specs.Told.{told};
+ghost use Rattle.ixds_run.specs.declared.reading.ReadError.TheVariants.{Failed as ReadFailed, NoMemory as ReadNoMemory};
+
+use crate::lines::cannot_read;
+use crate::reading::{MOST_BYTES, ReadError, Sums, read_page};
+use bumpalo::Bump;
+use ix_base::{Breaches, Element, NoMemory, PageSource, Place, Text};
+use page_tree::{PageFault, TreeBuilder};
+use std::alloc::{AllocError, Global};
+
+/// The most levels of elements of a page.
+const DEPTH: u32 = 256;
+
+/// How many bytes a read asks for at most.
+const BUFFER: usize = 65_536;
+
+/// What was read of pages: their sums, the roots of those that have a tree, and the breaks of the others.
+#[derive(Drop)]
+pub struct Forest<'a> {
+    pub sums: Sums,
+    pub roots: Vec<&'a Element<'a>>,
+    pub found: Breaches,
+}
+
+/// Why reading ended before its end.
+#[derive(Drop)]
+pub enum Stopped {
+    /// A page can't be read. This is the line that says so.
+    Failed(Vec<u8>),
+    NoMemory,
+}
+
+/// Ends a page that was read, and keeps its root or its break.
+fn add_page<'a>(
+    builder: TreeBuilder<'a>,
+    number: u32,
+    forest: &mut Forest<'a>,
+) -> Result<(), NoMemory>
+    requires depth { limit builder ≡ 256 }
+    requires page { page_number builder ≡ number }
+    ensures gained { OnOk result ((b : List ℕ) → StandsFor builder.entry b → HasGained number b forest.old forest.new) }
+    ensures sums { forest.new.sums ≡ forest.old.sums }
+{
+    match builder.finish() {
+        Ok(root) => forest.roots.push(root)?,
+        Err(PageFault::Broken { offset, rule }) => forest.found.add(
+            Place {
+                page: number,
+                offset,
+            },
+            rule,
+        )?,
+        Err(PageFault::NoMemory) => return Err(NoMemory),
+    }
+    Ok(())
+}
+
+/// Ends a page that was read, unless the sums have passed the limit.
+fn end_page<'a>(
+    builder: TreeBuilder<'a>,
+    number: u32,
+    forest: &mut Forest<'a>,
+) -> Result<(), NoMemory>
+    requires depth { limit builder ≡ 256 }
+    requires page { page_number builder ≡ number }
+    ensures gained { OnOk result (forest.old.sums.bytes ≤ 268435456
+        → (b : List ℕ) → StandsFor builder.entry b → HasGained number b forest.old forest.new) }
+    ensures sums { forest.new.sums ≡ forest.old.sums }
+{
+    if forest.sums.bytes <= MOST_BYTES {
+        return add_page(builder, number, forest);
+    }
+    Ok(())
+}
+
+/// Reads a page and ends it, unless the sums have then passed the limit.
+fn read_on<'a, P: PageSource>(
+    alloc: Global,
+    arena: &'a Bump,
+    pages: &mut P,
+    name: &str,
+    number: u32,
+    buffer: &mut [u8],
+    forest: &mut Forest<'a>,
+) -> Result<(), ReadError>
+    requires count { P.faults pages.old + 1 < 2 ^ 64 }
+    requires name { length name.now ≤ 4096 }
+    requires room { length buffer.old ≡ 65536 }
+    requires most { forest.old.sums.bytes ≤ 268435456 }
+    requires tags { forest.old.sums.tags ≤ forest.old.sums.bytes }
+    ensures reads { OnOk result (ReadsOn (P.page pages.old name.now) (P.left pages.new) number forest.old forest.new) }
+    ensures most { OnOk result (forest.new.sums.bytes ≤ 268435456 + 65536) }
+    ensures tags { OnOk result (forest.new.sums.tags ≤ forest.new.sums.bytes) }
+    ensures named { IfSome (P.asked pages.new) (λ n. n ≡ name.now) }
+    ensures pages { P.page pages.new ≡ P.page pages.old }
+    ensures ok { OnOk result (P.faults pages.new ≡ P.faults pages.old) }
+    ensures failed { IsErrOf result ReadFailed → P.faults pages.old < P.faults pages.new }
+    ensures memory { IsErrOf result ReadNoMemory → P.faults pages.new ≡ P.faults pages.old }
+{
+    let mut builder = TreeBuilder::new(alloc, arena, number, DEPTH);
+    read_page(pages, name, buffer, &mut builder, &mut forest.sums)?;
+    match end_page(builder, number, forest) {
+        Ok(()) => Ok(()),
+        Err(_) => Err(ReadError::NoMemory),
+    }
+}
+
+fn zeros(alloc: Global, n: usize) -> Result<Vec<u8>, AllocError>
+    ensures { IfOk result (λ v. vec_len v ≡ n) }
+{
+    vec![in alloc; 0u8; n]
+}
+
+/// Reads the pages of these names, in this order. It stops as soon as they have more bytes than pages may have. The line for
+/// a page that can't be read is made before it is asked for, so that want of memory hides no read fault.
+pub fn read_all<'a, P: PageSource>(
+    alloc: Global,
+    arena: &'a Bump,
+    pages: &mut P,
+    names: &[Text],
+) -> Result<Forest<'a>, Stopped>
+    requires count { P.faults pages.old + 1 < 2 ^ 64 }
+    requires some { 0 < length names.now }
+    requires few { length names.now ≤ 64 }
+    requires short { All (λ n. length n ≤ 4096) names.now }
+    ensures reads { IfOk result (λ f. IfSome (told (P.page pages.old) names.now) (λ bs. IsRead bs f)) }
+    ensures sound { IfOk result (IsSound names.now) }
+    ensures stops { OnOk result (StopsInTime (P.page pages.old) names.now (P.left pages.new) (P.asked pages.new)) }
+    ensures ok { OnOk result (P.faults pages.new ≡ P.faults pages.old) }
+    ensures pages { P.page pages.new ≡ P.page pages.old }
+    ensures asked { (pages.new ≡ pages.old) ⊎ ((name : List ℕ) × IsAmong (P.page pages.old) names.now (P.asked pages.new) name) }
+    ensures stopped { IfErr result (λ why. WhyStopped (P.page pages.old) names.now (P.asked pages.new) (P.faults pages.old) (P.faults pages.new) why) }
+{
+    let Ok(mut buffer) = zeros(alloc, BUFFER) else {
+        return Err(Stopped::NoMemory);
+    };
+    let mut forest = Forest {
+        sums: Sums { bytes: 0, tags: 0 },
+        roots: Vec::new(alloc),
+        found: Breaches::new(alloc),
+    };
+    for (number, name) in names.iter().enumerate() {
+        read_next(
+            alloc,
+            arena,
+            pages,
+            name,
+            number as u32,
+            buffer.as_mut_slice(),
+            &mut forest,
+        )?;
+        if forest.sums.bytes > MOST_BYTES {
+            return Ok(forest);
+        }
+    }
+    Ok(forest)
+}
+
+/// Reads a page, with the line for it made before.
+fn read_next<'a, P: PageSource>(
+    alloc: Global,
+    arena: &'a Bump,
+    pages: &mut P,
+    name: &Text,
+    number: u32,
+    buffer: &mut [u8],
+    forest: &mut Forest<'a>,
+) -> Result<(), Stopped>
+    requires count { P.faults pages.old + 1 < 2 ^ 64 }
+    requires name { length name.now ≤ 4096 }
+    requires room { length buffer.old ≡ 65536 }
+    requires most { forest.old.sums.bytes ≤ 268435456 }
+    requires tags { forest.old.sums.tags ≤ forest.old.sums.bytes }
+    ensures reads { OnOk result (ReadsOn (P.page pages.old name.now) (P.left pages.new) number forest.old forest.new) }
+    ensures most { OnOk result (forest.new.sums.bytes ≤ 268435456 + 65536) }
+    ensures tags { OnOk result (forest.new.sums.tags ≤ forest.new.sums.bytes) }
+    ensures named { OnOk result (IfSome (P.asked pages.new) (λ n. n ≡ name.now)) }
+    ensures asked { (pages.new ≡ pages.old) ⊎ IfSome (P.asked pages.new) (λ n. n ≡ name.now) }
+    ensures pages { P.page pages.new ≡ P.page pages.old }
+    ensures ok { OnOk result (P.faults pages.new ≡ P.faults pages.old) }
+    ensures stopped { IfErr result (λ why. StopsAt name.now (P.asked pages.new) (P.faults pages.old) (P.faults pages.new) why) }
+{
+    let Ok(line) = cannot_read(alloc, name.as_str()) else {
+        return Err(Stopped::NoMemory);
+    };
+    match read_on(alloc, arena, pages, name.as_str(), number, buffer, forest) {
+        Ok(()) => Ok(()),
+        Err(ReadError::NoMemory) => Err(Stopped::NoMemory),
+        Err(ReadError::Failed) => Err(Stopped::Failed(line)),
+    }
+}
