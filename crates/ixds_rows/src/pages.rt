@@ -1,0 +1,46 @@
+//! Pages and their trees.
+ghost use Rattle.std.specs.Prelude.{◌≡◌, All, IfOk};
+ghost use Rattle.ix_base.specs.Elements.{pages_of};
+
+use bumpalo::Bump;
+use ix_base::{Element, Node};
+use page_tree::{PageFault, TreeBuilder};
+use std::alloc::Global;
+use std::test::Fail;
+
+/// The root of a page of this text, the page with this number.
+pub fn root_of<'a>(
+    alloc: Global,
+    arena: &'a Bump,
+    page: u32,
+    text: &str,
+) -> Result<&'a Element<'a>, Fail>
+    ensures { IfOk result (λ e. All (λ p. p ≡ e.now.place.page) (pages_of e.now)) }
+{
+    let mut builder = TreeBuilder::new(alloc, arena, page, 256);
+    builder.feed(text.as_bytes())?;
+    match builder.finish() {
+        Ok(root) => Ok(root),
+        Err(PageFault::Broken { rule, .. }) => Err(Fail::from(rule.code())),
+        Err(PageFault::NoMemory) => Err(Fail::from("no memory")),
+    }
+}
+
+/// The first element that an element holds.
+pub fn first_child<'a>(element: &Element<'a>) -> Option<&'a Element<'a>> {
+    for node in element.children {
+        if let Node::Elem(child) = node {
+            return Some(child);
+        }
+    }
+    None
+}
+
+/// Texts, one behind another.
+pub fn joined(alloc: Global, parts: &[&str]) -> Result<String, Fail> {
+    let mut text = String::new(alloc);
+    for part in parts {
+        text.push_str(part)?;
+    }
+    Ok(text)
+}
