@@ -6,8 +6,12 @@ mod attribute_rows;
 #[cfg(test)]
 mod elements;
 #[cfg(test)]
+mod links;
+#[cfg(test)]
 mod pages;
 #[cfg(test)]
 mod parts;
 #[cfg(test)]
 mod place_rows;
+#[cfg(test)]
+mod texts;
