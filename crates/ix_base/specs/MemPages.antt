@@ -1,5 +1,5 @@
 -- What pages in memory tell, and exactly where their calls fail.
-use Rattle.std.specs.Prelude.{ℕ, Bool, ◌||◌, List, take, drop, Option, Some, is_none}
+use Rattle.std.specs.Prelude.{ℕ, Bool, ◌||◌, List, take, drop, Option, Some, None, is_none}
 use Rattle.ix_base.specs.Calls.{is_listed}
 use Rattle.ix_base.specs.Pages.{page_of, bytes_at}
 use Rattle.ix_base.specs.declared.memory.Calls.{Calls}
@@ -26,6 +26,10 @@ pages_started m = m.started
 
 abbrev pub pages_asked : MemPages → Option (List ℕ)
 pages_asked m = Some (take m.asked_len m.asked)
+
+-- they keep the last name alone, so they don't tell the names of all starts
+abbrev pub pages_starts : MemPages → Option (List (List ℕ))
+pages_starts m = None
 
 -- a start of the page of this name fails
 abbrev pub start_fails : MemPages → List ℕ → Bool

@@ -27,6 +27,9 @@ pub trait PageSource {
     /// The name that the last `start` asked for, where it tells it.
     ghost asked: { Self → Option (List ℕ) };
 
+    /// The names that all starts so far asked for, where it tells them, the last one last.
+    ghost starts: { Self → Option (List (List ℕ)) };
+
     /// Begins a page at its first byte, and ends the page before it. A page that isn't there is a fault.
     fn start(&mut self, name: &str) -> Result<(), Failed>
         requires count { faults self.old + 1 < 2 ^ 64 }
@@ -35,6 +38,7 @@ pub trait PageSource {
         ensures pages { page self.new ≡ page self.old }
         ensures started { started self.new ≡ is_ok result }
         ensures asked { IfSome (asked self.new) (λ n. n ≡ name.now) }
+        ensures starts { starts self.new ≡ option_map (λ names. names ++ name.now ∷ []) (starts self.old) }
         ensures left { OnOk result (left self.new ≡ page self.old name.now) };
 
     /// Reads between 1 and `buf.len()` bytes of what is left, or 0 exactly at the page's end.
@@ -46,6 +50,7 @@ pub trait PageSource {
         ensures pages { page self.new ≡ page self.old }
         ensures started { started self.new ≡ started self.old }
         ensures asked { asked self.new ≡ asked self.old }
+        ensures starts { starts self.new ≡ starts self.old }
         ensures within { IfOk result (λ n. n ≤ length buf.old) }
         ensures bytes { IfOk result (λ n. IfSome (left self.old) (λ rest. ReadsFrom rest buf.new n)) }
         ensures left { IfOk result (λ n. left self.new ≡ option_map (drop n) (left self.old)) };

@@ -68,6 +68,8 @@ impl<'a, R: Files> PageSource for FilePages<'a, R> {
 
     ghost asked = { λ p. Some (take p.asked_len p.asked) };
 
+    ghost starts = { λ _. None };
+
     fn start(&mut self, name: &str) -> Result<(), Failed> {
         keep(&mut self.asked, name);
         self.asked_len = name.len();

@@ -105,8 +105,10 @@ fn no_breach_gives_no_line(rt: HostRuntime) -> Result<(), Fail> {
     let alloc = rt.alloc();
     let mut breaches = Breaches::new(alloc);
     assert!(rt; breaches.is_empty());
+    assert_eq!(rt; breaches.len(), 0);
     breaches.add(Place { page: 0, offset: 0 }, Rule::U2)?;
     assert!(rt; !breaches.is_empty());
+    assert_eq!(rt; breaches.len(), 1);
     assert!(rt; has_lines(&report_on(alloc, &[], &[])?, &[]));
     Ok(())
 }

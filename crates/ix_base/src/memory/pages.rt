@@ -33,7 +33,7 @@ pub struct MemPages {
 
 impl MemPages {
     ghost use Rattle.ix_base.specs.Calls.{no_calls};
-    ghost use Rattle.ix_base.specs.MemPages.{pages_faults, pages_page, pages_left, pages_started, pages_asked, pages_calls, pages_step};
+    ghost use Rattle.ix_base.specs.MemPages.{pages_faults, pages_page, pages_left, pages_started, pages_asked, pages_starts, pages_calls, pages_step};
 
     /// These pages, of which none is started. The calls of these numbers fail. It takes no memory.
     pub fn new(pages: Vec<MemPage>, step: usize, fails: Vec<u64>) -> MemPages
@@ -63,6 +63,7 @@ impl MemPages {
         ensures left { ⟦<MemPages as PageSource>⟧.left self.now ≡ pages_left self.now }
         ensures started { ⟦<MemPages as PageSource>⟧.started self.now ≡ pages_started self.now }
         ensures asked { ⟦<MemPages as PageSource>⟧.asked self.now ≡ pages_asked self.now }
+        ensures starts { ⟦<MemPages as PageSource>⟧.starts self.now ≡ pages_starts self.now }
     {}
 }
 
@@ -113,7 +114,7 @@ fn keep(asked: &mut [u8; 4096], name: &str)
 
 impl PageSource for MemPages {
     ghost use Rattle.ix_base.specs.Calls.{called};
-    ghost use Rattle.ix_base.specs.MemPages.{pages_faults, pages_page, pages_left, pages_started, pages_asked, start_fails, read_fails, pages_calls, pages_step};
+    ghost use Rattle.ix_base.specs.MemPages.{pages_faults, pages_page, pages_left, pages_started, pages_asked, pages_starts, start_fails, read_fails, pages_calls, pages_step};
 
     ghost faults = { pages_faults };
 
@@ -125,6 +126,8 @@ impl PageSource for MemPages {
 
     ghost asked = { pages_asked };
 
+    ghost starts = { pages_starts };
+
     fn start(&mut self, name: &str) -> Result<(), Failed>
         requires count { pages_faults self.old + 1 < 2 ^ 64 }
         requires name { length name.now ≤ 4096 }
@@ -132,6 +135,7 @@ impl PageSource for MemPages {
         ensures pages { pages_page self.new ≡ pages_page self.old }
         ensures started { pages_started self.new ≡ is_ok result }
         ensures asked { pages_asked self.new ≡ Some name.now }
+        ensures starts { pages_starts self.new ≡ pages_starts self.old }
         ensures left { OnOk result (pages_left self.new ≡ pages_page self.old name.now) }
         ensures held { OnErr result (pages_left self.new ≡ pages_left self.old) }
         ensures fails { is_err result ≡ start_fails self.old name.now }
@@ -163,6 +167,7 @@ impl PageSource for MemPages {
         ensures pages { pages_page self.new ≡ pages_page self.old }
         ensures started { pages_started self.new ≡ pages_started self.old }
         ensures asked { pages_asked self.new ≡ pages_asked self.old }
+        ensures starts { pages_starts self.new ≡ pages_starts self.old }
         ensures within { IfOk result (λ n. n ≤ length buf.old) }
         ensures bytes { IfOk result (λ n. IfSome (pages_left self.old) (λ rest. ReadsFrom rest buf.new n)) }
         ensures left { IfOk result (λ n. pages_left self.new ≡ option_map (drop n) (pages_left self.old)) }

@@ -27,6 +27,8 @@ impl<P: PageSource> PageSource for Counted<P> {
 
     ghost asked = { λ c. P.asked c.object };
 
+    ghost starts = { λ c. P.starts c.object };
+
     fn start(&mut self, name: &str) -> Result<(), Failed> {
         self.calls = self.calls.saturating_add(1);
         self.object.start(name)

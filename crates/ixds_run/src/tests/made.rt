@@ -30,6 +30,8 @@ impl PageSource for Made {
 
     ghost asked = { λ m. None };
 
+    ghost starts = { λ m. None };
+
     fn start(&mut self, _name: &str) -> Result<(), Failed> {
         self.is_started = true;
         self.is_begun = false;
