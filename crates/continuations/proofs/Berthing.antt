@@ -1,5 +1,5 @@
 -- Walks from the starts of chains.
-use Rattle.std.proofs.Common.{◌≡◌, ◌∙◌, ◌+◌, ◌-◌, ◌<◌, ◌≤◌, ℕ, zero, suc, Bool, true, false, cond, List, [], ◌∷◌, ◌++◌, length, get_or, refl, ap, sym, subst, arith, Option, Some, None, ◌⊎◌, inl, inr, ⊎_elim, get_or-set_same, get_or-set_other}
+use Rattle.std.proofs.Common.{◌≡◌, ◌∙◌, ◌+◌, ◌-◌, ◌<◌, ◌≤◌, ℕ, zero, suc, true, false, cond, List, [], ◌∷◌, ◌++◌, length, get_or, refl, ap, sym, subst, arith, Option, Some, None, ◌⊎◌, inl, inr, ⊎_elim, get_or-set_same, get_or-set_other}
 use Rattle.std.proofs.Math.ListN.{set, get_or-append, get_or-eq_default}
 use Rattle.std.proofs.Math.Seq.{get_or-append_seam}
 use Rattle.std.proofs.lemmas.List.{length-append}
@@ -10,7 +10,7 @@ use Rattle.std.specs.List.{sum_by}
 use Rattle.continuations.specs.declared.berths.Berth.{Berth}
 use Rattle.continuations.specs.Berths.{berth_at, meet_at, Met, Walking}
 use Rattle.continuations.specs.Walks.{next_at, walk, Reaches}
-use Rattle.continuations.proofs.Walking.{some-inj, first-step, step-more, walks, reaches-self, reaches-on, reaches-next, walk-from}
+use Rattle.continuations.proofs.Walking.{some-inj, first-step, walk-from}
 
 some-none : {X Y : Type 0} (x : X) → None ≡ Some x → Y
 some-none x e = absurd cc

@@ -1,5 +1,5 @@
 -- Chains that are kept by place, as contracts see them.
-use Rattle.std.proofs.Common.{◌≡◌, ◌∙◌, ◌++◌, ℕ, List, [], ◌∷◌, refl, ap, sym, true, Option, Some, None, is_some, option_map, append_assoc}
+use Rattle.std.proofs.Common.{◌≡◌, ◌∙◌, ℕ, List, refl, ap, sym, true, Option, Some, None, is_some, option_map}
 use Rattle.std.proofs.lemmas.Map.Made.{lookup-map_values}
 use Rattle.indexmap.specs.IndexMap.{IndexMap}
 use Rattle.ix_base.specs.Located.{Located}
@@ -16,19 +16,10 @@ pub found-is : {S : Type 0} (m : IndexMap (ℕ × ℕ) Slice S) (chains : List (
 found-is m chains page offset o p v h e =
     sym (ap (λ cs. chain_at cs page offset) v) ∙ kept-is m page offset ∙ sym h ∙ ap (option_map chain_in) e
 
-abbrev rest : {X : Type 0} → List X → List X
-rest [] = []
-rest (x ∷ xs) = xs
-
-nothing-behind : {X : Type 0} (xs ys : List X) → xs ++ ys ≡ xs → ys ≡ []
-nothing-behind [] ys e = e
-nothing-behind (x ∷ xs) ys e = nothing-behind xs ys (ap rest e)
-
--- four lists that add nothing are empty
-pub nothing-added : {X : Type 0} (xs a b c d new : List X) → new ≡ xs ++ a ++ b ++ c ++ d → new ≡ xs → a ++ b ++ c ++ d ≡ []
-nothing-added xs a b c d new h e = nothing-behind xs (a ++ b ++ c ++ d)
-    (sym (append_assoc xs (a ++ b ++ c) d) ∙ ap (λ l. l ++ d) (sym (append_assoc xs (a ++ b) c) ∙ ap (λ l. l ++ c) (sym (append_assoc xs a b))) ∙ sym h ∙ e)
-
 pub some-none : {X : Type 0} (o : Option X) → is_some o ≡ true → o ≡ None → ⊥
 some-none None h e = absurd cc
 some-none (Some x) h e = absurd cc
+
+pub some-map : {X Y : Type 0} (f : X → Y) (o : Option X) → is_some (option_map f o) ≡ is_some o
+some-map f None = refl
+some-map f (Some x) = refl

@@ -1,3 +1,4 @@
+pub mod Adding
 pub mod Berthing
 pub mod Chaining
 pub mod HeadLaws

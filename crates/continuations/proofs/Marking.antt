@@ -1,12 +1,12 @@
 -- A walk that marks what it meets.
-use Rattle.std.proofs.Common.{◌≡◌, ◌∙◌, ◌+◌, ◌-◌, ◌<◌, ◌≤◌, ℕ, zero, suc, Bool, true, false, cond, List, [], ◌∷◌, length, get_or, refl, ap, sym, subst, arith, Option, Some, None, ◌⊎◌, inl, inr, ⊎_elim, get_or-set_same, get_or-set_other, ◌++◌, take, drop}
+use Rattle.std.proofs.Common.{◌≡◌, ◌∙◌, ◌+◌, ◌<◌, ◌≤◌, ℕ, zero, suc, Bool, true, false, cond, List, length, get_or, refl, ap, sym, subst, arith, Option, Some, ◌⊎◌, inl, inr, ⊎_elim, get_or-set_same, get_or-set_other, ◌++◌, take, drop}
 use Rattle.std.proofs.Math.ListN.{set}
-use Rattle.std.proofs.lemmas.Bool.{cases_eq, cases_lt, true≢false}
+use Rattle.std.proofs.lemmas.Bool.{cases_eq, cases_lt}
 use Rattle.std.proofs.lemmas.List.Sums.{sum_by-set}
 use Rattle.std.proofs.lemmas.List.{take-append-le, take_all}
 use Rattle.std.specs.List.{sum_by}
 use Rattle.continuations.specs.Walks.{next_at, walk, is_marked, Reaches, AreReached}
-use Rattle.continuations.proofs.Walking.{some-inj, first-step, reaches-self, reaches-on, reaches-next}
+use Rattle.continuations.proofs.Walking.{some-inj, first-step, reaches-self, reaches-next}
 
 -- how many aren't marked
 abbrev pub unmarked : List Bool → ℕ

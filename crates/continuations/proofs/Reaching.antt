@@ -1,17 +1,16 @@
 -- Chains, and walks over numbers.
-use Rattle.std.proofs.Common.{◌≡◌, ◌∙◌, ◌+◌, ◌<◌, ◌≤◌, ◌++◌, ℕ, zero, suc, Bool, true, false, cond, List, [], ◌∷◌, length, refl, ap, sym, subst, arith, Option, Some, None, option_map, ◌⊎◌, inl, inr, ⊎_elim}
-use Rattle.std.proofs.lemmas.Bool.{cases_lt, true≢false, or_left, or_right}
+use Rattle.std.proofs.Common.{◌≡◌, ◌∙◌, ◌<◌, ℕ, zero, suc, Bool, true, false, List, [], ◌∷◌, refl, ap, sym, arith, Option, Some, None, option_map, inl, inr}
+use Rattle.std.proofs.lemmas.Bool.{true≢false, or_left, or_right}
 use Rattle.std.proofs.lemmas.List.Folds.{list_any-append}
-use Rattle.std.specs.Prelude.{◌&&◌, ◌||◌, option_and_then}
-use Rattle.std.specs.List.{filter, flat_map, list_any, slice_get}
+use Rattle.std.specs.Prelude.{◌||◌, option_and_then}
+use Rattle.std.specs.List.{flat_map, list_any, slice_get}
 use Rattle.std.specs.Option.{option_map_or}
-use Rattle.ix_base.specs.Asks.{Asks, asks}
+use Rattle.ix_base.specs.Asks.{Asks}
 use Rattle.ix_base.specs.Chain.{next, chain_of}
-use Rattle.ix_base.specs.Located.{Located, is_start, is_continuation}
-use Rattle.continuations.specs.Seen.{reached_by, most_of}
-use Rattle.continuations.specs.Walks.{next_at, walk, Reaches, AreNexts, AreReached, is_marked}
-use Rattle.continuations.proofs.Numbering.{IsIn, in-got, got-in, got-right, got-behind, in-filter, filter-in}
-use Rattle.continuations.proofs.Walking.{some-inj, first-step, reaches-self, soon}
+use Rattle.ix_base.specs.Located.{Located}
+use Rattle.continuations.specs.Walks.{next_at, walk, Reaches, AreNexts}
+use Rattle.continuations.proofs.Numbering.{IsIn}
+use Rattle.continuations.proofs.Walking.{some-inj, first-step, reaches-self}
 
 some-none : {X Y : Type 0} (x : X) → None ≡ Some x → Y
 some-none x e = absurd cc

@@ -1,16 +1,16 @@
 -- Whether one start reaches two elements.
-use Rattle.std.proofs.Common.{◌≡◌, ◌∙◌, ◌+◌, ◌-◌, ◌<◌, ◌≤◌, ℕ, zero, suc, Bool, true, false, List, [], ◌∷◌, ◌++◌, length, refl, ap, sym, subst, arith, Option, Some, None, ◌⊎◌, inl, inr, ⊎_elim}
+use Rattle.std.proofs.Common.{◌≡◌, ◌∙◌, ◌+◌, ◌<◌, ◌≤◌, ℕ, zero, suc, List, [], ◌∷◌, ◌++◌, length, refl, ap, sym, subst, arith, Option, Some, None, ◌⊎◌, inl, inr, ⊎_elim}
 use Rattle.std.proofs.Math.ListN.{get_or-append}
 use Rattle.std.proofs.Math.Seq.{get_or-append_seam}
 use Rattle.std.proofs.lemmas.List.{length-append}
 use Rattle.std.specs.Prelude.{slice_index_or}
-use Rattle.std.proofs.lemmas.Bool.{cases_eq, cases_lt, cases_order}
+use Rattle.std.proofs.lemmas.Bool.{cases_eq}
 use Rattle.std.specs.Prelude.{option_and_then}
 use Rattle.continuations.specs.declared.berths.Berth.{Berth}
 use Rattle.continuations.specs.Berths.{berth_at, meet_at, Met, Leads, AreFar, Shared, Behind, IsFar, merge_at}
 use Rattle.continuations.specs.Walks.{next_at, walk, Reaches}
 use Rattle.continuations.proofs.Berthing.{met-along, past-meet, forth, back}
-use Rattle.continuations.proofs.Walking.{some-inj, first-step, reaches-self, reaches-on, reaches-next, reaches-both}
+use Rattle.continuations.proofs.Walking.{some-inj, first-step, reaches-on, reaches-both}
 
 some-none : {X Y : Type 0} (x : X) → None ≡ Some x → Y
 some-none x e = absurd cc

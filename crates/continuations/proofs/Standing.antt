@@ -1,19 +1,18 @@
 -- The places of what chains reach.
-use Rattle.std.proofs.Common.{◌≡◌, ◌∙◌, ◌+◌, ◌<◌, ◌≤◌, ◌++◌, ℕ, zero, suc, Bool, true, false, cond, List, [], ◌∷◌, length, refl, ap, sym, subst, arith, Option, Some, None, option_map, ◌⊎◌, inl, inr, ⊎_elim}
+use Rattle.std.proofs.Common.{◌≡◌, ◌∙◌, ◌+◌, ◌<◌, ◌≤◌, ◌++◌, ℕ, Bool, true, false, List, length, refl, ap, sym, subst, arith, Option, Some, ◌⊎◌, inl, inr}
 use Rattle.std.proofs.lemmas.Bool.{cases_eq, true≢false}
 use Rattle.std.proofs.lemmas.Option.{slice_get_within}
-use Rattle.std.proofs.lemmas.List.{length-append}
 use Rattle.std.specs.Prelude.{◌&&◌, ◌||◌}
-use Rattle.std.specs.List.{filter, flat_map, list_any, slice_get}
+use Rattle.std.specs.List.{filter, list_any, slice_get}
 use Rattle.indexmap.specs.IndexSet.{IndexSet}
-use Rattle.ix_base.specs.Asks.{Asks, asks}
+use Rattle.ix_base.specs.Asks.{asks}
 use Rattle.ix_base.specs.Chain.{chain_of}
 use Rattle.ix_base.specs.LinkRules.{is_at}
 use Rattle.ix_base.specs.Located.{Located, is_start, is_continuation}
 use Rattle.continuations.specs.Places.{holds, StandsFor, HoldsMarked}
 use Rattle.continuations.specs.Seen.{reached_by, most_of}
-use Rattle.continuations.specs.Walks.{next_at, walk, Reaches, AreNexts, AreReached, is_marked}
-use Rattle.continuations.proofs.Numbering.{IsIn, in-got, got-in, got-right, got-behind, got-at}
+use Rattle.continuations.specs.Walks.{walk, Reaches, AreNexts, AreReached, is_marked}
+use Rattle.continuations.proofs.Numbering.{IsIn, got-in, got-right, got-behind, got-at}
 use Rattle.continuations.proofs.Reaching.{chain-has, chain-found, any-flat, flat-any, same-bool}
 use Rattle.continuations.proofs.Walking.{some-inj, soon}
 

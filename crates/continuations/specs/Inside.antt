@@ -6,7 +6,6 @@ use Rattle.std.specs.Option.{option_map_or}
 use Rattle.indexmap.specs.IndexMap.{IndexMap, get_by}
 use Rattle.ix_base.specs.LinkRules.{is_at}
 use Rattle.ix_base.specs.Located.{Located}
-use Rattle.ix_base.specs.Trees.{Tree}
 use Rattle.continuations.specs.Berths.{Shared}
 use Rattle.continuations.specs.Walks.{is_marked}
 

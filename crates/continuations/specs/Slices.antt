@@ -1,6 +1,5 @@
 -- Chains that are kept by place.
 use Rattle.std.specs.Prelude.{ℕ, Bool, true, false, ◌&&◌, ◌==◌, List, [], ◌∷◌, map, Option, Some, None, option_map, if◌then◌else◌}
-use Rattle.std.specs.Map.{lookup}
 use Rattle.indexmap.specs.IndexMap.{IndexMap, get_by}
 use Rattle.continuations.specs.declared.chains.Slice.{Slice}
 use Rattle.ix_base.specs.LinkRules.{is_at}

@@ -174,6 +174,13 @@ fn find_at<'a>(slices: &Slices<'a>, place: Place) -> Option<Slice<'a>>
 }
 
 impl<'a> Chains<'a> {
+    /// Whether a chain begins with an element. It takes no memory.
+    pub fn has(&self, head: &Spot<'_>) -> bool
+        ensures { result ≡ is_some (chain_at self.now (located head.now).page (offset_of (located head.now))) }
+    {
+        find(&self.slices, head).is_some()
+    }
+
     /// The chain from an element with which one begins, itself first. It takes no memory.
     pub fn of(&self, head: &Spot<'a>) -> &'a [&'a Spot<'a>]
         requires { is_some (chain_at self.now (located head.now).page (offset_of (located head.now))) ≡ true }

@@ -19,7 +19,8 @@ pub(crate) type Placed = IndexMap<(u32, u64), Vec<usize>>;
 /// Takes the numbers at a place out.
 fn take_at(alloc: Global, numbers: &mut Placed, key: (u32, u64)) -> Vec<usize>
     ensures taken { result.items ≡ numbers_at numbers.old key.0 key.1 }
-    ensures others { (page offset : ℕ) → ((key.0 == page) && (key.1 == offset)) ≡ false → numbers_at numbers.new page offset ≡ numbers_at numbers.old page offset }
+    ensures others { (page offset : ℕ) → ((key.0 == page) && (key.1 == offset)) ≡ false
+        → numbers_at numbers.new page offset ≡ numbers_at numbers.old page offset }
 {
     match numbers.swap_remove(&key) {
         Some(found) => found,
@@ -44,7 +45,9 @@ fn enter_at(
     number: usize,
 ) -> Result<(), NoMemory>
     ensures { OnOk result ((page offset : ℕ) → numbers_at numbers.new page offset
-        ≡ (if (key.0 == page) && (key.1 == offset) then numbers_at numbers.old page offset ++ number ∷ [] else numbers_at numbers.old page offset)) }
+        ≡ (if (key.0 == page) && (key.1 == offset)
+            then numbers_at numbers.old page offset ++ number ∷ []
+            else numbers_at numbers.old page offset)) }
 {
     let mut here = take_at(alloc, numbers, key);
     here.push(number)?;
@@ -60,7 +63,9 @@ fn enter(
     number: usize,
 ) -> Result<(), NoMemory>
     ensures { OnOk result ((page offset : ℕ) → numbers_at numbers.new page offset
-        ≡ (if is_at page offset (located spot.now) then numbers_at numbers.old page offset ++ number ∷ [] else numbers_at numbers.old page offset)) }
+        ≡ (if is_at page offset (located spot.now)
+            then numbers_at numbers.old page offset ++ number ∷ []
+            else numbers_at numbers.old page offset)) }
 {
     let place = spot.element.place;
     enter_at(alloc, numbers, (place.page, place.offset), number)

@@ -1,5 +1,6 @@
 //! The rules on continuations.
-ghost use Rattle.std.specs.Prelude.{◌≡◌, ◌≢◌, ◌↔◌, ◌++◌, ◌∷◌, [], ◌+◌, ℕ, true, List, OnOk, IfOk, suc, length, option_map};
+ghost use Rattle.std.specs.Prelude.{◌≡◌, ◌≢◌, ◌++◌, ◌∷◌, [], ◌+◌, ℕ, true, List, OnOk, OnErr, IfOk, suc, length, option_map};
+ghost use Rattle.ix_base.specs.Fronts.{AppendsFront};
 ghost use Rattle.ix_base.specs.declared.rule.Rule.TheVariants.{L4, L5, L6, L7};
 ghost use Rattle.ix_base.specs.Chain as chains;
 ghost use Rattle.ix_base.specs.LinkRules as rules_of;
@@ -31,16 +32,29 @@ fn lacks_continuation(index: &Index<'_>, spot: &Spot<'_>) -> bool
     }
 }
 
+/// Adds an element that goes on where no continuation is.
+fn add_if_lacking(
+    index: &Index<'_>,
+    spot: &Spot<'_>,
+    breaches: &mut Breaches,
+) -> Result<(), NoMemory>
+    ensures ok { OnOk result (breaches.new ≡ breaches.old ++ broken_at (asked index.now) L4 (located spot.now)) }
+    ensures err { OnErr result (breaches.new ≡ breaches.old) }
+{
+    breaches.add_if(
+        spot.element.place,
+        Rule::L4,
+        lacks_continuation(index, spot),
+    )
+}
+
 /// Adds exactly the elements that go on where no continuation is.
 fn add_lacking(index: &Index<'_>, breaches: &mut Breaches) -> Result<(), NoMemory>
-    ensures { OnOk result (breaches.new ≡ breaches.old ++ breaking L4 index.now.spots) }
+    ensures ok { OnOk result (breaches.new ≡ breaches.old ++ breaking L4 index.now.spots) }
+    ensures err { OnErr result (AppendsFront (breaking L4 index.now.spots) breaches.old breaches.new) }
 {
     for spot in index.spots() {
-        breaches.add_if(
-            spot.element.place,
-            Rule::L4,
-            lacks_continuation(index, spot),
-        )?;
+        add_if_lacking(index, spot, breaches)?;
     }
     Ok(())
 }
@@ -75,7 +89,8 @@ fn add_if_named_twice(
     breaches: &mut Breaches,
 ) -> Result<(), NoMemory>
     requires { AreNamers namers.now (asked index.now) }
-    ensures { OnOk result (breaches.new ≡ breaches.old ++ broken_at (asked index.now) L5 (located spot.now)) }
+    ensures ok { OnOk result (breaches.new ≡ breaches.old ++ broken_at (asked index.now) L5 (located spot.now)) }
+    ensures err { OnErr result (breaches.new ≡ breaches.old) }
 {
     breaches.add_if(
         spot.element.place,
@@ -91,7 +106,8 @@ fn add_all_named_twice(
     breaches: &mut Breaches,
 ) -> Result<(), NoMemory>
     requires { AreNamers namers.now (asked index.now) }
-    ensures { OnOk result (breaches.new ≡ breaches.old ++ breaking L5 index.now.spots) }
+    ensures ok { OnOk result (breaches.new ≡ breaches.old ++ breaking L5 index.now.spots) }
+    ensures err { OnErr result (AppendsFront (breaking L5 index.now.spots) breaches.old breaches.new) }
 {
     for spot in index.spots() {
         add_if_named_twice(index, namers, spot, breaches)?;
@@ -105,7 +121,8 @@ fn add_named_twice(
     index: &Index<'_>,
     breaches: &mut Breaches,
 ) -> Result<(), NoMemory>
-    ensures { OnOk result (breaches.new ≡ breaches.old ++ breaking L5 index.now.spots) }
+    ensures ok { OnOk result (breaches.new ≡ breaches.old ++ breaking L5 index.now.spots) }
+    ensures err { OnErr result (AppendsFront (breaking L5 index.now.spots) breaches.old breaches.new) }
 {
     let namers = namers_of(alloc, index)?;
     add_all_named_twice(index, &namers, breaches)
@@ -127,7 +144,8 @@ fn add_if_unreached(
     breaches: &mut Breaches,
 ) -> Result<(), NoMemory>
     requires { StandsFor reached.now (reached_by (asked index.now) (most_of (asked index.now)) index.now.spots) }
-    ensures { OnOk result (breaches.new ≡ breaches.old ++ broken_at (asked index.now) L6 (located spot.now)) }
+    ensures ok { OnOk result (breaches.new ≡ breaches.old ++ broken_at (asked index.now) L6 (located spot.now)) }
+    ensures err { OnErr result (breaches.new ≡ breaches.old) }
 {
     let is_broken = is_continuation(spot) && !is_reached(index, reached, spot);
     breaches.add_if(spot.element.place, Rule::L6, is_broken)
@@ -140,7 +158,8 @@ fn add_unreached(
     breaches: &mut Breaches,
 ) -> Result<(), NoMemory>
     requires { StandsFor reached.now (reached_by (asked index.now) (most_of (asked index.now)) index.now.spots) }
-    ensures { OnOk result (breaches.new ≡ breaches.old ++ breaking L6 index.now.spots) }
+    ensures ok { OnOk result (breaches.new ≡ breaches.old ++ breaking L6 index.now.spots) }
+    ensures err { OnErr result (AppendsFront (breaking L6 index.now.spots) breaches.old breaches.new) }
 {
     for spot in index.spots() {
         add_if_unreached(index, reached, spot, breaches)?;
@@ -164,7 +183,8 @@ fn add_if_inside(
     breaches: &mut Breaches,
 ) -> Result<(), NoMemory>
     requires { StandsFor inner.now (inner_by (asked index.now) (most_of (asked index.now)) index.now.spots) }
-    ensures { OnOk result (breaches.new ≡ breaches.old ++ broken_at (asked index.now) L7 (located spot.now)) }
+    ensures ok { OnOk result (breaches.new ≡ breaches.old ++ broken_at (asked index.now) L7 (located spot.now)) }
+    ensures err { OnErr result (breaches.new ≡ breaches.old) }
 {
     breaches.add_if(spot.element.place, Rule::L7, is_inside(index, inner, spot))
 }
@@ -172,7 +192,8 @@ fn add_if_inside(
 /// Adds exactly the elements of chains that stand inside another element of their chain.
 fn add_inside(index: &Index<'_>, inner: &Places, breaches: &mut Breaches) -> Result<(), NoMemory>
     requires { StandsFor inner.now (inner_by (asked index.now) (most_of (asked index.now)) index.now.spots) }
-    ensures { OnOk result (breaches.new ≡ breaches.old ++ breaking L7 index.now.spots) }
+    ensures ok { OnOk result (breaches.new ≡ breaches.old ++ breaking L7 index.now.spots) }
+    ensures err { OnErr result (AppendsFront (breaking L7 index.now.spots) breaches.old breaches.new) }
 {
     for spot in index.spots() {
         add_if_inside(index, inner, spot, breaches)?;
@@ -183,7 +204,8 @@ fn add_inside(index: &Index<'_>, inner: &Places, breaches: &mut Breaches) -> Res
 /// Adds exactly the continuations that are in no chain, and the elements of chains that stand inside another element of
 /// their chain.
 fn add_seen(alloc: Global, index: &Index<'_>, breaches: &mut Breaches) -> Result<(), NoMemory>
-    ensures { OnOk result (breaches.new ≡ breaches.old ++ breaking L6 index.now.spots ++ breaking L7 index.now.spots) }
+    ensures ok { OnOk result (breaches.new ≡ breaches.old ++ breaking L6 index.now.spots ++ breaking L7 index.now.spots) }
+    ensures err { OnErr result (AppendsFront (breaking L6 index.now.spots ++ breaking L7 index.now.spots) breaches.old breaches.new) }
 {
     let seen = seen_in(alloc, index)?;
     add_unreached(index, &seen.reached, breaches)?;
@@ -192,26 +214,18 @@ fn add_seen(alloc: Global, index: &Index<'_>, breaches: &mut Breaches) -> Result
 
 /// Adds exactly the breaches of the rules on continuations.
 fn add_breaches(alloc: Global, index: &Index<'_>, breaches: &mut Breaches) -> Result<(), NoMemory>
-    ensures { OnOk result (breaches.new ≡ breaches.old ++ breaking L4 index.now.spots ++ breaking L5 index.now.spots
+    ensures ok { OnOk result (breaches.new ≡ breaches.old ++ breaking L4 index.now.spots ++ breaking L5 index.now.spots
         ++ breaking L6 index.now.spots ++ breaking L7 index.now.spots) }
+    ensures err { OnErr result (AppendsFront (breaking L4 index.now.spots ++ breaking L5 index.now.spots
+        ++ breaking L6 index.now.spots ++ breaking L7 index.now.spots) breaches.old breaches.new) }
 {
     add_lacking(index, breaches)?;
     add_named_twice(alloc, index, breaches)?;
     add_seen(alloc, index, breaches)
 }
 
-/// Whether no rule on continuations is broken.
-fn is_sound(alloc: Global, index: &Index<'_>) -> Result<bool, NoMemory>
-    ensures { IfOk result (λ b. (b ≡ true) ↔ (breaking L4 index.now.spots ++ breaking L5 index.now.spots
-        ++ breaking L6 index.now.spots ++ breaking L7 index.now.spots ≡ [])) }
-{
-    let mut found = Breaches::new(alloc);
-    add_breaches(alloc, index, &mut found)?;
-    Ok(found.is_empty())
-}
-
 /// Adds exactly the breaches of the rules on continuations, and gives the chains, where it adds none. Where it adds any,
-/// it makes no chains.
+/// it makes no chains. After a refusal a front of the breaches may have been added.
 pub fn link<'a>(
     alloc: Global,
     arena: &'a Bump,
@@ -220,11 +234,14 @@ pub fn link<'a>(
 ) -> Result<Chains<'a>, NoMemory>
     ensures breaches { OnOk result (breaches.new ≡ breaches.old ++ breaking L4 index.now.spots ++ breaking L5 index.now.spots
         ++ breaking L6 index.now.spots ++ breaking L7 index.now.spots) }
+    ensures err { OnErr result (AppendsFront (breaking L4 index.now.spots ++ breaking L5 index.now.spots
+        ++ breaking L6 index.now.spots ++ breaking L7 index.now.spots) breaches.old breaches.new) }
     ensures chains { IfOk result (λ c. breaches.new ≡ breaches.old → AreChainsOf c index.now.spots) }
 {
-    if is_sound(alloc, index)? {
-        return chains_of(alloc, arena, index);
-    }
+    let before = breaches.len();
     add_breaches(alloc, index, breaches)?;
-    Ok(no_chains(alloc))
+    if breaches.len() > before {
+        return Ok(no_chains(alloc));
+    }
+    chains_of(alloc, arena, index)
 }

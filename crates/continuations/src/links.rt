@@ -69,7 +69,8 @@ fn numbers_of<'a>(alloc: Global, spots: &[&'a Spot<'a>]) -> Result<Numbers<'a>, 
 /// The number of the continuation at which an element goes on.
 fn next_number(index: &Index<'_>, numbers: &Numbers<'_>, spot: &Spot<'_>) -> Option<usize>
     requires { AreNumbers numbers.now (filter spec_is_continuation index.now.spots) (length (filter spec_is_continuation index.now.spots)) }
-    ensures { option_map (slice_get (filter spec_is_continuation index.now.spots)) result ≡ option_map Some (next (asked index.now) (located spot.now)) }
+    ensures { option_map (slice_get (filter spec_is_continuation index.now.spots)) result
+        ≡ option_map Some (next (asked index.now) (located spot.now)) }
 {
     let id = continued_at(spot)?;
     continuation(index, id)?;
@@ -85,7 +86,8 @@ fn nexts_of(
 ) -> Result<Vec<Option<usize>>, NoMemory>
     requires { AreNumbers numbers.now (filter spec_is_continuation index.now.spots) (length (filter spec_is_continuation index.now.spots)) }
     ensures len { IfOk result (λ v. length v.items ≡ length spots.now) }
-    ensures nexts { IfOk result (λ v. NameNexts (asked index.now) (filter spec_is_continuation index.now.spots) (all_located spots.now) (length spots.now) v.items) }
+    ensures nexts { IfOk result (λ v. NameNexts (asked index.now) (filter spec_is_continuation index.now.spots)
+        (all_located spots.now) (length spots.now) v.items) }
 {
     let mut nexts = Vec::new(alloc);
     for spot in spots {
@@ -120,7 +122,8 @@ fn push_starts<'a>(index: &Index<'a>, spots: &mut Vec<&'a Spot<'a>>) -> Result<(
 
 /// The elements of the chains of a set, numbered.
 pub(crate) fn links_of<'a>(alloc: Global, index: &Index<'a>) -> Result<Links<'a>, NoMemory>
-    ensures spots { IfOk result (λ l. all_located l.spots.items ≡ filter spec_is_continuation index.now.spots ++ filter kinds.is_start index.now.spots) }
+    ensures spots { IfOk result (λ l. all_located l.spots.items
+        ≡ filter spec_is_continuation index.now.spots ++ filter kinds.is_start index.now.spots) }
     ensures count { IfOk result (λ l. l.continuations ≡ length (filter spec_is_continuation index.now.spots)) }
     ensures nexts { IfOk result (λ l. AreNexts (asked index.now) (all_located l.spots.items) l.continuations l.nexts.items) }
 {

@@ -26,7 +26,8 @@ pub(crate) struct Seen {
 
 /// The places of what chains reach.
 fn reached_places(alloc: Global, index: &Index<'_>, links: &Links<'_>) -> Result<Places, NoMemory>
-    requires spots { all_located links.now.spots.items ≡ filter kinds.is_continuation index.now.spots ++ filter kinds.is_start index.now.spots }
+    requires spots { all_located links.now.spots.items
+        ≡ filter kinds.is_continuation index.now.spots ++ filter kinds.is_start index.now.spots }
     requires count { links.now.continuations ≡ length (filter kinds.is_continuation index.now.spots) }
     requires nexts { AreNexts (asked index.now) (all_located links.now.spots.items) links.now.continuations links.now.nexts.items }
     ensures { IfOk result (λ p. StandsFor p (reached_by (asked index.now) (most_of (asked index.now)) index.now.spots)) }
@@ -38,7 +39,8 @@ fn reached_places(alloc: Global, index: &Index<'_>, links: &Links<'_>) -> Result
 
 /// The places of what stands inside another element of its chain.
 fn inner_places(alloc: Global, index: &Index<'_>, links: &Links<'_>) -> Result<Places, NoMemory>
-    requires spots { all_located links.now.spots.items ≡ filter kinds.is_continuation index.now.spots ++ filter kinds.is_start index.now.spots }
+    requires spots { all_located links.now.spots.items
+        ≡ filter kinds.is_continuation index.now.spots ++ filter kinds.is_start index.now.spots }
     requires count { links.now.continuations ≡ length (filter kinds.is_continuation index.now.spots) }
     requires nexts { AreNexts (asked index.now) (all_located links.now.spots.items) links.now.continuations links.now.nexts.items }
     ensures { IfOk result (λ p. StandsFor p (inner_by (asked index.now) (most_of (asked index.now)) index.now.spots)) }

@@ -160,7 +160,8 @@ pub(crate) fn push_attributes(
     element: &Element<'_>,
     out: &mut Text,
 ) -> Result<(), NoMemory>
-    ensures { OnOk result (out.new ≡ out.old ++ attrs_text (spec.own_attributes (option_map (λ b. b.now) base.entry) (tree_of element.now).head) []) }
+    ensures { OnOk result (out.new ≡ out.old
+        ++ attrs_text (spec.own_attributes (option_map (λ b. b.now) base.entry) (tree_of element.now).head) []) }
 {
     let owns = owns_of(alloc, base, element)?;
     for own in &owns {

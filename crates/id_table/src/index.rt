@@ -309,7 +309,8 @@ impl<'a> Index<'a> {
     }
 
     fn repeats_tuple_id(&self, spot: &Spot<'_>) -> bool
-        ensures { result ≡ option_map_or (λ id. are_many (asked self.now) (ids.holds_tuple_id id)) (ids.tuple_id_of (located spot.now)) false }
+        ensures { result
+            ≡ option_map_or (λ id. are_many (asked self.now) (ids.holds_tuple_id id)) (ids.tuple_id_of (located spot.now)) false }
     {
         match tuple_id_at(spot) {
             Some(id) => self.count_tuples(id) > 1,

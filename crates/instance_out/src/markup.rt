@@ -34,7 +34,8 @@ pub fn push_text(text: &str, out: &mut Text) -> Result<(), NoMemory>
 
 /// Appends an attribute, if it has a value.
 pub fn push_attribute(attribute: Valued<'_>, out: &mut Text) -> Result<(), NoMemory>
-    ensures { OnOk result (Gains out.old out.new (attrs_text (attr_if attribute.entry.name.now (option_map (λ v. v.now) attribute.entry.value)))) }
+    ensures { OnOk result (Gains out.old out.new
+        (attrs_text (attr_if attribute.entry.name.now (option_map (λ v. v.now) attribute.entry.value)))) }
 {
     let Some(value) = attribute.value else {
         return Ok(());

@@ -34,7 +34,8 @@ fn member_name(member: &Member) -> &OwnName
 
 /// Adds the names in contexts.
 fn add_contexts<'a>(contexts: &'a [Context], names: &mut Vec<&'a OwnName>) -> Result<(), NoMemory>
-    ensures { OnOk result (Gains (values_of names.old.items) (values_of names.new.items) (λ more. flat_map context_names contexts.now ++ more)) }
+    ensures { OnOk result (Gains (values_of names.old.items) (values_of names.new.items)
+        (λ more. flat_map context_names contexts.now ++ more)) }
 {
     for context in contexts {
         add_dims(context.segment.as_slice(), names)?;
@@ -67,7 +68,8 @@ fn add_units<'a>(units: &'a [Unit], names: &mut Vec<&'a OwnName>) -> Result<(), 
 /// Adds the names of a fact and of its members.
 #[cycle(add)]
 fn add_fact<'a>(fact: &'a Fact, names: &mut Vec<&'a OwnName>) -> Result<(), NoMemory>
-    ensures { OnOk result (Gains (values_of names.old.items) (values_of names.new.items) (λ more. fact_names (before fact.now none) ++ more)) }
+    ensures { OnOk result (Gains (values_of names.old.items) (values_of names.new.items)
+        (λ more. fact_names (before fact.now none) ++ more)) }
 {
     match fact {
         Fact::Item(item) => {
@@ -85,7 +87,8 @@ fn add_fact<'a>(fact: &'a Fact, names: &mut Vec<&'a OwnName>) -> Result<(), NoMe
 /// Adds the names of facts and of their members.
 #[cycle(add)]
 fn add_facts<'a>(facts: &'a [Fact], names: &mut Vec<&'a OwnName>) -> Result<(), NoMemory>
-    ensures { OnOk result (Gains (values_of names.old.items) (values_of names.new.items) (λ more. fact_names (facts_of facts.now) ++ more)) }
+    ensures { OnOk result (Gains (values_of names.old.items) (values_of names.new.items)
+        (λ more. fact_names (facts_of facts.now) ++ more)) }
 {
     for fact in facts {
         add_fact(fact, names)?;

@@ -26,7 +26,8 @@ fn has_some(e: &Element, ns: &str, local: &str) -> bool
 /// Whether there is no other type than a simple one.
 #[tactic(auto, unfolding(ix_base::specs::Namespaces::xlink_namespace))]
 fn is_simple(e: &Element) -> bool
-    ensures { result ≡ option_map_or (λ value. bytes_eq value (codes "simple")) (value_of (tree_of e.now).head.attrs xlink_namespace (codes "type")) true }
+    ensures { result ≡ option_map_or (λ value. bytes_eq value (codes "simple"))
+        (value_of (tree_of e.now).head.attrs xlink_namespace (codes "type")) true }
 {
     match attr_of(e, XLINK, "type") {
         None => true,

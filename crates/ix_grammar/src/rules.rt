@@ -105,7 +105,8 @@ fn check_some(
 ) -> Result<(), NoMemory>
     requires { option_map (λ s. s.now) of.now.lang ≡ spec_lang_along (path_of (placed of.now.spot.now)) }
     ensures ok { OnOk result (breaches.new ≡ breaches.old ++ found_as rules.now of.now.kind of.now.place (placed of.now.spot.now)) }
-    ensures err { OnErr result (AppendsFront (found_as rules.now of.now.kind of.now.place (placed of.now.spot.now)) breaches.old breaches.new) }
+    ensures err { OnErr result (AppendsFront
+        (found_as rules.now of.now.kind of.now.place (placed of.now.spot.now)) breaches.old breaches.new) }
 {
     for rule in rules {
         let is_broken = breaks(alloc, *rule, of)?;

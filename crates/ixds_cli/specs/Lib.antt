@@ -1,3 +1,4 @@
+pub mod Deeds
 pub mod Ending
 pub mod TargetPath
 pub mod Words

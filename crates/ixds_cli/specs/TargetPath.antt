@@ -8,3 +8,7 @@ target_mark (c ∷ cs) = codes "-" ++ (c ∷ cs)
 
 unfoldable pub target_path : List ℕ → List ℕ → List ℕ
 target_path dir target = dir ++ (codes "/instance" ++ (target_mark target ++ codes ".xbrl"))
+
+-- where a target is written until it is whole: beside its place, in the same folder
+unfoldable pub beside_path : List ℕ → List ℕ
+beside_path place = place ++ codes ".part"

@@ -1,5 +1,6 @@
 //! Pages that are files.
-ghost use Rattle.std.specs.Prelude.{◌≡◌, ◌≤◌, length, take, IfSome};
+ghost use Rattle.std.specs.Prelude.{◌≡◌, ◌≤◌, ◌<◌, length, take, IfSome, None};
+ghost use Rattle.std.specs.Io.KnownBytes.{Consumes, IsAtEnd, Keeps};
 
 use ix_base::{Failed, PageSource};
 use std::io::Read;
@@ -42,10 +43,13 @@ fn keep(asked: &mut [u8; 4096], name: &str)
 }
 
 /// Reads a piece, again where the call was interrupted. None where it fails.
-fn read_some<F: Read>(file: &mut F, buf: &mut [u8]) -> Option<usize>
-    ensures { IfSome result (λ n. n ≤ length buf.new) }
+pub fn read_some<F: Read>(file: &mut F, buf: &mut [u8]) -> Option<usize>
+    ensures within { IfSome result (λ n. n ≤ length buf.new) }
+    ensures bytes { IfSome result (λ n. Consumes (F.remaining file.old) (F.remaining file.new) (take n buf.new)) }
+    ensures end { IfSome result (λ n. n ≡ 0 → 0 < length buf.old → IsAtEnd (F.remaining file.new)) }
+    ensures fails { result ≡ None → Keeps (F.remaining file.old) (F.remaining file.new) }
 {
-    for _ in 0..u64::MAX {
+    'tries: for _ in 0..u64::MAX {
         match file.read(buf) {
             Ok(n) => return Some(n),
             Err(error) if error.kind() == io::ErrorKind::Interrupted => {}

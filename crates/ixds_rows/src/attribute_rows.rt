@@ -42,7 +42,8 @@ pub const FIRST: [(&str, &str); 19] = [
         "50 N15",
     ),
     (
-        "<ix:fraction name='A' contextRef='c' unitRef='u'><ix:numerator><b/></ix:numerator><ix:denominator>1</ix:denominator></ix:fraction>",
+        "<ix:fraction name='A' contextRef='c' unitRef='u'><ix:numerator><b/></ix:numerator><ix:denominator>1\
+        </ix:denominator></ix:fraction>",
         "99 N17",
     ),
     ("<ix:footnote id='n'/>", "50 N18"),
@@ -89,19 +90,31 @@ pub const GIVEN: [(&str, &str); 24] = [
         "50 N3",
     ),
     (
-        "<ix:header id='i' class='c' style='s' title='t' lang='l'><ix:hidden class='c' style='s' title='t' lang='l'/><ix:references class='c' style='s' title='t' lang='l' target='t'/><ix:resources class='c' style='s' title='t' lang='l'><ix:relationship fromRefs='a' toRefs='b' class='c' style='s' title='t' lang='l'/></ix:resources></ix:header>",
+        "<ix:header id='i' class='c' style='s' title='t' lang='l'><ix:hidden class='c' style='s' title='t' lang='l'/>\
+        <ix:references class='c' style='s' title='t' lang='l' target='t'/>\
+        <ix:resources class='c' style='s' title='t' lang='l'>\
+        <ix:relationship fromRefs='a' toRefs='b' class='c' style='s' title='t' lang='l'/></ix:resources></ix:header>",
         "",
     ),
     (
-        "<ix:nonNumeric name='A' contextRef='c' id='i' class='c' style='s' title='t' lang='l'><ix:exclude class='c' style='s' title='t' lang='l'/></ix:nonNumeric><ix:continuation id='i' class='c' style='s' title='t' lang='l'/><ix:footnote id='i' class='c' style='s' title='t' lang='l' xml:lang='en'/><ix:tuple name='A' class='c' style='s' title='t' lang='l'/>",
+        "<ix:nonNumeric name='A' contextRef='c' id='i' class='c' style='s' title='t' lang='l'>\
+        <ix:exclude class='c' style='s' title='t' lang='l'/></ix:nonNumeric>\
+        <ix:continuation id='i' class='c' style='s' title='t' lang='l'/>\
+        <ix:footnote id='i' class='c' style='s' title='t' lang='l' xml:lang='en'/>\
+        <ix:tuple name='A' class='c' style='s' title='t' lang='l'/>",
         "",
     ),
     (
-        "<ix:fraction name='A' contextRef='c' unitRef='u' id='i' class='c' style='s' title='t' lang='l'><ix:numerator class='c' style='s' title='t' lang='l'>1</ix:numerator><ix:denominator class='c' style='s' title='t' lang='l'>1</ix:denominator></ix:fraction><ix:nonFraction name='A' contextRef='c' unitRef='u' decimals='0' class='c' style='s' title='t' lang='l'>1</ix:nonFraction>",
+        "<ix:fraction name='A' contextRef='c' unitRef='u' id='i' class='c' style='s' title='t' lang='l'>\
+        <ix:numerator class='c' style='s' title='t' lang='l'>1</ix:numerator>\
+        <ix:denominator class='c' style='s' title='t' lang='l'>1</ix:denominator></ix:fraction>\
+        <ix:nonFraction name='A' contextRef='c' unitRef='u' decimals='0' class='c' style='s' title='t' lang='l'>1\
+        </ix:nonFraction>",
         "",
     ),
     (
-        "<ix:nonFraction name='A' contextRef='c' unitRef='u' decimals='0' format='A' scale='1' sign='-' order='1' target='t' tupleRef='t'>1</ix:nonFraction>",
+        "<ix:nonFraction name='A' contextRef='c' unitRef='u' decimals='0' format='A' scale='1' sign='-' order='1' \
+        target='t' tupleRef='t'>1</ix:nonFraction>",
         "",
     ),
     (
@@ -109,11 +122,14 @@ pub const GIVEN: [(&str, &str); 24] = [
         "",
     ),
     (
-        "<ix:fraction name='A' contextRef='c' unitRef='u' order='1' target='t' tupleRef='t'><ix:numerator format='A' scale='1' sign='-'>1</ix:numerator><ix:denominator format='A' scale='1' sign='-'>1</ix:denominator></ix:fraction>",
+        "<ix:fraction name='A' contextRef='c' unitRef='u' order='1' target='t' tupleRef='t'>\
+        <ix:numerator format='A' scale='1' sign='-'>1</ix:numerator><ix:denominator format='A' scale='1' sign='-'>1\
+        </ix:denominator></ix:fraction>",
         "",
     ),
     (
-        "<ix:tuple name='A' order='1' target='t' tupleID='t' tupleRef='t'/><ix:continuation id='k' continuedAt='k'/><ix:footnote id='n' continuedAt='k' footnoteRole='r' xml:lang='en'/>",
+        "<ix:tuple name='A' order='1' target='t' tupleID='t' tupleRef='t'/><ix:continuation id='k' continuedAt='k'/>\
+        <ix:footnote id='n' continuedAt='k' footnoteRole='r' xml:lang='en'/>",
         "",
     ),
     (
@@ -228,7 +244,8 @@ pub const NUMBERS: [(&str, &str); 44] = [
         "",
     ),
     (
-        "<ix:nonFraction name='A' contextRef='c' unitRef='u' decimals='0' scale='00000000000000000000000000000000000000007'>1</ix:nonFraction>",
+        "<ix:nonFraction name='A' contextRef='c' unitRef='u' decimals='0' \
+        scale='00000000000000000000000000000000000000007'>1</ix:nonFraction>",
         "",
     ),
     (

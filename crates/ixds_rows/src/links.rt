@@ -6,6 +6,7 @@ ghost use Rattle.ix_base.specs.Located.{located};
 use crate::pages::{joined, root_of};
 use bumpalo::Bump;
 use continuations::link;
+use escape_text::plain;
 use id_table::Index;
 use ix_base::{Breach, Breaches, Spot, Text};
 use std::alloc::Global;
@@ -99,7 +100,8 @@ const CHAINS: [(&str, &str); 10] = [
         "a:50 L6;a:109 L6;",
     ),
     (
-        "<ix:continuation id=\"b\" continuedAt=\"c\">x</ix:continuation><ix:continuation id=\"c\" continuedAt=\"b\">y</ix:continuation><ix:footnote id=\"a\" continuedAt=\"b\" xml:lang=\"en\">z</ix:footnote>",
+        "<ix:continuation id=\"b\" continuedAt=\"c\">x</ix:continuation><ix:continuation id=\"c\" continuedAt=\"b\">y\
+        </ix:continuation><ix:footnote id=\"a\" continuedAt=\"b\" xml:lang=\"en\">z</ix:footnote>",
         "a:50 L5;",
     ),
     (
@@ -111,7 +113,8 @@ const CHAINS: [(&str, &str); 10] = [
         "a:124 L5;",
     ),
     (
-        "<ix:continuation id=\"k\" continuedAt=\"m\">a<ix:continuation id=\"m\">b</ix:continuation></ix:continuation><ix:footnote id=\"f\" continuedAt=\"k\"/><ix:footnote id=\"g\" continuedAt=\"k\"/>",
+        "<ix:continuation id=\"k\" continuedAt=\"m\">a<ix:continuation id=\"m\">b</ix:continuation></ix:continuation>\
+        <ix:footnote id=\"f\" continuedAt=\"k\"/><ix:footnote id=\"g\" continuedAt=\"k\"/>",
         "a:50 L5;a:91 L7;",
     ),
     (
@@ -172,6 +175,86 @@ const LAST: &str = "<p xmlns:ix=\"http://www.xbrl.org/2013/inlineXBRL\">\
 const MIDDLE: &str = "<p xmlns:ix=\"http://www.xbrl.org/2013/inlineXBRL\">\
 <ix:continuation id=\"k1\" continuedAt=\"k2\">two<ix:exclude> page 3</ix:exclude>, </ix:continuation></p>";
 
+/// A text that goes on in three other pages.
+const FOUR: [(&str, &str); 4] = [
+    (
+        "a",
+        "<p xmlns:ix=\"http://www.xbrl.org/2013/inlineXBRL\">\
+        <ix:nonNumeric name=\"A\" contextRef=\"c1\" id=\"t1\" continuedAt=\"k1\">One </ix:nonNumeric></p>",
+    ),
+    (
+        "b",
+        "<p xmlns:ix=\"http://www.xbrl.org/2013/inlineXBRL\">\
+        <ix:continuation id=\"k2\" continuedAt=\"k3\">three, </ix:continuation></p>",
+    ),
+    (
+        "c",
+        "<p xmlns:ix=\"http://www.xbrl.org/2013/inlineXBRL\">\
+        <ix:continuation id=\"k1\" continuedAt=\"k2\">two<ix:exclude> page 3</ix:exclude>, </ix:continuation></p>",
+    ),
+    (
+        "d",
+        "<p xmlns:ix=\"http://www.xbrl.org/2013/inlineXBRL\"><ix:continuation id=\"k3\">four.</ix:continuation></p>",
+    ),
+];
+
+/// The orders of four pages.
+const ORDERS: [[usize; 4]; 24] = [
+    [0, 1, 2, 3],
+    [0, 1, 3, 2],
+    [0, 2, 1, 3],
+    [0, 2, 3, 1],
+    [0, 3, 1, 2],
+    [0, 3, 2, 1],
+    [1, 0, 2, 3],
+    [1, 0, 3, 2],
+    [1, 2, 0, 3],
+    [1, 2, 3, 0],
+    [1, 3, 0, 2],
+    [1, 3, 2, 0],
+    [2, 0, 1, 3],
+    [2, 0, 3, 1],
+    [2, 1, 0, 3],
+    [2, 1, 3, 0],
+    [2, 3, 0, 1],
+    [2, 3, 1, 0],
+    [3, 0, 1, 2],
+    [3, 0, 2, 1],
+    [3, 1, 0, 2],
+    [3, 1, 2, 0],
+    [3, 2, 0, 1],
+    [3, 2, 1, 0],
+];
+
+/// The text of the chain that begins at the element of this id, which these pages hold; none where no chain begins there.
+fn chain_text(alloc: Global, pages: &[(&str, &str)], head: &str) -> Result<Option<Text>, Fail> {
+    let arena = Bump::new(alloc);
+    let index = index_of(alloc, &arena, pages)?;
+    let mut breaches = Breaches::new(alloc);
+    let chains = link(alloc, &arena, &index, &mut breaches)?;
+    let entry = index.one(head).ok_or("no such element")?;
+    if !chains.has(entry.spot) {
+        return Ok(None);
+    }
+    let mut text = Text::of(alloc, "")?;
+    plain(chains.of(entry.spot), &mut text)?;
+    Ok(Some(text))
+}
+
+/// The first of these orders in which four pages don't give this text; their number where each gives it.
+fn wrong_order(alloc: Global, pages: &[(&str, &str); 4], orders: &[[usize; 4]], due: &str) -> Result<usize, Fail> {
+    for (i, &[a, b, c, d]) in orders.iter().enumerate() {
+        let (Some(a), Some(b), Some(c), Some(d)) = (pages.get(a), pages.get(b), pages.get(c), pages.get(d)) else {
+            return Ok(i);
+        };
+        match chain_text(alloc, &[*a, *b, *c, *d], "t1")? {
+            Some(text) if text.as_str() == due => {}
+            _ => return Ok(i),
+        }
+    }
+    Ok(orders.len())
+}
+
 /// The first content of a page of these whose ids, or else continuations, aren't reported so; empty where each is.
 fn wrong_report(
     alloc: Global,
@@ -206,5 +289,18 @@ fn links_break_these_rules_and_no_others(rt: HostRuntime) -> Result<(), Fail> {
     let chain = [("c", MIDDLE), ("b", LAST), ("a", NOTE)];
     assert_eq!(rt; linked(alloc, &chain)?.as_str(), "");
     assert_eq!(rt; linked(alloc, &chain[..2])?.as_str(), "b:50 L6;c:50 L6;");
+    Ok(())
+}
+
+/// A chain's texts stand in the order of its links, in whatever order its pages come. Where a rule on continuations is broken,
+/// there are no chains; a continuation begins none, and a text that isn't continued is a chain of its own.
+#[test]
+fn chains_stand_in_the_order_of_their_links(rt: HostRuntime) -> Result<(), Fail> {
+    let alloc = rt.alloc();
+    assert_eq!(rt; wrong_order(alloc, &FOUR, &ORDERS, "One two, three, four.")?, 24);
+    assert!(rt; chain_text(alloc, &FOUR, "k1")?.is_none());
+    assert!(rt; chain_text(alloc, &FOUR[..3], "t1")?.is_none());
+    let alone = chain_text(alloc, &[("a", FOOTNOTE)], "k")?.ok_or("no chain")?;
+    assert_eq!(rt; alone.as_str(), "n");
     Ok(())
 }

@@ -27,7 +27,7 @@ pub fn root_of<'a>(
 }
 
 /// The first element that an element holds.
-pub fn first_child<'a>(element: &Element<'a>) -> Option<&'a Element<'a>> {
+pub(crate) fn first_child<'a>(element: &Element<'a>) -> Option<&'a Element<'a>> {
     for node in element.children {
         if let Node::Elem(child) = node {
             return Some(child);
@@ -37,7 +37,7 @@ pub fn first_child<'a>(element: &Element<'a>) -> Option<&'a Element<'a>> {
 }
 
 /// Texts, one behind another.
-pub fn joined(alloc: Global, parts: &[&str]) -> Result<String, Fail> {
+pub(crate) fn joined(alloc: Global, parts: &[&str]) -> Result<String, Fail> {
     let mut text = String::new(alloc);
     for part in parts {
         text.push_str(part)?;

@@ -17,27 +17,35 @@ pub const PLACES: [(&str, &str); 20] = [
     ),
     ("<ix:numerator>1</ix:numerator>", "50 N12"),
     (
-        "<ix:fraction name='A' contextRef='c' unitRef='u'><ix:numerator>1</ix:numerator><ix:nonNumeric name='A' contextRef='c'><ix:denominator>1</ix:denominator></ix:nonNumeric></ix:fraction>",
+        "<ix:fraction name='A' contextRef='c' unitRef='u'><ix:numerator>1</ix:numerator>\
+        <ix:nonNumeric name='A' contextRef='c'><ix:denominator>1</ix:denominator></ix:nonNumeric></ix:fraction>",
         "50 N14, 129 N12, 168 N12",
     ),
     (
-        "<ix:fraction name='A' contextRef='c' unitRef='u'><b><ix:numerator>1</ix:numerator></b><ix:denominator>1</ix:denominator></ix:fraction>",
+        "<ix:fraction name='A' contextRef='c' unitRef='u'><b><ix:numerator>1</ix:numerator></b><ix:denominator>1\
+        </ix:denominator></ix:fraction>",
         "",
     ),
     (
-        "<ix:fraction name='A' contextRef='c' unitRef='u'><ix:numerator>1</ix:numerator><ix:denominator>1</ix:denominator><ix:fraction name='A' contextRef='c' unitRef='u'><ix:numerator>1</ix:numerator><ix:denominator>1</ix:denominator></ix:fraction></ix:fraction>",
+        "<ix:fraction name='A' contextRef='c' unitRef='u'><ix:numerator>1</ix:numerator><ix:denominator>1\
+        </ix:denominator><ix:fraction name='A' contextRef='c' unitRef='u'><ix:numerator>1</ix:numerator>\
+        <ix:denominator>1</ix:denominator></ix:fraction></ix:fraction>",
         "163 N12",
     ),
     (
-        "<ix:fraction name='A' contextRef='c' unitRef='u'><ix:numerator>1</ix:numerator><ix:denominator>1</ix:denominator><ix:nonFraction name='A' contextRef='c' unitRef='u' decimals='0'>1</ix:nonFraction></ix:fraction>",
+        "<ix:fraction name='A' contextRef='c' unitRef='u'><ix:numerator>1</ix:numerator><ix:denominator>1\
+        </ix:denominator><ix:nonFraction name='A' contextRef='c' unitRef='u' decimals='0'>1</ix:nonFraction>\
+        </ix:fraction>",
         "163 N12",
     ),
     (
-        "<ix:nonFraction name='A' contextRef='c' unitRef='u' decimals='0'><ix:nonFraction name='A' contextRef='c' unitRef='u' decimals='0'>1</ix:nonFraction></ix:nonFraction>",
+        "<ix:nonFraction name='A' contextRef='c' unitRef='u' decimals='0'>\
+        <ix:nonFraction name='A' contextRef='c' unitRef='u' decimals='0'>1</ix:nonFraction></ix:nonFraction>",
         "",
     ),
     (
-        "<ix:nonFraction name='A' contextRef='c' unitRef='u' decimals='0'><b><ix:nonFraction name='A' contextRef='c' unitRef='u' decimals='0'>1</ix:nonFraction></b></ix:nonFraction>",
+        "<ix:nonFraction name='A' contextRef='c' unitRef='u' decimals='0'><b>\
+        <ix:nonFraction name='A' contextRef='c' unitRef='u' decimals='0'>1</ix:nonFraction></b></ix:nonFraction>",
         "50 N15",
     ),
     (
@@ -45,15 +53,24 @@ pub const PLACES: [(&str, &str); 20] = [
         "50 N15, 115 N12",
     ),
     (
-        "<ix:tuple name='A'><ix:nonNumeric name='A' contextRef='c'/><ix:nonFraction name='A' contextRef='c' unitRef='u' decimals='0'>1</ix:nonFraction><ix:fraction name='A' contextRef='c' unitRef='u'><ix:numerator>1</ix:numerator><ix:denominator>1</ix:denominator></ix:fraction><ix:tuple name='A'/><ix:footnote id='n' xml:lang='en'/><ix:continuation id='k'/></ix:tuple>",
+        "<ix:tuple name='A'><ix:nonNumeric name='A' contextRef='c'/>\
+        <ix:nonFraction name='A' contextRef='c' unitRef='u' decimals='0'>1</ix:nonFraction>\
+        <ix:fraction name='A' contextRef='c' unitRef='u'><ix:numerator>1</ix:numerator><ix:denominator>1\
+        </ix:denominator></ix:fraction><ix:tuple name='A'/><ix:footnote id='n' xml:lang='en'/>\
+        <ix:continuation id='k'/></ix:tuple>",
         "",
     ),
     (
-        "<ix:nonNumeric name='A' contextRef='c'><ix:nonNumeric name='A' contextRef='c'/><ix:nonFraction name='A' contextRef='c' unitRef='u' decimals='0'>1</ix:nonFraction><ix:fraction name='A' contextRef='c' unitRef='u'><ix:numerator>1</ix:numerator><ix:denominator>1</ix:denominator></ix:fraction><ix:tuple name='A'/><ix:footnote id='n' xml:lang='en'/><ix:continuation id='k'/></ix:nonNumeric>",
+        "<ix:nonNumeric name='A' contextRef='c'><ix:nonNumeric name='A' contextRef='c'/>\
+        <ix:nonFraction name='A' contextRef='c' unitRef='u' decimals='0'>1</ix:nonFraction>\
+        <ix:fraction name='A' contextRef='c' unitRef='u'><ix:numerator>1</ix:numerator><ix:denominator>1\
+        </ix:denominator></ix:fraction><ix:tuple name='A'/><ix:footnote id='n' xml:lang='en'/>\
+        <ix:continuation id='k'/></ix:nonNumeric>",
         "",
     ),
     (
-        "<ix:continuation id='k'><ix:nonNumeric name='A' contextRef='c'/></ix:continuation><ix:footnote id='n' xml:lang='en'><ix:nonNumeric name='A' contextRef='c'/></ix:footnote>",
+        "<ix:continuation id='k'><ix:nonNumeric name='A' contextRef='c'/></ix:continuation>\
+        <ix:footnote id='n' xml:lang='en'><ix:nonNumeric name='A' contextRef='c'/></ix:footnote>",
         "",
     ),
     ("<ix:tuple name='A'><ix:exclude/></ix:tuple>", "69 N22"),
@@ -62,7 +79,9 @@ pub const PLACES: [(&str, &str); 20] = [
         "",
     ),
     (
-        "<ix:nonNumeric name='A' contextRef='c'><b><ix:exclude><b><ix:nonFraction name='A' contextRef='c' unitRef='u' decimals='0'>1</ix:nonFraction></b></ix:exclude></b></ix:nonNumeric>",
+        "<ix:nonNumeric name='A' contextRef='c'><b><ix:exclude><b>\
+        <ix:nonFraction name='A' contextRef='c' unitRef='u' decimals='0'>1</ix:nonFraction></b></ix:exclude></b>\
+        </ix:nonNumeric>",
         "",
     ),
     (
@@ -95,7 +114,8 @@ pub const CHILDREN: [(&str, &str); 76] = [
         "50 N13, 61 N12",
     ),
     (
-        "<ix:header><ix:fraction name='A' contextRef='c' unitRef='u'><ix:numerator>1</ix:numerator><ix:denominator>1</ix:denominator></ix:fraction></ix:header>",
+        "<ix:header><ix:fraction name='A' contextRef='c' unitRef='u'><ix:numerator>1</ix:numerator><ix:denominator>1\
+        </ix:denominator></ix:fraction></ix:header>",
         "50 N13, 61 N12",
     ),
     (
@@ -123,23 +143,28 @@ pub const CHILDREN: [(&str, &str); 76] = [
         "50 N13, 61 N12",
     ),
     (
-        "<ix:header><l:schemaRef xmlns:l='http://www.xbrl.org/2003/linkbase' xmlns:k='http://www.w3.org/1999/xlink' k:href='h'/></ix:header>",
+        "<ix:header><l:schemaRef xmlns:l='http://www.xbrl.org/2003/linkbase' xmlns:k='http://www.w3.org/1999/xlink' \
+        k:href='h'/></ix:header>",
         "50 N13",
     ),
     (
-        "<ix:header><l:linkbaseRef xmlns:l='http://www.xbrl.org/2003/linkbase' xmlns:k='http://www.w3.org/1999/xlink' k:href='h'/></ix:header>",
+        "<ix:header><l:linkbaseRef xmlns:l='http://www.xbrl.org/2003/linkbase' xmlns:k='http://www.w3.org/1999/xlink' \
+        k:href='h'/></ix:header>",
         "50 N13",
     ),
     (
-        "<ix:header><l:roleRef xmlns:l='http://www.xbrl.org/2003/linkbase' xmlns:k='http://www.w3.org/1999/xlink' k:href='h' roleURI='r'/></ix:header>",
+        "<ix:header><l:roleRef xmlns:l='http://www.xbrl.org/2003/linkbase' xmlns:k='http://www.w3.org/1999/xlink' \
+        k:href='h' roleURI='r'/></ix:header>",
         "50 N13",
     ),
     (
-        "<ix:header><l:arcroleRef xmlns:l='http://www.xbrl.org/2003/linkbase' xmlns:k='http://www.w3.org/1999/xlink' k:href='h' arcroleURI='r'/></ix:header>",
+        "<ix:header><l:arcroleRef xmlns:l='http://www.xbrl.org/2003/linkbase' xmlns:k='http://www.w3.org/1999/xlink' \
+        k:href='h' arcroleURI='r'/></ix:header>",
         "50 N13",
     ),
     (
-        "<ix:header><x:context xmlns:x='http://www.xbrl.org/2003/instance' id='c'><x:entity><x:identifier scheme='s'>1</x:identifier></x:entity><x:period><x:forever/></x:period></x:context></ix:header>",
+        "<ix:header><x:context xmlns:x='http://www.xbrl.org/2003/instance' id='c'><x:entity><x:identifier scheme='s'>1\
+        </x:identifier></x:entity><x:period><x:forever/></x:period></x:context></ix:header>",
         "50 N13",
     ),
     (
@@ -150,7 +175,10 @@ pub const CHILDREN: [(&str, &str); 76] = [
     ("<ix:header><ix:foo/></ix:header>", "50 N13, 61 N1"),
     ("<ix:header>x</ix:header>", "50 N13"),
     (
-        "<ix:header><ix:hidden><ix:continuation id='k'/><ix:footnote id='n' xml:lang='en'/><ix:fraction name='A' contextRef='c' unitRef='u'><ix:numerator>1</ix:numerator><ix:denominator>1</ix:denominator></ix:fraction><ix:nonFraction name='A' contextRef='c' unitRef='u' decimals='0'>1</ix:nonFraction><ix:nonNumeric name='A' contextRef='c'/><ix:tuple name='A'/> \n </ix:hidden></ix:header>",
+        "<ix:header><ix:hidden><ix:continuation id='k'/><ix:footnote id='n' xml:lang='en'/>\
+        <ix:fraction name='A' contextRef='c' unitRef='u'><ix:numerator>1</ix:numerator><ix:denominator>1\
+        </ix:denominator></ix:fraction><ix:nonFraction name='A' contextRef='c' unitRef='u' decimals='0'>1\
+        </ix:nonFraction><ix:nonNumeric name='A' contextRef='c'/><ix:tuple name='A'/> \n </ix:hidden></ix:header>",
         "",
     ),
     (
@@ -182,27 +210,34 @@ pub const CHILDREN: [(&str, &str); 76] = [
         "61 N13, 72 N12",
     ),
     (
-        "<ix:header><ix:hidden><l:schemaRef xmlns:l='http://www.xbrl.org/2003/linkbase' xmlns:k='http://www.w3.org/1999/xlink' k:href='h'/></ix:hidden></ix:header>",
+        "<ix:header><ix:hidden><l:schemaRef xmlns:l='http://www.xbrl.org/2003/linkbase' \
+        xmlns:k='http://www.w3.org/1999/xlink' k:href='h'/></ix:hidden></ix:header>",
         "61 N13",
     ),
     (
-        "<ix:header><ix:hidden><l:linkbaseRef xmlns:l='http://www.xbrl.org/2003/linkbase' xmlns:k='http://www.w3.org/1999/xlink' k:href='h'/></ix:hidden></ix:header>",
+        "<ix:header><ix:hidden><l:linkbaseRef xmlns:l='http://www.xbrl.org/2003/linkbase' \
+        xmlns:k='http://www.w3.org/1999/xlink' k:href='h'/></ix:hidden></ix:header>",
         "61 N13",
     ),
     (
-        "<ix:header><ix:hidden><l:roleRef xmlns:l='http://www.xbrl.org/2003/linkbase' xmlns:k='http://www.w3.org/1999/xlink' k:href='h' roleURI='r'/></ix:hidden></ix:header>",
+        "<ix:header><ix:hidden><l:roleRef xmlns:l='http://www.xbrl.org/2003/linkbase' \
+        xmlns:k='http://www.w3.org/1999/xlink' k:href='h' roleURI='r'/></ix:hidden></ix:header>",
         "61 N13",
     ),
     (
-        "<ix:header><ix:hidden><l:arcroleRef xmlns:l='http://www.xbrl.org/2003/linkbase' xmlns:k='http://www.w3.org/1999/xlink' k:href='h' arcroleURI='r'/></ix:hidden></ix:header>",
+        "<ix:header><ix:hidden><l:arcroleRef xmlns:l='http://www.xbrl.org/2003/linkbase' \
+        xmlns:k='http://www.w3.org/1999/xlink' k:href='h' arcroleURI='r'/></ix:hidden></ix:header>",
         "61 N13",
     ),
     (
-        "<ix:header><ix:hidden><x:context xmlns:x='http://www.xbrl.org/2003/instance' id='c'><x:entity><x:identifier scheme='s'>1</x:identifier></x:entity><x:period><x:forever/></x:period></x:context></ix:hidden></ix:header>",
+        "<ix:header><ix:hidden><x:context xmlns:x='http://www.xbrl.org/2003/instance' id='c'><x:entity>\
+        <x:identifier scheme='s'>1</x:identifier></x:entity><x:period><x:forever/></x:period></x:context></ix:hidden>\
+        </ix:header>",
         "61 N13",
     ),
     (
-        "<ix:header><ix:hidden><x:unit xmlns:x='http://www.xbrl.org/2003/instance' id='u'><x:measure>m</x:measure></x:unit></ix:hidden></ix:header>",
+        "<ix:header><ix:hidden><x:unit xmlns:x='http://www.xbrl.org/2003/instance' id='u'><x:measure>m</x:measure>\
+        </x:unit></ix:hidden></ix:header>",
         "61 N13",
     ),
     (
@@ -215,7 +250,10 @@ pub const CHILDREN: [(&str, &str); 76] = [
     ),
     ("<ix:header><ix:hidden>x</ix:hidden></ix:header>", "61 N13"),
     (
-        "<ix:header><ix:references><l:schemaRef xmlns:l='http://www.xbrl.org/2003/linkbase' xmlns:k='http://www.w3.org/1999/xlink' k:href='h'/><l:linkbaseRef xmlns:l='http://www.xbrl.org/2003/linkbase' xmlns:k='http://www.w3.org/1999/xlink' k:href='h'/> \n </ix:references></ix:header>",
+        "<ix:header><ix:references><l:schemaRef xmlns:l='http://www.xbrl.org/2003/linkbase' \
+        xmlns:k='http://www.w3.org/1999/xlink' k:href='h'/>\
+        <l:linkbaseRef xmlns:l='http://www.xbrl.org/2003/linkbase' xmlns:k='http://www.w3.org/1999/xlink' \
+        k:href='h'/> \n </ix:references></ix:header>",
         "",
     ),
     (
@@ -243,11 +281,13 @@ pub const CHILDREN: [(&str, &str); 76] = [
         "61 N13, 76 N12",
     ),
     (
-        "<ix:header><ix:references><ix:fraction name='A' contextRef='c' unitRef='u'><ix:numerator>1</ix:numerator><ix:denominator>1</ix:denominator></ix:fraction></ix:references></ix:header>",
+        "<ix:header><ix:references><ix:fraction name='A' contextRef='c' unitRef='u'><ix:numerator>1</ix:numerator>\
+        <ix:denominator>1</ix:denominator></ix:fraction></ix:references></ix:header>",
         "61 N13, 76 N12",
     ),
     (
-        "<ix:header><ix:references><ix:nonFraction name='A' contextRef='c' unitRef='u' decimals='0'>1</ix:nonFraction></ix:references></ix:header>",
+        "<ix:header><ix:references><ix:nonFraction name='A' contextRef='c' unitRef='u' decimals='0'>1</ix:nonFraction>\
+        </ix:references></ix:header>",
         "61 N13, 76 N12",
     ),
     (
@@ -271,19 +311,24 @@ pub const CHILDREN: [(&str, &str); 76] = [
         "61 N13, 76 N12",
     ),
     (
-        "<ix:header><ix:references><l:roleRef xmlns:l='http://www.xbrl.org/2003/linkbase' xmlns:k='http://www.w3.org/1999/xlink' k:href='h' roleURI='r'/></ix:references></ix:header>",
+        "<ix:header><ix:references><l:roleRef xmlns:l='http://www.xbrl.org/2003/linkbase' \
+        xmlns:k='http://www.w3.org/1999/xlink' k:href='h' roleURI='r'/></ix:references></ix:header>",
         "61 N13",
     ),
     (
-        "<ix:header><ix:references><l:arcroleRef xmlns:l='http://www.xbrl.org/2003/linkbase' xmlns:k='http://www.w3.org/1999/xlink' k:href='h' arcroleURI='r'/></ix:references></ix:header>",
+        "<ix:header><ix:references><l:arcroleRef xmlns:l='http://www.xbrl.org/2003/linkbase' \
+        xmlns:k='http://www.w3.org/1999/xlink' k:href='h' arcroleURI='r'/></ix:references></ix:header>",
         "61 N13",
     ),
     (
-        "<ix:header><ix:references><x:context xmlns:x='http://www.xbrl.org/2003/instance' id='c'><x:entity><x:identifier scheme='s'>1</x:identifier></x:entity><x:period><x:forever/></x:period></x:context></ix:references></ix:header>",
+        "<ix:header><ix:references><x:context xmlns:x='http://www.xbrl.org/2003/instance' id='c'><x:entity>\
+        <x:identifier scheme='s'>1</x:identifier></x:entity><x:period><x:forever/></x:period></x:context>\
+        </ix:references></ix:header>",
         "61 N13",
     ),
     (
-        "<ix:header><ix:references><x:unit xmlns:x='http://www.xbrl.org/2003/instance' id='u'><x:measure>m</x:measure></x:unit></ix:references></ix:header>",
+        "<ix:header><ix:references><x:unit xmlns:x='http://www.xbrl.org/2003/instance' id='u'><x:measure>m</x:measure>\
+        </x:unit></ix:references></ix:header>",
         "61 N13",
     ),
     (
@@ -299,7 +344,13 @@ pub const CHILDREN: [(&str, &str); 76] = [
         "61 N13",
     ),
     (
-        "<ix:header><ix:resources><ix:relationship fromRefs='a' toRefs='b'/><l:roleRef xmlns:l='http://www.xbrl.org/2003/linkbase' xmlns:k='http://www.w3.org/1999/xlink' k:href='h' roleURI='r'/><l:arcroleRef xmlns:l='http://www.xbrl.org/2003/linkbase' xmlns:k='http://www.w3.org/1999/xlink' k:href='h' arcroleURI='r'/><x:context xmlns:x='http://www.xbrl.org/2003/instance' id='c'><x:entity><x:identifier scheme='s'>1</x:identifier></x:entity><x:period><x:forever/></x:period></x:context><x:unit xmlns:x='http://www.xbrl.org/2003/instance' id='u'><x:measure>m</x:measure></x:unit> \n </ix:resources></ix:header>",
+        "<ix:header><ix:resources><ix:relationship fromRefs='a' toRefs='b'/>\
+        <l:roleRef xmlns:l='http://www.xbrl.org/2003/linkbase' xmlns:k='http://www.w3.org/1999/xlink' k:href='h' \
+        roleURI='r'/><l:arcroleRef xmlns:l='http://www.xbrl.org/2003/linkbase' xmlns:k='http://www.w3.org/1999/xlink' \
+        k:href='h' arcroleURI='r'/><x:context xmlns:x='http://www.xbrl.org/2003/instance' id='c'><x:entity>\
+        <x:identifier scheme='s'>1</x:identifier></x:entity><x:period><x:forever/></x:period></x:context>\
+        <x:unit xmlns:x='http://www.xbrl.org/2003/instance' id='u'><x:measure>m</x:measure></x:unit> \n \
+        </ix:resources></ix:header>",
         "",
     ),
     (
@@ -327,11 +378,13 @@ pub const CHILDREN: [(&str, &str); 76] = [
         "61 N13, 75 N12",
     ),
     (
-        "<ix:header><ix:resources><ix:fraction name='A' contextRef='c' unitRef='u'><ix:numerator>1</ix:numerator><ix:denominator>1</ix:denominator></ix:fraction></ix:resources></ix:header>",
+        "<ix:header><ix:resources><ix:fraction name='A' contextRef='c' unitRef='u'><ix:numerator>1</ix:numerator>\
+        <ix:denominator>1</ix:denominator></ix:fraction></ix:resources></ix:header>",
         "61 N13, 75 N12",
     ),
     (
-        "<ix:header><ix:resources><ix:nonFraction name='A' contextRef='c' unitRef='u' decimals='0'>1</ix:nonFraction></ix:resources></ix:header>",
+        "<ix:header><ix:resources><ix:nonFraction name='A' contextRef='c' unitRef='u' decimals='0'>1</ix:nonFraction>\
+        </ix:resources></ix:header>",
         "61 N13, 75 N12",
     ),
     (
@@ -351,11 +404,13 @@ pub const CHILDREN: [(&str, &str); 76] = [
         "61 N13, 75 N12",
     ),
     (
-        "<ix:header><ix:resources><l:schemaRef xmlns:l='http://www.xbrl.org/2003/linkbase' xmlns:k='http://www.w3.org/1999/xlink' k:href='h'/></ix:resources></ix:header>",
+        "<ix:header><ix:resources><l:schemaRef xmlns:l='http://www.xbrl.org/2003/linkbase' \
+        xmlns:k='http://www.w3.org/1999/xlink' k:href='h'/></ix:resources></ix:header>",
         "61 N13",
     ),
     (
-        "<ix:header><ix:resources><l:linkbaseRef xmlns:l='http://www.xbrl.org/2003/linkbase' xmlns:k='http://www.w3.org/1999/xlink' k:href='h'/></ix:resources></ix:header>",
+        "<ix:header><ix:resources><l:linkbaseRef xmlns:l='http://www.xbrl.org/2003/linkbase' \
+        xmlns:k='http://www.w3.org/1999/xlink' k:href='h'/></ix:resources></ix:header>",
         "61 N13",
     ),
     (
@@ -375,27 +430,33 @@ pub const CHILDREN: [(&str, &str); 76] = [
 /// Facts without a value.
 pub const NIL: [(&str, &str); 10] = [
     (
-        "<ix:nonFraction name='A' contextRef='c' unitRef='u' xmlns:x='http://www.w3.org/2001/XMLSchema-instance' x:nil='1'></ix:nonFraction>",
+        "<ix:nonFraction name='A' contextRef='c' unitRef='u' xmlns:x='http://www.w3.org/2001/XMLSchema-instance' \
+        x:nil='1'></ix:nonFraction>",
         "",
     ),
     (
-        "<ix:nonFraction name='A' contextRef='c' unitRef='u' xmlns:x='http://www.w3.org/2001/XMLSchema-instance' x:nil=' true '><b/></ix:nonFraction>",
+        "<ix:nonFraction name='A' contextRef='c' unitRef='u' xmlns:x='http://www.w3.org/2001/XMLSchema-instance' \
+        x:nil=' true '><b/></ix:nonFraction>",
         "",
     ),
     (
-        "<ix:nonFraction name='A' contextRef='c' unitRef='u' xmlns:x='http://www.w3.org/2001/XMLSchema-instance' x:nil='1' decimals='0' precision='1'></ix:nonFraction>",
+        "<ix:nonFraction name='A' contextRef='c' unitRef='u' xmlns:x='http://www.w3.org/2001/XMLSchema-instance' \
+        x:nil='1' decimals='0' precision='1'></ix:nonFraction>",
         "50 N9",
     ),
     (
-        "<ix:nonFraction name='A' contextRef='c' unitRef='u' xmlns:x='http://www.w3.org/2001/XMLSchema-instance' x:nil='1' scale='x'></ix:nonFraction>",
+        "<ix:nonFraction name='A' contextRef='c' unitRef='u' xmlns:x='http://www.w3.org/2001/XMLSchema-instance' \
+        x:nil='1' scale='x'></ix:nonFraction>",
         "50 N7",
     ),
     (
-        "<ix:nonFraction name='A' contextRef='c' unitRef='u' xmlns:x='http://www.w3.org/2001/XMLSchema-instance' x:nil='0'></ix:nonFraction>",
+        "<ix:nonFraction name='A' contextRef='c' unitRef='u' xmlns:x='http://www.w3.org/2001/XMLSchema-instance' \
+        x:nil='0'></ix:nonFraction>",
         "50 N9",
     ),
     (
-        "<ix:nonFraction name='A' contextRef='c' unitRef='u' xmlns:x='http://www.w3.org/2001/XMLSchema-instance' x:nil='2' decimals='0'>1</ix:nonFraction>",
+        "<ix:nonFraction name='A' contextRef='c' unitRef='u' xmlns:x='http://www.w3.org/2001/XMLSchema-instance' \
+        x:nil='2' decimals='0'>1</ix:nonFraction>",
         "50 N6",
     ),
     (
@@ -411,7 +472,9 @@ pub const NIL: [(&str, &str); 10] = [
         "",
     ),
     (
-        "<ix:nonFraction name='A' contextRef='c' unitRef='u' decimals='0'><ix:nonFraction name='A' contextRef='c' unitRef='u' xmlns:x='http://www.w3.org/2001/XMLSchema-instance' x:nil='1'></ix:nonFraction></ix:nonFraction>",
+        "<ix:nonFraction name='A' contextRef='c' unitRef='u' decimals='0'>\
+        <ix:nonFraction name='A' contextRef='c' unitRef='u' xmlns:x='http://www.w3.org/2001/XMLSchema-instance' \
+        x:nil='1'></ix:nonFraction></ix:nonFraction>",
         "50 N15",
     ),
 ];
@@ -423,87 +486,124 @@ pub const CONTENTS: [(&str, &str); 22] = [
         "50 N14",
     ),
     (
-        "<ix:fraction name='A' contextRef='c' unitRef='u'><ix:numerator>1</ix:numerator><ix:numerator>1</ix:numerator><ix:denominator>1</ix:denominator></ix:fraction>",
+        "<ix:fraction name='A' contextRef='c' unitRef='u'><ix:numerator>1</ix:numerator><ix:numerator>1</ix:numerator>\
+        <ix:denominator>1</ix:denominator></ix:fraction>",
         "50 N14",
     ),
     (
-        "<ix:fraction name='A' contextRef='c' unitRef='u'><ix:numerator>1</ix:numerator><b><ix:denominator>1</ix:denominator><ix:denominator>1</ix:denominator></b></ix:fraction>",
+        "<ix:fraction name='A' contextRef='c' unitRef='u'><ix:numerator>1</ix:numerator><b><ix:denominator>1\
+        </ix:denominator><ix:denominator>1</ix:denominator></b></ix:fraction>",
         "50 N14",
     ),
     (
-        "<ix:fraction name='A' contextRef='c' unitRef='u'><ix:numerator>1</ix:numerator><ix:fraction name='A' contextRef='c' unitRef='u'><ix:numerator>1</ix:numerator><ix:denominator>1</ix:denominator></ix:fraction></ix:fraction>",
+        "<ix:fraction name='A' contextRef='c' unitRef='u'><ix:numerator>1</ix:numerator>\
+        <ix:fraction name='A' contextRef='c' unitRef='u'><ix:numerator>1</ix:numerator><ix:denominator>1\
+        </ix:denominator></ix:fraction></ix:fraction>",
         "50 N14, 129 N12",
     ),
     (
-        "<ix:fraction name='A' contextRef='c' unitRef='u'><ix:numerator>1</ix:numerator><ix:denominator>1<b/></ix:denominator></ix:fraction>",
+        "<ix:fraction name='A' contextRef='c' unitRef='u'><ix:numerator>1</ix:numerator><ix:denominator>1<b/>\
+        </ix:denominator></ix:fraction>",
         "129 N17",
     ),
     (
-        "<ix:nonFraction name='A' contextRef='c' unitRef='u' decimals='0'> \n <ix:nonFraction name='A' contextRef='c' unitRef='u' decimals='0'>1</ix:nonFraction> </ix:nonFraction>",
+        "<ix:nonFraction name='A' contextRef='c' unitRef='u' decimals='0'> \n \
+        <ix:nonFraction name='A' contextRef='c' unitRef='u' decimals='0'>1</ix:nonFraction> </ix:nonFraction>",
         "",
     ),
     (
-        "<ix:nonFraction name='A' contextRef='c' unitRef='u' decimals='0'>x<ix:nonFraction name='A' contextRef='c' unitRef='u' decimals='0'>1</ix:nonFraction></ix:nonFraction>",
+        "<ix:nonFraction name='A' contextRef='c' unitRef='u' decimals='0'>x\
+        <ix:nonFraction name='A' contextRef='c' unitRef='u' decimals='0'>1</ix:nonFraction></ix:nonFraction>",
         "50 N15",
     ),
     (
-        "<ix:nonFraction name='A' contextRef='c' unitRef='u' decimals='0'><ix:nonFraction name='A' contextRef='c' unitRef='u' decimals='0'>1</ix:nonFraction><ix:nonFraction name='A' contextRef='c' unitRef='u' decimals='0'>1</ix:nonFraction></ix:nonFraction>",
+        "<ix:nonFraction name='A' contextRef='c' unitRef='u' decimals='0'>\
+        <ix:nonFraction name='A' contextRef='c' unitRef='u' decimals='0'>1</ix:nonFraction>\
+        <ix:nonFraction name='A' contextRef='c' unitRef='u' decimals='0'>1</ix:nonFraction></ix:nonFraction>",
         "50 N15",
     ),
     (
-        "<ix:nonFraction name='A' contextRef='c' unitRef='u' decimals='0'><ix:nonFraction name='A' contextRef='c' unitRef='v' decimals='0'>1</ix:nonFraction></ix:nonFraction>",
+        "<ix:nonFraction name='A' contextRef='c' unitRef='u' decimals='0'>\
+        <ix:nonFraction name='A' contextRef='c' unitRef='v' decimals='0'>1</ix:nonFraction></ix:nonFraction>",
         "50 N16",
     ),
     (
-        "<ix:nonFraction name='A' contextRef='c' unitRef='u' decimals='0'><ix:nonFraction name='A' contextRef='c' unitRef=' u ' decimals='0'>1</ix:nonFraction></ix:nonFraction>",
+        "<ix:nonFraction name='A' contextRef='c' unitRef='u' decimals='0'>\
+        <ix:nonFraction name='A' contextRef='c' unitRef=' u ' decimals='0'>1</ix:nonFraction></ix:nonFraction>",
         "",
     ),
     (
-        "<ix:nonFraction name='A' contextRef='c' unitRef='u' decimals='0'><ix:nonFraction name='A' contextRef='c' unitRef='u' decimals='0' scale='3'>1</ix:nonFraction></ix:nonFraction>",
+        "<ix:nonFraction name='A' contextRef='c' unitRef='u' decimals='0'>\
+        <ix:nonFraction name='A' contextRef='c' unitRef='u' decimals='0' scale='3'>1</ix:nonFraction>\
+        </ix:nonFraction>",
         "50 N16",
     ),
     (
-        "<ix:nonFraction name='A' contextRef='c' unitRef='u' decimals='0' scale='3'><ix:nonFraction name='A' contextRef='c' unitRef='u' decimals='0' scale='+03'>1</ix:nonFraction></ix:nonFraction>",
+        "<ix:nonFraction name='A' contextRef='c' unitRef='u' decimals='0' scale='3'>\
+        <ix:nonFraction name='A' contextRef='c' unitRef='u' decimals='0' scale='+03'>1</ix:nonFraction>\
+        </ix:nonFraction>",
         "",
     ),
     (
-        "<ix:nonFraction name='A' contextRef='c' unitRef='u' decimals='0' scale='101'><ix:nonFraction name='A' contextRef='c' unitRef='u' decimals='0'>1</ix:nonFraction></ix:nonFraction>",
+        "<ix:nonFraction name='A' contextRef='c' unitRef='u' decimals='0' scale='101'>\
+        <ix:nonFraction name='A' contextRef='c' unitRef='u' decimals='0'>1</ix:nonFraction></ix:nonFraction>",
         "50 N7",
     ),
     (
-        "<ix:nonFraction name='A' contextRef='c' unitRef='u' decimals='0' scale='3'><ix:nonFraction name='A' contextRef='c' unitRef='u' decimals='0' scale='101'>1</ix:nonFraction></ix:nonFraction>",
+        "<ix:nonFraction name='A' contextRef='c' unitRef='u' decimals='0' scale='3'>\
+        <ix:nonFraction name='A' contextRef='c' unitRef='u' decimals='0' scale='101'>1</ix:nonFraction>\
+        </ix:nonFraction>",
         "50 N16, 125 N7",
     ),
     (
-        "<ix:nonFraction name='A' contextRef='c' unitRef='u' xmlns:p='http://f/' xmlns:q='http://f/' xmlns:r='http://g/' decimals='0' format='p:f'><ix:nonFraction name='A' contextRef='c' unitRef='u' decimals='0' format='q:f'>1</ix:nonFraction></ix:nonFraction>",
+        "<ix:nonFraction name='A' contextRef='c' unitRef='u' xmlns:p='http://f/' xmlns:q='http://f/' \
+        xmlns:r='http://g/' decimals='0' format='p:f'>\
+        <ix:nonFraction name='A' contextRef='c' unitRef='u' decimals='0' format='q:f'>1</ix:nonFraction>\
+        </ix:nonFraction>",
         "",
     ),
     (
-        "<ix:nonFraction name='A' contextRef='c' unitRef='u' xmlns:p='http://f/' xmlns:q='http://f/' xmlns:r='http://g/' decimals='0' format='p:f'><ix:nonFraction name='A' contextRef='c' unitRef='u' decimals='0' format='r:f'>1</ix:nonFraction></ix:nonFraction>",
+        "<ix:nonFraction name='A' contextRef='c' unitRef='u' xmlns:p='http://f/' xmlns:q='http://f/' \
+        xmlns:r='http://g/' decimals='0' format='p:f'>\
+        <ix:nonFraction name='A' contextRef='c' unitRef='u' decimals='0' format='r:f'>1</ix:nonFraction>\
+        </ix:nonFraction>",
         "50 N16",
     ),
     (
-        "<ix:nonFraction name='A' contextRef='c' unitRef='u' xmlns:p='http://f/' xmlns:q='http://f/' xmlns:r='http://g/' decimals='0' format='p:f'><ix:nonFraction name='A' contextRef='c' unitRef='u' decimals='0'>1</ix:nonFraction></ix:nonFraction>",
+        "<ix:nonFraction name='A' contextRef='c' unitRef='u' xmlns:p='http://f/' xmlns:q='http://f/' \
+        xmlns:r='http://g/' decimals='0' format='p:f'>\
+        <ix:nonFraction name='A' contextRef='c' unitRef='u' decimals='0'>1</ix:nonFraction></ix:nonFraction>",
         "50 N16",
     ),
     (
-        "<ix:nonFraction name='A' contextRef='c' unitRef='u' decimals='0'><ix:nonFraction name='A' contextRef='c' unitRef='u' decimals='0' format='z:f'>1</ix:nonFraction></ix:nonFraction>",
+        "<ix:nonFraction name='A' contextRef='c' unitRef='u' decimals='0'>\
+        <ix:nonFraction name='A' contextRef='c' unitRef='u' decimals='0' format='z:f'>1</ix:nonFraction>\
+        </ix:nonFraction>",
         "115 N5",
     ),
     (
-        "<ix:nonFraction name='A' contextRef='c' unitRef='u' decimals='0'>x<ix:nonFraction name='A' contextRef='c' unitRef='u' decimals='0' scale='3'>1</ix:nonFraction></ix:nonFraction>",
+        "<ix:nonFraction name='A' contextRef='c' unitRef='u' decimals='0'>x\
+        <ix:nonFraction name='A' contextRef='c' unitRef='u' decimals='0' scale='3'>1</ix:nonFraction>\
+        </ix:nonFraction>",
         "50 N15, 50 N16",
     ),
     (
-        "<ix:nonFraction name='A' contextRef='c' unitRef='u' decimals='0'><ix:nonFraction name='A' contextRef='c' unitRef='u' decimals='0'>1</ix:nonFraction><ix:nonFraction name='A' contextRef='c' unitRef='u' decimals='0' scale='3'>1</ix:nonFraction></ix:nonFraction>",
+        "<ix:nonFraction name='A' contextRef='c' unitRef='u' decimals='0'>\
+        <ix:nonFraction name='A' contextRef='c' unitRef='u' decimals='0'>1</ix:nonFraction>\
+        <ix:nonFraction name='A' contextRef='c' unitRef='u' decimals='0' scale='3'>1</ix:nonFraction>\
+        </ix:nonFraction>",
         "50 N15, 50 N16",
     ),
     (
-        "<ix:nonFraction name='A' contextRef='c' unitRef='u' decimals='0'><ix:nonFraction name='A' contextRef='c' unitRef='u' decimals='0'><ix:nonFraction name='A' contextRef='c' unitRef='u' decimals='0' scale='3'>1</ix:nonFraction></ix:nonFraction></ix:nonFraction>",
+        "<ix:nonFraction name='A' contextRef='c' unitRef='u' decimals='0'>\
+        <ix:nonFraction name='A' contextRef='c' unitRef='u' decimals='0'>\
+        <ix:nonFraction name='A' contextRef='c' unitRef='u' decimals='0' scale='3'>1</ix:nonFraction></ix:nonFraction>\
+        </ix:nonFraction>",
         "115 N16",
     ),
     (
-        "<ix:nonFraction name='A' contextRef='c' unitRef='u' decimals='0'><ix:nonFraction name='A' contextRef='c' decimals='0'>1</ix:nonFraction></ix:nonFraction>",
+        "<ix:nonFraction name='A' contextRef='c' unitRef='u' decimals='0'>\
+        <ix:nonFraction name='A' contextRef='c' decimals='0'>1</ix:nonFraction></ix:nonFraction>",
         "50 N16, 115 N2",
     ),
 ];
@@ -584,15 +684,18 @@ pub const REFERENCES: [(&str, &str); 16] = [
         "299 N19",
     ),
     (
-        "<ix:header><ix:resources><link:roleRef xlink:href='h' roleURI='r'/><link:arcroleRef xlink:href='h' arcroleURI='r'/></ix:resources></ix:header>",
+        "<ix:header><ix:resources><link:roleRef xlink:href='h' roleURI='r'/>\
+        <link:arcroleRef xlink:href='h' arcroleURI='r'/></ix:resources></ix:header>",
         "",
     ),
     (
-        "<ix:header><ix:resources><link:roleRef xlink:href='h' arcroleURI='r'/><link:arcroleRef xlink:href='h' roleURI='r'/></ix:resources></ix:header>",
+        "<ix:header><ix:resources><link:roleRef xlink:href='h' arcroleURI='r'/>\
+        <link:arcroleRef xlink:href='h' roleURI='r'/></ix:resources></ix:header>",
         "298 N19, 343 N19",
     ),
     (
-        "<ix:header><ix:resources><link:roleRef xlink:href='h' roleURI=' '/><link:arcroleRef xlink:href='h' arcroleURI=''/></ix:resources></ix:header>",
+        "<ix:header><ix:resources><link:roleRef xlink:href='h' roleURI=' '/>\
+        <link:arcroleRef xlink:href='h' arcroleURI=''/></ix:resources></ix:header>",
         "298 N19, 340 N19",
     ),
     (
@@ -616,19 +719,25 @@ pub const REFERENCES: [(&str, &str); 16] = [
 /// Contexts and units.
 pub const PARTS: [(&str, &str); 7] = [
     (
-        "<ix:header><ix:resources><xbrli:context id='c'><xbrli:entity><xbrli:identifier scheme='s'>1</xbrli:identifier></xbrli:entity><xbrli:period><xbrli:forever/></xbrli:period></xbrli:context><xbrli:unit id='u'><xbrli:measure>e:m</xbrli:measure></xbrli:unit></ix:resources></ix:header>",
+        "<ix:header><ix:resources><xbrli:context id='c'><xbrli:entity><xbrli:identifier scheme='s'>1\
+        </xbrli:identifier></xbrli:entity><xbrli:period><xbrli:forever/></xbrli:period></xbrli:context>\
+        <xbrli:unit id='u'><xbrli:measure>e:m</xbrli:measure></xbrli:unit></ix:resources></ix:header>",
         "",
     ),
     (
-        "<ix:header><ix:resources><xbrli:context id='c'><xbrli:entity><xbrli:identifier scheme='s'>1</xbrli:identifier></xbrli:entity><xbrli:period></xbrli:period></xbrli:context></ix:resources></ix:header>",
+        "<ix:header><ix:resources><xbrli:context id='c'><xbrli:entity><xbrli:identifier scheme='s'>1\
+        </xbrli:identifier></xbrli:entity><xbrli:period></xbrli:period></xbrli:context></ix:resources></ix:header>",
         "298 N20",
     ),
     (
-        "<ix:header><ix:resources><xbrli:context id='c'><xbrli:entity><xbrli:identifier scheme='s'>1</xbrli:identifier></xbrli:entity><xbrli:period><xbrli:instant>2023-02-29</xbrli:instant></xbrli:period></xbrli:context></ix:resources></ix:header>",
+        "<ix:header><ix:resources><xbrli:context id='c'><xbrli:entity><xbrli:identifier scheme='s'>1\
+        </xbrli:identifier></xbrli:entity><xbrli:period><xbrli:instant>2023-02-29</xbrli:instant></xbrli:period>\
+        </xbrli:context></ix:resources></ix:header>",
         "298 N20",
     ),
     (
-        "<ix:header><ix:resources><xbrli:context><xbrli:entity><xbrli:identifier scheme='s'>1</xbrli:identifier></xbrli:entity><xbrli:period><xbrli:forever/></xbrli:period></xbrli:context></ix:resources></ix:header>",
+        "<ix:header><ix:resources><xbrli:context><xbrli:entity><xbrli:identifier scheme='s'>1</xbrli:identifier>\
+        </xbrli:entity><xbrli:period><xbrli:forever/></xbrli:period></xbrli:context></ix:resources></ix:header>",
         "298 N20",
     ),
     (

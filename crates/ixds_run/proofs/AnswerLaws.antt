@@ -3,8 +3,8 @@ use Rattle.std.proofs.Common.{◌≡◌, ◌⊎◌, ◌∙◌, sym, refl, ℕ, �
 use Rattle.ix_base.specs.Outside.{TextGainsFront}
 use Rattle.ixds_run.specs.Answers.{Answers, Outside}
 use Rattle.ixds_run.specs.Commands.{pages_of}
-use Rattle.ixds_run.specs.Gains.{GainsText}
-use Rattle.ixds_run.specs.Outcomes.{IfTold}
+use Rattle.ixds_run.specs.Gains.{GainsStarts, GainsText}
+use Rattle.ixds_run.specs.Outcomes.{AreSome, IfTold}
 use Rattle.ixds_run.specs.Reading.{IsAmong}
 use Rattle.ixds_run.specs.Texts.{cannot_read_line, usage_text}
 use Rattle.ixds_run.specs.Told.{told}
@@ -21,10 +21,20 @@ told_all : (o : Option Command) (page : List ℕ → Option (List ℕ)) (P : Com
     → ((c : Command) (bs : List (List ℕ)) → P c bs) → IfTold o page P
 told_all o page P h = some_all o (λ c. IfSome (told page (pages_of c)) (P c)) (λ c. some_all (told page (pages_of c)) (P c) (h c))
 
+-- what is so of these bytes, where there are any, since it is so of some
+pub told_of : {P : List (List ℕ) → Type 0} (all : Option (List (List ℕ))) → AreSome all P → IfSome all P
+told_of None some = tt
+told_of {P} (Some all) some = subst P (sym some.1) some.2
+
+-- what is so of all bytes is so of some
+pub of_some : {P Q : List (List ℕ) → Type 0} (all : Option (List (List ℕ))) → ((bs : List (List ℕ)) → P bs → Q bs) → AreSome all P → AreSome all Q
+of_some all step some = (some.0, some.1, step some.0 some.2)
+
 -- want of memory
 pub memory_answer : (o : Option Command) (old new : Outside) (A B C : Type 0) → B → C → new.page ≡ old.page → new.page_faults ≡ old.page_faults
+    → IfSome o (λ c. GainsStarts (pages_of c) old.page_starts new.page_starts)
     → IfSome o (λ c. A ⊎ ((name : List ℕ) × IsAmong old.page (pages_of c) new.page_asked name)) → Answers o old new A B C NoMemory
-memory_answer o old new A B C b d page faults asked = record {
+memory_answer o old new A B C b d page faults starts asked = record {
   complete = told_all o old.page _ (λ c bs e f g. inr (refl, b, d));
   done = λ e. cc;
   broken = λ e. cc;
@@ -41,8 +51,8 @@ memory_answer o old new A B C b d page faults asked = record {
   write_fault_usage = λ e f. cc;
   no_memory = λ e. (b, d);
   no_memory_pages = λ e. faults;
+  starts = starts;
   asked_page = asked;
-  asked_directory = λ e f. cc;
   same_pages = page;
   stops = λ e. absurd (elim e [ inl x ↦ cc | inr x ↦ cc ]);
   quiet_done = λ e. cc;
@@ -79,8 +89,8 @@ usage_answer o old new A B C s none a b page faults same either gains quiet caus
       write_fault_usage = λ e f. (a, b, front e);
       no_memory = λ e. absurd (not_one s Usage WriteFault NoMemory either (λ x. cc) (λ x. cc) e);
       no_memory_pages = λ e. faults;
+      starts = tt;
       asked_page = tt;
-      asked_directory = λ e rose. tt;
       same_pages = page;
       stops = λ e. tt;
       quiet_done = λ e. absurd (not_one s Usage WriteFault Done either (λ x. cc) (λ x. cc) e);
@@ -91,11 +101,11 @@ usage_answer o old new A B C s none a b page faults same either gains quiet caus
 -- a page can't be read
 pub fault_answer : (c : Command) (old new : Outside) (A B C : Type 0) (s : Status) (name : List ℕ) → B → new.page ≡ old.page
     → old.page_faults < new.page_faults → new.target_faults ≡ old.target_faults → IsAmong old.page (pages_of c) new.page_asked name
-    → (s ≡ ReadFault) ⊎ (s ≡ WriteFault)
+    → GainsStarts (pages_of c) old.page_starts new.page_starts → (s ≡ ReadFault) ⊎ (s ≡ WriteFault)
     → (s ≡ ReadFault → GainsText (cannot_read_line name) old.taken new.taken) → (s ≡ ReadFault → new.text_faults ≡ old.text_faults)
     → (s ≡ WriteFault → old.text_faults < new.text_faults) → (s ≡ WriteFault → TextGainsFront (cannot_read_line name) old.taken new.taken)
     → Answers (Some c) old new A B C s
-fault_answer c old new A B C s name b page rose same among either gains quiet cause front = record {
+fault_answer c old new A B C s name b page rose same among starts either gains quiet cause front = record {
   complete = some_all (told old.page (pages_of c)) _ (λ bs e f g. absurd (omega arith));
   done = λ e. absurd (not_one s ReadFault WriteFault Done either (λ x. cc) (λ x. cc) e);
   broken = λ e. absurd (not_one s ReadFault WriteFault Broken either (λ x. cc) (λ x. cc) e);
@@ -112,8 +122,8 @@ fault_answer c old new A B C s name b page rose same among either gains quiet ca
   write_fault_usage = λ e f. cc;
   no_memory = λ e. absurd (not_one s ReadFault WriteFault NoMemory either (λ x. cc) (λ x. cc) e);
   no_memory_pages = λ e. absurd (not_one s ReadFault WriteFault NoMemory either (λ x. cc) (λ x. cc) e);
+  starts = starts;
   asked_page = inr (name, among);
-  asked_directory = λ e f. absurd (omega arith);
   same_pages = page;
   stops = λ e. absurd (elim e [ inl x ↦ not_one s ReadFault WriteFault Done either (λ y. cc) (λ y. cc) x | inr x ↦ not_one s ReadFault WriteFault Broken either (λ y. cc) (λ y. cc) x ]);
   quiet_done = λ e. absurd (not_one s ReadFault WriteFault Done either (λ x. cc) (λ x. cc) e);
@@ -123,12 +133,12 @@ fault_answer c old new A B C s name b page rose same among either gains quiet ca
 
 -- with no fault, all that is due is given, or memory is wanted
 pub complete_by : (s : Status) (fact : Status → List (List ℕ) → Type 0) (memory more : Type 0) (p p' q q' r r' : ℕ) (pages : Option (List (List ℕ)))
-    → ¬ (s ≡ Usage) → ¬ (s ≡ ReadFault) → (s ≡ Done → IfSome pages (fact Done)) → (s ≡ Broken → IfSome pages (fact Broken))
+    → ¬ (s ≡ Usage) → ¬ (s ≡ ReadFault) → (s ≡ Done → AreSome pages (fact Done)) → (s ≡ Broken → AreSome pages (fact Broken))
     → (s ≡ WriteFault → (q < q') ⊎ (r < r')) → (s ≡ NoMemory → memory × more)
     → IfSome pages (λ bs. p' ≡ p → q' ≡ q → r' ≡ r → fact s bs ⊎ ((s ≡ NoMemory) × memory × more))
 complete_by s fact memory more p p' q q' r r' None usage read done broken write want = tt
-complete_by Done fact memory more p p' q q' r r' (Some b) usage read done broken write want = λ e f g. inl (done refl)
-complete_by Broken fact memory more p p' q q' r r' (Some b) usage read done broken write want = λ e f g. inl (broken refl)
+complete_by Done fact memory more p p' q q' r r' (Some b) usage read done broken write want = λ e f g. inl (told_of (Some b) (done refl))
+complete_by Broken fact memory more p p' q q' r r' (Some b) usage read done broken write want = λ e f g. inl (told_of (Some b) (broken refl))
 complete_by Usage fact memory more p p' q q' r r' (Some b) usage read done broken write want = λ e f g. absurd (usage refl)
 complete_by ReadFault fact memory more p p' q q' r r' (Some b) usage read done broken write want = λ e f g. absurd (read refl)
 complete_by WriteFault fact memory more p p' q q' r r' (Some b) usage read done broken write want = λ e f g.

@@ -1,5 +1,5 @@
 -- What is ready of targets.
-use Rattle.std.proofs.Common.{◌≡◌, ◌⊎◌, ◌∙◌, ap, sym, subst, refl, ℕ, zero, suc, ◌<◌, Bool, true, false, List, [], ◌∷◌, length, map, get_or, Option, Some, None, IfSome, Result, Ok, Err, IfOk, inl, inr, arith}
+use Rattle.std.proofs.Common.{◌≡◌, ◌⊎◌, ◌∙◌, ap, sym, subst, refl, ℕ, Bool, true, false, List, [], ◌∷◌, map, Option, Some, None, Result, Ok, Err, IfOk, inl, inr}
 use Rattle.std.specs.List.{concat}
 use Rattle.ix_base.specs.Outside.{Begun}
 use Rattle.ix_base.specs.declared.NoMemory.{NoMemory}
@@ -7,7 +7,6 @@ use Rattle.ixds_run.specs.declared.status.Status.{Status}
 use Rattle.ixds_run.specs.declared.status.Status.TheVariants.{Broken, WriteFault}
 use Rattle.ixds_run.specs.Commands.{base_of, dir_of, pages_of}
 use Rattle.ixds_run.specs.declared.command.Command.{Command}
-use Rattle.ixds_run.specs.Gains.{AsksFor}
 use Rattle.ixds_run.specs.Outcomes.{Bare, Outcome, Says, SaysNothing, status_of, bare, bare_ready, due_of, outcome_of, ready, ready_under, targets_under, whole_target, IsOutcome}
 use Rattle.ixds_run.specs.Reading.{IsRead}
 use Rattle.ixds_run.specs.declared.due.Due.{Due}
@@ -61,26 +60,3 @@ nothing_due (Ok due) c base names (verdict.Broken report) f b n says is none = �
 nothing_due (Ok due) c base names (verdict.Whole ts) f b n says is none = λ bs read nothing.
     absurd (nothing ts (subst (λ (x : List ℕ). Says x (pages_of c) bs (verdict.Whole ts)) b (subst (λ (x : List (List ℕ)). Says base x bs (verdict.Whole ts)) n (says bs read))))
 nothing_due (Err x) c base names v f b n says is none = tt
-
--- what asks for a target that is ready asks for one under the directory word
-asks_dir : (dir : Option (List ℕ)) (ts : List DueTarget) (words : List ℕ × List ℕ) → AsksFor (ready_under dir ts) words → dir ≡ Some words.0
-asks_dir None ts words a = absurd a
-asks_dir (Some dir) [] words a = absurd a
-asks_dir (Some dir) (t ∷ ts) words (inl e) = ap (λ (w : List ℕ × List ℕ). Some w.0) (sym e)
-asks_dir (Some dir) (t ∷ ts) words (inr a) = asks_dir (Some dir) ts words a
-
-pub directory_asked : (dir : Option (List ℕ)) (ts : List DueTarget) (asked : Option (List ℕ × List ℕ)) → IfSome asked (AsksFor (ready_under dir ts))
-    → IfSome asked (λ words. dir ≡ Some words.0)
-directory_asked dir ts None a = tt
-directory_asked dir ts (Some words) a = asks_dir dir ts words a
-
-asks_in : (dir : List ℕ) (ts : List DueTarget) (n : ℕ) (t : DueTarget) → n < length ts → t ≡ get_or ts n t → AsksFor (map (ready dir) ts) (dir, t.name)
-asks_in dir [] n t h e = absurd (omega arith)
-asks_in dir (x ∷ ts) zero t h e = inl (ap (λ (y : DueTarget). (dir, y.name)) e)
-asks_in dir (x ∷ ts) (suc n) t h e = inr (asks_in dir ts n t (omega arith) e)
-
--- the target at an index was asked for
-pub asked_in : (dir : List ℕ) (ts : List DueTarget) (n : ℕ) (t : DueTarget) (asked : Option (List ℕ × List ℕ)) → n < length ts → t ≡ get_or ts n t
-    → IfSome asked (λ words. words ≡ (dir, t.name)) → IfSome asked (AsksFor (map (ready dir) ts))
-asked_in dir ts n t None h e a = tt
-asked_in dir ts n t (Some words) h e a = subst (λ (w : List ℕ × List ℕ). AsksFor (map (ready dir) ts) w) (sym a) (asks_in dir ts n t h e)

@@ -1,6 +1,6 @@
 -- Reading pages one behind another.
-use Rattle.std.proofs.Common.{◌≡◌, ◌⊎◌, inl, inr, ◌∙◌, ap, sym, refl, ℕ, suc, ◌+◌, ◌≤◌, ◌<◌, nat_lt, Bool, cond, List, [], ◌∷◌, ◌++◌, length, drop, Option, Some, None, IfSome, append_assoc, append-nil, subst, arith, length-append, add-zero, add_assoc, zero-add, add-one, get_or}
-use Rattle.std.proofs.Math.Seq.{drop-cons}
+use Rattle.std.proofs.Common.{◌≡◌, ◌⊎◌, inl, inr, ◌∙◌, ap, sym, refl, ℕ, suc, ◌+◌, ◌≤◌, ◌<◌, nat_lt, Bool, cond, List, [], ◌∷◌, ◌++◌, length, drop, take, Option, Some, None, IfSome, option_map, append_assoc, append-nil, subst, arith, length-append, add-zero, add_assoc, zero-add, add-one, get_or}
+use Rattle.std.proofs.Math.Seq.{drop-cons, take-suc}
 use Rattle.std.proofs.lemmas.Bool.{lt-ltb}
 use Rattle.std.specs.Borrow.{Bor}
 use Rattle.ix_base.specs.Elements.{pages_of}
@@ -12,6 +12,8 @@ use Rattle.page_tree.specs.Page.{page as page_with}
 use Rattle.page_tree.specs.Stacks.{AreAll}
 use Rattle.page_tree.specs.Standing.{StandsFor}
 use Rattle.page_tree.specs.declared.builder.TreeBuilder.{TreeBuilder}
+use Rattle.ixds_run.specs.Gains.{GainsStarts}
+use Rattle.ixds_run.specs.Outcomes.{AreSome}
 use Rattle.ixds_run.specs.Reading.{HasFed, IsWhole, HasGained, HasRead, HasReadSome, IsRead, IsRoot, AreRoots, IsSound, IsAmong, IsLast, ReadsOn, StopsInTime}
 use Rattle.ix_base.specs.declared.rule.Rule.TheVariants.{S1, S2}
 use Rattle.page_tree.specs.Break.{Fault}
@@ -187,7 +189,7 @@ told_front (Some x) (Some rest) left more bs front e h =
     omega arith
 
 -- the limit is passed
-pub read_over : (page : List ℕ → Option (List ℕ)) (names : List (List ℕ)) (name : List ℕ) (rest : List (List ℕ)) (n : ℕ) (left : Option (List ℕ)) (f g : Forest)
+read_over : (page : List ℕ → Option (List ℕ)) (names : List (List ℕ)) (name : List ℕ) (rest : List (List ℕ)) (n : ℕ) (left : Option (List ℕ)) (f g : Forest)
     → 268435456 < g.sums.bytes → ReadsOn (page name) left n f g → HasReadSome page names (name ∷ rest) n f → IfSome (told page names) (λ bs. IsRead bs g)
 read_over page names name rest n left f g long on h = if_told (told page names) _ _ (λ all t.
     let size = told_front (page name) (told page rest) left t.0 h.bs on.front t.2 on.told in
@@ -196,6 +198,23 @@ read_over page names name rest n left f g long on h = if_told (told page names) 
     let now = on.bytes in
     let most : g.sums.bytes ≤ bytes_in all = omega arith in
     over_is all g long most) h.told_is
+
+-- some bytes were read, which are those that the source tells, where it tells them
+pub read_some : (all : Option (List (List ℕ))) (g : Forest) (bs : List (List ℕ)) → IsRead bs g → IfSome all (λ told. IsRead told g) → AreSome all (λ told. IsRead told g)
+read_some None g bs read t = (bs, tt, read)
+read_some (Some all) g bs read t = (all, refl, t)
+
+-- the limit is passed, also where the source tells nothing
+pub some_over : (page : List ℕ → Option (List ℕ)) (names : List (List ℕ)) (name : List ℕ) (rest : List (List ℕ)) (n : ℕ) (left : Option (List ℕ)) (f g : Forest)
+    → 268435456 < g.sums.bytes → ReadsOn (page name) left n f g → HasReadSome page names (name ∷ rest) n f → AreSome (told page names) (λ bs. IsRead bs g)
+some_over page names name rest n left f g long on h =
+    let bs = h.bs ++ on.front ∷ [] in
+    let most : g.sums.bytes ≤ bytes_in bs =
+        let sum = bytes-more h.bs on.front in
+        let was = h.read.bytes in
+        let now = on.bytes in
+        omega arith in
+    read_some (told page names) g bs (over_is bs g long most) (read_over page names name rest n left f g long on h)
 
 -- where the limit is passed, the pages that are told pass it
 pub names_over : (page : List ℕ → Option (List ℕ)) (names : List (List ℕ)) (name : List ℕ) (rest : List (List ℕ)) (n : ℕ) (left : Option (List ℕ)) (f g : Forest)
@@ -210,13 +229,21 @@ names_over page names name rest n left f g long on h = if_told (told page names)
 pub over_is_sound : (names : List (List ℕ)) (g : Forest) → 268435456 < g.sums.bytes → IsSound names g
 over_is_sound names g long = λ e. absurd (let z : None ≡ Some S1 = sym e ∙ over g.sums.bytes g.sums.tags long in cc)
 
+-- pages that were read whole are read
+read_is : (bs : List (List ℕ)) (f : Forest) → HasRead bs f → IsRead bs f
+read_is bs f read = record { size = λ i. size_rule (sym read.bytes i) (sym read.tags i); read = λ e. read }
+
 -- all pages were read
-pub read_all_is : (page : List ℕ → Option (List ℕ)) (names rest : List (List ℕ)) (n : ℕ) (f : Forest) → rest ≡ [] → HasReadSome page names rest n f → IfSome (told page names) (λ bs. IsRead bs f)
+read_all_is : (page : List ℕ → Option (List ℕ)) (names rest : List (List ℕ)) (n : ℕ) (f : Forest) → rest ≡ [] → HasReadSome page names rest n f → IfSome (told page names) (λ bs. IsRead bs f)
 read_all_is page names rest n f none h = if_told (told page names) _ _ (λ all t.
     let empty : t.0 ≡ [] = let z : Some t.0 ≡ Some [] = sym t.2 ∙ ap (told page) none in cc in
     let is : h.bs ≡ all = sym (t.1 ∙ ap (λ r. h.bs ++ r) empty ∙ append-nil h.bs) in
-    let read = subst (λ (bs : List (List ℕ)). HasRead bs f) is h.read in
-    record { size = λ i. size_rule (sym read.bytes i) (sym read.tags i); read = λ e. read }) h.told_is
+    read_is all f (subst (λ (bs : List (List ℕ)). HasRead bs f) is h.read)) h.told_is
+
+-- all pages were read, also where the source tells nothing
+pub some_read : (page : List ℕ → Option (List ℕ)) (names rest : List (List ℕ)) (n : ℕ) (f : Forest) → rest ≡ [] → HasReadSome page names rest n f
+    → AreSome (told page names) (λ bs. IsRead bs f)
+some_read page names rest n f none h = read_some (told page names) f h.bs (read_is h.bs f h.read) (read_all_is page names rest n f none h)
 
 pub some_is_sound : (page : List ℕ → Option (List ℕ)) (names rest : List (List ℕ)) (n : ℕ) (f : Forest) → n ≤ length names → HasReadSome page names rest n f → IsSound names f
 some_is_sound page names rest n f most h = λ e. (h.bs, h.read, let count = h.count in let z : length h.bs ≤ length names = omega arith in z)
@@ -305,3 +332,24 @@ asked_on P asked page names name back rest n left p old new f most same (inr las
     inr (subst (λ (q : P). (k : List ℕ) × IsAmong page names (asked q) k) (sym kept) (last_among page names back left (asked p) last))
 asked_on P asked page names name back rest n left p old new f most same stops h (inr named) =
     inr (name, next_among page names name rest n (asked new) f most named h)
+
+-- no page was started
+pub none_started : (old : Option (List (List ℕ))) → old ≡ option_map (λ starts. starts ++ []) old
+none_started None = refl
+none_started (Some starts) = ap Some (sym (append-nil starts))
+
+-- one more page was started
+pub one_started : (names : List (List ℕ)) (n : ℕ) (name : List ℕ) (old mid new : Option (List (List ℕ))) → n < length names → name ≡ get_or names n name
+    → mid ≡ option_map (λ starts. starts ++ take n names) old → new ≡ option_map (λ starts. starts ++ name ∷ []) mid
+    → new ≡ option_map (λ starts. starts ++ take (n + 1) names) old
+one_started names n name None mid new h e before after = after ∙ ap (option_map (λ starts. starts ++ name ∷ [])) before
+one_started names n name (Some starts) mid new h e before after =
+    let more : take (n + 1) names ≡ take n names ++ name ∷ [] = ap (λ k. take k names) (add-one n) ∙ take-suc names n name h ∙ (λ i. take n names ++ sym e i ∷ []) in
+    after ∙ ap (option_map (λ s. s ++ name ∷ [])) before ∙ ap Some (append_assoc starts (take n names) (name ∷ []) ∙ ap (λ r. starts ++ r) (sym more))
+
+-- the next page was started, or nothing more was
+pub next_started : (names : List (List ℕ)) (n : ℕ) (name : List ℕ) (old mid new : Option (List (List ℕ))) → n < length names → name ≡ get_or names n name
+    → mid ≡ option_map (λ starts. starts ++ take n names) old → (new ≡ mid) ⊎ (new ≡ option_map (λ starts. starts ++ name ∷ []) mid)
+    → GainsStarts names old new
+next_started names n name old mid new h e before (inl kept) = (n, kept ∙ before)
+next_started names n name old mid new h e before (inr more) = (n + 1, one_started names n name old mid new h e before more)

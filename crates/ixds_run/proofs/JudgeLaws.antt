@@ -10,7 +10,7 @@ use Rattle.ix_base.specs.declared.breach.Found.{Found}
 use Rattle.ix_base.specs.declared.content.Content.{Content}
 use Rattle.ix_base.specs.declared.tree.Element.{Element}
 use Rattle.page_tree.specs.Break.{Fault, w}
-use Rattle.ixds_run.specs.Made.{AreNumbered, IsReport, IsServed, IsServedAlone, Made, Serves, element_faults, unbuilt}
+use Rattle.ixds_run.specs.Made.{AreNumbered, IsReport, IsServed, Made, Serves, element_faults, unbuilt}
 use Rattle.ixds_run.specs.Outcomes.{AreTrees, Says}
 use Rattle.ixds_run.specs.Reading.{AreRoots, HasRead, IsRead}
 use Rattle.ixds_run.specs.Told.{fault_row, on_page, set_rule, text_fault, text_faults}
@@ -32,14 +32,10 @@ same_count n [] (e ∷ es) all = absurd all
 same_count n (b ∷ bs) [] all = absurd all
 same_count n (b ∷ bs) (e ∷ es) all = ap suc (same_count (suc n) bs es all.1)
 
-serves_one : (names : List (List ℕ)) (t : Tree) (v : Verdict) → IsServedAlone names t v → Serves names (t ∷ []) v
-serves_one names t v (inl h) = inl h
-serves_one names t v (inr h) = inr (λ content shape. h.0 shape.parts shape.has_shape, h.1)
-
 -- what one page says
 pub served_one : (names : List (List ℕ)) (es : List (Bor Element)) (e : Bor Element) (r : Result Verdict NoMemory) → es ≡ e ∷ []
-    → IfOk r (IsServedAlone names (tree_of e.now)) → IfOk r (Serves names (trees_of es))
-served_one names es e (Ok v) is h = subst (λ (xs : List (Bor Element)). Serves names (trees_of xs) v) (sym is) (serves_one names (tree_of e.now) v h)
+    → IfOk r (Serves names (tree_of e.now ∷ [])) → IfOk r (Serves names (trees_of es))
+served_one names es e (Ok v) is h = subst (λ (xs : List (Bor Element)). Serves names (trees_of xs) v) (sym is) h
 served_one names es e (Err x) is h = tt
 
 not_one : (ts : List Tree) → (length ts ≡ 1 → ⊥) → (content : Content) → IsServed ts content → ⊥

@@ -1,5 +1,4 @@
 pub mod AnswerLaws
-pub mod DateLaws
 pub mod DueLaws
 pub mod ElementLaws
 pub mod ForestLaws
@@ -16,4 +15,5 @@ pub mod ShapeLaws
 pub mod ShapeRows
 pub mod Taken
 pub mod TargetLaws
+pub mod TimelyLaws
 pub mod WritableLaws

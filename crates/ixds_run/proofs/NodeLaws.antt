@@ -5,11 +5,11 @@ use Rattle.std.proofs.lemmas.Bool.Decides.{nat_tests}
 use Rattle.ix_base.specs.declared.tree.Node.{Node}
 use Rattle.ix_base.specs.declared.tree.Node.TheOpen.{Node-F}
 use Rattle.ix_base.specs.declared.tree.Node.TheFolds.{fold_out-Node}
+use Rattle.ix_base.specs.Elements.{tree_at}
 use Rattle.ix_base.specs.Scope.{namespace_of}
 use Rattle.ix_base.specs.Trees.{Named, Valued, Bound, Head, Nodes, none, chars, elem, Tree, before, nodes_of, node_step}
-use Rattle.ixds_run.specs.PartReading.{◌>>=◌}
-use Rattle.ixds_run.specs.FirstShape.{AreNone, AreText, AreTextIf, AreElement, Looks, attribute}
-use Rattle.ixds_run.specs.ShapeReading.{is_end, first_tree, only_tree, two_trees, past_text, text_if, only_text, is_of, inside, one_value, two_values, is_bound_to, binds}
+use Rattle.ixds_run.specs.FirstShape.{AreNone, AreTree, AreTextIf, AreElement, Looks, attribute}
+use Rattle.ixds_run.specs.ShapeReading.{is_end, first_tree, only_tree, two_trees, past_text, text_if, is_of, inside, two_values, is_bound_to, binds}
 use Rattle.ixds_run.proofs.PartLaws.{same_bytes, same_from_eq, chosen, bind_ok, bind_step, some_inj}
 
 -- The nodes of the code.
@@ -66,6 +66,16 @@ only_again L W n a =
     let f = first_again L W AreNone n a in
     (f.0.0, bind_step _ _ _ _ f.1 (ap (λ b. cond b (Some f.0.0) None) (end_again f.0.1 f.4)), f.2, f.3)
 
+pub tree_ok : (n : Nodes) (t : Tree) → only_tree n ≡ Some t → AreTree t AreNone n
+tree_ok none t e = cc
+tree_ok (chars u r) t e = cc
+tree_ok (elem h k r) t e = let c = chosen (is_end r) (tree_at h k) t e in (sym c.1, end_ok r c.0)
+
+pub tree_again : (n : Nodes) (t : Tree) → AreTree t AreNone n → only_tree n ≡ Some t
+tree_again none t a = absurd a
+tree_again (chars u r) t a = absurd a
+tree_again (elem h k r) t (e, a) = ap (λ b. cond b (Some (tree_at h k)) None) (end_again r a) ∙ ap Some (sym e)
+
 pub two_ok : (L M : Head → Type 0) (W X : Nodes → Type 0) (n : Nodes) (p : Tree × Tree) → two_trees n ≡ Some p
     → L p.0.head → W p.0.children → M p.1.head → X p.1.children → AreElement L W (AreElement M X AreNone) n
 two_ok L M W X n p e l w m x =
@@ -110,14 +120,6 @@ text_if_again none (Some u) a = absurd a
 text_if_again (chars t r) (Some u) (e, a) = ap (λ b. cond b (Some (Some t)) None) (end_again r a) ∙ ap (λ x. Some (Some x)) e
 text_if_again (elem h k r) (Some u) a = absurd a
 
-pub only_text_ok : (n : Nodes) (t : List ℕ) → only_text n ≡ Some t → AreText t AreNone n
-only_text_ok n t e =
-    let o = bind_ok (text_if n) _ t e in
-    subst (λ (q : Option (List ℕ)). AreTextIf q AreNone n) o.2 (text_if_ok n o.0 o.1)
-
-pub only_text_again : (n : Nodes) (t : List ℕ) → AreText t AreNone n → only_text n ≡ Some t
-only_text_again n t a = ap (λ o. o >>= λ x. x) (text_if_again n (Some t) a)
-
 -- Names, attributes and scopes.
 
 abbrev pub the_name : List ℕ → List ℕ → Named
@@ -147,17 +149,6 @@ inside_again t ns local (n, a) =
 
 attr_is : (a : Valued) (ns local : List ℕ) → is_of a.name ns local ≡ true → a ≡ attribute ns local a.value
 attr_is a ns local e = ap (λ n. record a { name = n }) (is_of_ok a.name ns local e)
-
-pub one_value_ok : (attrs : List Valued) (local v : List ℕ) → one_value attrs local ≡ Some v → attrs ≡ attribute [] local v ∷ []
-one_value_ok [] local v e = cc
-one_value_ok (a ∷ []) local v e =
-    let c = chosen (is_of a.name [] local) a.value v e in
-    ap (λ x. x ∷ []) (attr_is a [] local c.0 ∙ ap (attribute [] local) c.1)
-one_value_ok (a ∷ b ∷ more) local v e = cc
-
-pub one_value_again : (attrs : List Valued) (local v : List ℕ) → attrs ≡ attribute [] local v ∷ [] → one_value attrs local ≡ Some v
-one_value_again attrs local v e =
-    ap (λ l. one_value l local) e ∙ ap (λ b. cond b (Some v) None) (is_of_again (the_name [] local) [] local refl)
 
 pub two_values_ok : (attrs : List Valued) (ns first second : List ℕ) (v : List ℕ × List ℕ) → two_values attrs ns first second ≡ Some v
     → attrs ≡ attribute ns first v.0 ∷ attribute ns second v.1 ∷ []

@@ -1,7 +1,6 @@
 -- Pages have one outcome.
-use Rattle.std.proofs.Common.{◌≡◌, ◌≢◌, ◌∙◌, ap, sym, subst, ℕ, suc, List, [], ◌∷◌, ◌++◌, map, Option, Some, None, inl, inr, refl}
+use Rattle.std.proofs.Common.{◌≡◌, ◌∙◌, ap, sym, subst, ℕ, suc, List, [], ◌∷◌, ◌++◌, Option, Some, None, inl, inr, refl}
 use Rattle.std.specs.List.{flat_map}
-use Rattle.ix_base.specs.Breaches.{named, report_of}
 use Rattle.ix_base.specs.Trees.{Tree}
 use Rattle.ix_base.specs.declared.breach.Breach.{Breach}
 use Rattle.ix_base.specs.declared.breach.Found.{Found}
@@ -14,7 +13,7 @@ use Rattle.ixds_run.specs.FirstShape.{FirstShape}
 use Rattle.ixds_run.specs.Made.{IsDefault, IsReport, IsServed, Made, Serves, element_faults, unbuilt}
 use Rattle.ixds_run.specs.Outcomes.{AreTrees, Outcome, IsOutcome, Says, due_of, summary_of, targets_under}
 use Rattle.ixds_run.specs.Texts.{breach_line}
-use Rattle.ixds_run.specs.Told.{fault_row, on_page, set_rule, text_faults}
+use Rattle.ixds_run.specs.Told.{fault_row, on_page, text_faults}
 use Rattle.ixds_run.specs.declared.command.Command.{Command}
 use Rattle.ixds_run.specs.declared.made.Target.{Target}
 use Rattle.ixds_run.specs.declared.made.Verdict.{Verdict}

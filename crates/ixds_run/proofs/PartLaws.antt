@@ -6,8 +6,8 @@ use Rattle.std.proofs.lemmas.Slice.Eq.{bytes_eq-Decides}
 use Rattle.std.proofs.lemmas.List.{take-append-drop}
 use Rattle.std.proofs.Math.Seq.{take-append_seam}
 use Rattle.std.specs.List.{list_all}
-use Rattle.ixds_run.specs.PartForms.{AreSome, IsAddressUnder, IsName, is_letter, is_letter_or_digit, is_name_byte, is_address_byte}
-use Rattle.ixds_run.specs.PartReading.{text_at, is_path, is_address_under, is_name, is_identifier, ◌>>=◌}
+use Rattle.ixds_run.specs.PartForms.{AreSome, IsAddressUnder, IsName, is_letter, is_name_byte, is_address_byte}
+use Rattle.ixds_run.specs.PartReading.{text_at, is_path, is_address_under, is_name, ◌>>=◌}
 
 pub same_bytes : (xs : List ℕ) → bytes_eq xs xs ≡ true
 same_bytes xs = (bytes_eq-Decides xs xs).1 refl
@@ -56,7 +56,7 @@ address_ok site h e =
     let t = path_ok (text_at site h) e in
     record { path = t.0; spelled = text_ok site h t.0 t.1; allowed = t.2 }
 
-pub some_again : (p : ℕ → Bool) (bytes : List ℕ) → AreSome p bytes → (nat_lt 0 (length bytes) && list_all p bytes) ≡ true
+some_again : (p : ℕ → Bool) (bytes : List ℕ) → AreSome p bytes → (nat_lt 0 (length bytes) && list_all p bytes) ≡ true
 some_again p bytes a = and_from _ _ (lt-ltb 0 (length bytes) a.some) a.each
 
 pub address_again : (site h : List ℕ) → IsAddressUnder site h → is_address_under site h ≡ true
@@ -72,21 +72,3 @@ name_ok (c ∷ cs) e =
 
 pub name_again : (bytes : List ℕ) → IsName bytes → is_name bytes ≡ true
 name_again bytes n = ap is_name n.spelled ∙ and_from _ _ n.letter n.allowed
-
-pub identifier_ok : (bytes : List ℕ) → is_identifier bytes ≡ true → AreSome is_letter_or_digit bytes
-identifier_ok bytes e =
-    let s = and_parts (nat_lt 0 (length bytes)) (list_all is_letter_or_digit bytes) e in
-    record { some = ltb-true 0 (length bytes) s.0; each = s.1 }
-
-pub four_true : (a b c d : Bool) → a ≡ true → b ≡ true → c ≡ true → d ≡ true → (a && b && c && d) ≡ true
-four_true a b c d h i j k = and_from _ _ (and_from _ _ (and_from _ _ h i) j) k
-
-pub of_four : (a b c d : Bool) → (a && b && c && d) ≡ true → (a ≡ true) × (b ≡ true) × (c ≡ true) × (d ≡ true)
-of_four a b c d e =
-    let x = and_parts _ _ e in let y = and_parts _ _ x.0 in let z = and_parts _ _ y.0 in (z.0, z.1, y.1, x.1)
-
-pub three_true : (a b c : Bool) → a ≡ true → b ≡ true → c ≡ true → (a && b && c) ≡ true
-three_true a b c h i j = and_from _ _ (and_from _ _ h i) j
-
-pub of_three : (a b c : Bool) → (a && b && c) ≡ true → (a ≡ true) × (b ≡ true) × (c ≡ true)
-of_three a b c e = let x = and_parts _ _ e in let y = and_parts _ _ x.0 in (y.0, y.1, x.1)

@@ -1,11 +1,11 @@
 -- What the calls of a sink make of the target begun last.
-use Rattle.std.proofs.Common.{◌≡◌, ◌∙◌, ap, sym, ℕ, List, [], ◌∷◌, ◌++◌, length, take, Option, Some, None, true, false, option_map, refl, inl, inr, suc, ◌+◌, ◌<◌, drop, get_or, map, append_assoc, add-one}
+use Rattle.std.proofs.Common.{◌≡◌, ◌∙◌, ap, sym, ℕ, List, [], ◌∷◌, ◌++◌, length, take, Option, Some, None, IfSome, true, false, option_map, refl, inr, suc, ◌+◌, ◌<◌, drop, get_or, map, append_assoc, add-one}
 use Rattle.std.proofs.Math.Seq.{take-length, take-suc, drop-cons}
 use Rattle.std.proofs.lemmas.List.{append-nil, map-append, take-append-drop}
 use Rattle.ixds_run.specs.Outcomes.{ready}
 use Rattle.ixds_run.specs.declared.due.DueTarget.{DueTarget}
 use Rattle.ix_base.specs.Outside.{Begun, begun, last_grown, last_finished, GainsFront}
-use Rattle.ixds_run.specs.Gains.{IsPartOf, GainsAll, GainsPart}
+use Rattle.ixds_run.specs.Gains.{GainsAll, GainsCut, GainsPart}
 
 -- a target with these bytes, unfinished and finished
 abbrev pub unfinished : List ℕ → List ℕ → List ℕ → Begun
@@ -33,7 +33,8 @@ finished_is dir name p None = refl
 finished_is dir name p (Some ts) = ap Some (finished_last (unfinished dir name p) ts)
 
 -- the write behind a begin failed
-pub write_failed : (dir name text : List ℕ) (old b new : Option (List Begun)) → b ≡ option_map (λ ts. ts ++ begun dir name ∷ []) old → GainsFront text b new → GainsPart (finished_with dir name text ∷ []) old new
+pub write_failed : (dir name text : List ℕ) (old b new : Option (List Begun)) → b ≡ option_map (λ ts. ts ++ begun dir name ∷ []) old → GainsFront text b new
+    → GainsCut (finished_with dir name text) old new
 write_failed dir name text old b new at gains =
     let p = take gains.0 text in
     (unfinished dir name p ∷ [], inr (gains.0, refl), gains.1 ∙ ap (option_map (last_grown p)) at ∙ grown_begun dir name p old)
@@ -45,9 +46,10 @@ written dir name text old b new at grown = grown ∙ ap (option_map (last_grown 
 pub finish_done : (dir name text : List ℕ) (old w new : Option (List Begun)) → w ≡ option_map (λ ts. ts ++ unfinished dir name text ∷ []) old → new ≡ option_map last_finished w → GainsAll (finished_with dir name text ∷ []) old new
 finish_done dir name text old w new at done = done ∙ ap (option_map last_finished) at ∙ finished_is dir name text old
 
-pub finish_failed : (dir name text : List ℕ) (old w new : Option (List Begun)) → w ≡ option_map (λ ts. ts ++ unfinished dir name text ∷ []) old → new ≡ w → GainsPart (finished_with dir name text ∷ []) old new
+pub finish_failed : (dir name text : List ℕ) (old w new : Option (List Begun)) → w ≡ option_map (λ ts. ts ++ unfinished dir name text ∷ []) old → new ≡ w
+    → GainsCut (finished_with dir name text) old new
 finish_failed dir name text old w new at same =
-    (unfinished dir name text ∷ [], inr (length text, ap (λ t. unfinished dir name t) (sym (take-length text))), same ∙ at)
+    (unfinished dir name text ∷ [], inr (length text, ap (λ t. unfinished dir name t ∷ []) (sym (take-length text))), same ∙ at)
 
 pub gains_none : (o : Option (List Begun)) → GainsAll [] o o
 gains_none None = refl
@@ -57,26 +59,6 @@ gains_none (Some ts) = ap Some (sym (append-nil ts))
 pub gains_both : (xs ys : List Begun) (old mid new : Option (List Begun)) → GainsAll xs old mid → GainsAll ys mid new → GainsAll (xs ++ ys) old new
 gains_both xs ys None mid new a b = b ∙ ap (option_map (λ ts. ts ++ ys)) a
 gains_both xs ys (Some ts) mid new a b = b ∙ ap (option_map (λ us. us ++ ys)) a ∙ ap Some (append_assoc ts xs ys)
-
--- one more that is whole, in front of a part
-whole_before : (x : Begun) (due ts : List Begun) → IsPartOf due ts → IsPartOf (x ∷ due) (x ∷ ts)
-whole_before x due [] h = inl (refl, h)
-whole_before x due (t ∷ ts) h = (refl, h)
-
-part_one : (d : Begun) (due part : List Begun) → IsPartOf (d ∷ []) part → IsPartOf (d ∷ due) part
-part_one d due [] h = tt
-part_one d due (t ∷ []) (inl whole) = absurd whole.1
-part_one d due (t ∷ []) (inr cut) = inr cut
-part_one d due (t ∷ u ∷ ts) h = absurd h.1
-
-part_behind : (xs : List Begun) (d : Begun) (due part : List Begun) → IsPartOf (d ∷ []) part → IsPartOf (xs ++ d ∷ due) (xs ++ part)
-part_behind [] d due part h = part_one d due part h
-part_behind (x ∷ xs) d due part h = whole_before x (xs ++ d ∷ due) (xs ++ part) (part_behind xs d due part h)
-
--- whole targets were added, and then a part of the next
-pub gains_part : (xs : List Begun) (d : Begun) (due : List Begun) (old mid new : Option (List Begun)) → GainsAll xs old mid → GainsPart (d ∷ []) mid new
-    → GainsPart (xs ++ d ∷ due) old new
-gains_part xs d due old mid new a b = (xs ++ b.0, part_behind xs d due b.0 b.1, gains_both xs b.0 old mid new a b.2)
 
 -- what is ready of the targets up to this one, of it, and of those behind it
 pub ready_up_to : (dir : List ℕ) (ts : List DueTarget) (n : ℕ) (t : DueTarget) → n < length ts → t ≡ get_or ts n t
@@ -90,3 +72,18 @@ pub ready_more : (dir : List ℕ) (ts : List DueTarget) (n : ℕ) (t : DueTarget
 ready_more dir ts n t h e =
     let more : take (n + 1) ts ≡ take n ts ++ t ∷ [] = ap (λ k. take k ts) (add-one n) ∙ take-suc ts n t h ∙ (λ i. take n ts ++ sym e i ∷ []) in
     ap (map (ready dir)) more ∙ map-append (ready dir) (take n ts) (t ∷ [])
+
+-- targets were added whole, and then nothing of the next or a front
+pub gains_part : (dir : List ℕ) (ts : List DueTarget) (n : ℕ) (t : DueTarget) (old mid new : Option (List Begun)) (asked : Option (List ℕ × List ℕ))
+    → n < length ts → t ≡ get_or ts n t → GainsAll (map (ready dir) (take n ts)) old mid → GainsCut (ready dir t) mid new
+    → IfSome asked (λ words. words ≡ (dir, t.name)) → GainsPart (map (ready dir) ts) old new asked
+gains_part dir ts n t old mid new asked h e before cut at = record {
+  whole = map (ready dir) (take n ts);
+  target = ready dir t;
+  behind = map (ready dir) (drop (suc n) ts);
+  splits = ready_up_to dir ts n t h e;
+  part = cut.0;
+  cut = cut.1;
+  gained = gains_both (map (ready dir) (take n ts)) cut.0 old mid new before cut.2;
+  asked_is = at;
+}

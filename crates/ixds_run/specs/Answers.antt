@@ -1,9 +1,12 @@
 -- What a run answers: each status, when it comes, and what then stands.
-use Rattle.std.specs.Prelude.{◌≡◌, ◌⊎◌, ℕ, ◌<◌, List, Option, Some, None, IfSome}
+use Rattle.std.specs.Prelude.{◌≡◌, ◌⊎◌, ℕ, ◌<◌, List, Option, None, IfSome}
 use Rattle.ix_base.specs.Outside.{Begun, TextGainsFront}
+use Rattle.ix_base.specs.declared.outside.PageSource as source
+use Rattle.ix_base.specs.declared.outside.TargetSink as sink
+use Rattle.ix_base.specs.declared.outside.TextSink as text
 use Rattle.ixds_run.specs.Commands.{dir_of, pages_of}
-use Rattle.ixds_run.specs.Gains.{GainsText}
-use Rattle.ixds_run.specs.Outcomes.{Gives, GivesFront, GivesPart, IfTold, SaysNothing}
+use Rattle.ixds_run.specs.Gains.{GainsStarts, GainsText}
+use Rattle.ixds_run.specs.Outcomes.{Gives, GivesFront, GivesPart, IfTold, OfBytes, SaysNothing}
 use Rattle.ixds_run.specs.Reading.{IsAmong, StopsInTime}
 use Rattle.ixds_run.specs.Texts.{cannot_read_line, usage_text}
 use Rattle.ixds_run.specs.declared.command.Command.{Command}
@@ -12,10 +15,12 @@ use Rattle.ixds_run.specs.declared.status.Status.TheVariants.{Done, Broken, Usag
 
 -- what the pages, the targets and the text of the outside tell, at one time
 pub record Outside : Type 0 where
-  -- the bytes of each page by its name, what is left of the started one, the name asked for last, how often a call failed
+  -- the bytes of each page by its name, what is left of the started one, the name asked for last, the names of all starts, how
+  -- often a call failed
   pub page : List ℕ → Option (List ℕ)
   pub left : Option (List ℕ)
   pub page_asked : Option (List ℕ)
+  pub page_starts : Option (List (List ℕ))
   pub page_faults : ℕ
   -- the targets begun, the two words asked for last, how often a call failed
   pub targets : Option (List Begun)
@@ -24,6 +29,21 @@ pub record Outside : Type 0 where
   -- the bytes that the text has taken, how often a call failed
   pub taken : Option (List ℕ)
   pub text_faults : ℕ
+
+-- what three objects tell
+abbrev pub outside : {P S T : Type 0} → source.Ghosts P → sink.Ghosts S → text.Ghosts T → P → S → T → Outside
+outside source sink text p s t = record {
+  page = source.page p;
+  left = source.left p;
+  page_asked = source.asked p;
+  page_starts = source.starts p;
+  page_faults = source.faults p;
+  targets = sink.targets s;
+  target_asked = sink.asked s;
+  target_faults = sink.faults s;
+  taken = text.taken t;
+  text_faults = text.faults t;
+}
 
 -- one of these pages can't be read, which was asked for last, and its line is added to the text
 abbrev pub TellsFault : Outside → Outside → (Gains : List ℕ → Option (List ℕ) → Option (List ℕ) → Type 0) → Command → Type 0
@@ -39,9 +59,9 @@ pub record Answers (command : Option Command) (old new : Outside) (SamePages Sam
       new.page_faults ≡ old.page_faults → new.target_faults ≡ old.target_faults → new.text_faults ≡ old.text_faults
       → Gives s old.targets new.targets old.taken new.taken c bs ⊎ ((s ≡ NoMemory) × SameTargets × SameText))
   -- Done: the pages break no rule, the targets are written whole, and then the summary.
-  pub done : s ≡ Done → IfTold command old.page (Gives Done old.targets new.targets old.taken new.taken)
+  pub done : s ≡ Done → OfBytes command old.page (Gives Done old.targets new.targets old.taken new.taken)
   -- Broken: the pages break a rule, and the text took the report. For such pages no target is begun, whatever the status.
-  pub broken : s ≡ Broken → IfTold command old.page (Gives Broken old.targets new.targets old.taken new.taken)
+  pub broken : s ≡ Broken → OfBytes command old.page (Gives Broken old.targets new.targets old.taken new.taken)
   pub broken_targets : s ≡ Broken → SameTargets
   pub broken_pages : IfTold command old.page (λ c bs. SaysNothing c bs → SameTargets)
   -- A command without a directory leaves the targets, whatever the status.
@@ -53,13 +73,13 @@ pub record Answers (command : Option Command) (old new : Outside) (SamePages Sam
   pub read_fault : s ≡ ReadFault
       → (old.page_faults < new.page_faults) × SameTargets × IfSome command (TellsFault old new GainsText)
   -- WriteFault: the count of the targets or of the text rose in this call. Of what was due a part stands: where the count of
-  -- the targets rose, a part of them; else, all of them and a front of the text, which after a read fault is its line and
-  -- without a command the usage text.
+  -- the targets rose, a part of them, and the first that isn't whole was asked for last; else, all of them and a front of the
+  -- text, which after a read fault is its line and without a command the usage text.
   pub write_fault : s ≡ WriteFault → (old.target_faults < new.target_faults) ⊎ (old.text_faults < new.text_faults)
   pub write_fault_targets : s ≡ WriteFault → old.target_faults < new.target_faults
-      → SameText × IfTold command old.page (GivesPart old.targets new.targets new.target_asked)
+      → SameText × OfBytes command old.page (GivesPart old.targets new.targets new.target_asked)
   pub write_fault_text : s ≡ WriteFault → new.target_faults ≡ old.target_faults → new.page_faults ≡ old.page_faults
-      → IfTold command old.page (GivesFront old.targets new.targets old.taken new.taken)
+      → OfBytes command old.page (GivesFront old.targets new.targets old.taken new.taken)
   pub write_fault_line : s ≡ WriteFault → old.page_faults < new.page_faults
       → SameTargets × IfSome command (TellsFault old new TextGainsFront)
   pub write_fault_usage : s ≡ WriteFault → command ≡ None
@@ -67,11 +87,10 @@ pub record Answers (command : Option Command) (old new : Outside) (SamePages Sam
   -- NoMemory leaves both sinks, and hides no read fault.
   pub no_memory : s ≡ NoMemory → SameTargets × SameText
   pub no_memory_pages : s ≡ NoMemory → new.page_faults ≡ old.page_faults
-  -- The page that was asked for last is one of the command's, after pages that are within the limit; a target is asked for
-  -- under its directory; and reading stops in time.
+  -- The pages are asked for in the order of the words, each once. The one that was asked for last is one of the command's,
+  -- after pages that are within the limit; and reading stops in time.
+  pub starts : IfSome command (λ c. GainsStarts (pages_of c) old.page_starts new.page_starts)
   pub asked_page : IfSome command (λ c. SamePages ⊎ ((name : List ℕ) × IsAmong old.page (pages_of c) new.page_asked name))
-  pub asked_directory : s ≡ WriteFault → old.target_faults < new.target_faults
-      → IfSome command (λ c. IfSome new.target_asked (λ words. dir_of c ≡ Some words.0))
   pub same_pages : new.page ≡ old.page
   pub stops : (s ≡ Done) ⊎ (s ≡ Broken) → IfSome command (λ c. StopsInTime old.page (pages_of c) new.left new.page_asked)
   -- A failed call ends the run: each other status comes with no fault but its own.

@@ -1,11 +1,16 @@
--- A page's tree in the first shape: the names, the attributes and the texts of fixed markup, with parts between them.
+-- A page's tree in the first shape: the names, the attributes and the texts of fixed markup, with parts between them, of which
+-- one is a context.
 use Rattle.std.specs.Prelude.{◌≡◌, ℕ, List, [], ◌∷◌, ◌++◌, Option, Some, None, unwrap_or, codes}
-use Rattle.ix_base.specs.Decimals.{number_in}
+use Rattle.ix_base.specs.ContextForm.{context}
+use Rattle.ix_base.specs.Elements.{tree_at}
 use Rattle.ix_base.specs.Scope.{namespace_of}
-use Rattle.ix_base.specs.Trees.{Valued, Head, Nodes, none, chars, elem, Tree}
+use Rattle.ix_base.specs.Trees.{Named, Valued, Head, Nodes, none, chars, elem, Tree}
 use Rattle.ix_base.specs.declared.content.Content.{Content}
-use Rattle.ixds_run.specs.OneFact.{one_fact}
-use Rattle.ixds_run.specs.PartForms.{dashed, is_letter_or_digit, AreSome, IsAddressUnder, IsName, IsDate}
+use Rattle.ix_base.specs.declared.content.Context.{Context}
+use Rattle.ix_base.specs.declared.content.Fact.TheVariants as fact
+use Rattle.ix_base.specs.declared.content.Item.{Item}
+use Rattle.ix_base.specs.declared.content.Value.TheVariants as value
+use Rattle.ixds_run.specs.PartForms.{IsAddressUnder, IsName}
 
 -- the namespaces
 pub record Spaces : Type 0 where
@@ -26,27 +31,29 @@ space = record {
   e = codes "http://example.com/e";
 }
 
--- the parts between the markup; the context stands in the tree twice, and the texts of the paragraph may be absent
+-- the parts between the markup: the context's element and the id by which the fact names it are two of them, and the texts of
+-- the paragraph may be absent
 pub record ShapeParts : Type 0 where
   pub schema : List ℕ
-  pub context : List ℕ
-  pub scheme : List ℕ
-  pub identifier : List ℕ
-  pub year : List ℕ
-  pub month : List ℕ
-  pub day : List ℕ
+  pub resource : Tree
   pub before : Option (List ℕ)
   pub name : List ℕ
+  pub named : List ℕ
   pub value : Option (List ℕ)
   pub behind : Option (List ℕ)
 
--- What some nodes are: none; a text, and after it such nodes; a text where there is one, and after it such nodes; an
--- element that is so, with such nodes within, and after it such nodes.
+-- What some nodes are: none; this element, and after it such nodes; a text, and after it such nodes; a text where there is one,
+-- and after it such nodes; an element that is so, with such nodes within, and after it such nodes.
 
 abbrev pub AreNone : Nodes → Type 0
 AreNone none = Unit {0}
 AreNone (chars text rest) = ⊥
 AreNone (elem head children rest) = ⊥
+
+abbrev pub AreTree : Tree → (After : Nodes → Type 0) → Nodes → Type 0
+AreTree t After none = ⊥
+AreTree t After (chars text rest) = ⊥
+AreTree t After (elem head children rest) = (t ≡ tree_at head children) × After rest
 
 abbrev pub AreText : List ℕ → (After : Nodes → Type 0) → Nodes → Type 0
 AreText t After none = ⊥
@@ -78,28 +85,8 @@ WithinReferences p =
     AreElement (Looks space.link (codes "schemaRef") (kind ∷ address ∷ [])) AreNone
     AreNone
 
-abbrev pub WithinEntity : ShapeParts → Nodes → Type 0
-WithinEntity p =
-    let scheme = attribute [] (codes "scheme") p.scheme in
-    AreElement (Looks space.xbrli (codes "identifier") (scheme ∷ [])) (AreText p.identifier AreNone)
-    AreNone
-
-abbrev pub WithinPeriod : ShapeParts → Nodes → Type 0
-WithinPeriod p =
-    AreElement (Looks space.xbrli (codes "instant") []) (AreText (dashed p.year p.month p.day) AreNone)
-    AreNone
-
-abbrev pub WithinContext : ShapeParts → Nodes → Type 0
-WithinContext p =
-    AreElement (Looks space.xbrli (codes "entity") []) (WithinEntity p)
-    (AreElement (Looks space.xbrli (codes "period") []) (WithinPeriod p)
-    AreNone)
-
 abbrev pub WithinResources : ShapeParts → Nodes → Type 0
-WithinResources p =
-    let id = attribute [] (codes "id") p.context in
-    AreElement (Looks space.xbrli (codes "context") (id ∷ [])) (WithinContext p)
-    AreNone
+WithinResources p = AreTree p.resource AreNone
 
 abbrev pub WithinHeader : ShapeParts → Nodes → Type 0
 WithinHeader p =
@@ -111,7 +98,7 @@ WithinHeader p =
 abbrev pub IsFact : ShapeParts → Head → Type 0
 IsFact p h =
     let name = attribute [] (codes "name") (codes "e:" ++ p.name) in
-    let context = attribute [] (codes "contextRef") p.context in
+    let context = attribute [] (codes "contextRef") p.named in
     Looks space.ix (codes "nonNumeric") (name ∷ context ∷ []) h
     × (namespace_of h.scope (codes "e") ≡ Some space.e)
 
@@ -133,29 +120,50 @@ WithinRoot p =
     AreElement (Looks space.xhtml (codes "body") []) (WithinBody p)
     AreNone
 
--- the tree is in the first shape, and these are its parts
+abbrev pub context_name : Named
+context_name = record { ns = space.xbrli; local = codes "context" }
+
+-- the tree has this markup, and these are its parts
 pub record HasShape (t : Tree) (p : ShapeParts) : Type 0 where
   pub root : Looks space.xhtml (codes "html") [] t.head
   pub within : WithinRoot p t.children
   pub schema : IsAddressUnder (codes "http://example.com/") p.schema
-  pub context : IsName p.context
-  pub scheme : IsAddressUnder (codes "http://") p.scheme
-  pub identifier : AreSome is_letter_or_digit p.identifier
-  pub date : IsDate p.year p.month p.day
+  pub resource : p.resource.head.name ≡ context_name
   pub name : IsName p.name
 
--- what a page with these parts says: one fact, at the end of the day
-abbrev pub shape_content : ShapeParts → Content
-shape_content p =
-    one_fact p.schema p.context p.scheme p.identifier (number_in p.year) (number_in p.month) (number_in p.day)
-    (codes "http://example.com/e") p.name (unwrap_or p.value [])
+-- a fact of this name and text, where it has one, in the context of this id
+abbrev pub shape_item : List ℕ → Option (List ℕ) → List ℕ → Item
+shape_item name text id = record {
+  name = record { ns = codes "http://example.com/e"; local = name };
+  context = id;
+  unit = None;
+  accuracy = None;
+  id = None;
+  value = value.Plain (unwrap_or text []);
+}
 
--- the tree is in the first shape, and this is its content
+-- what a page with these parts says, whose context has this normal form: one fact in it
+abbrev pub shape_content : ShapeParts → Context → Content
+shape_content p c = record {
+  schemas = p.schema ∷ [];
+  linkbases = [];
+  roles = [];
+  arcroles = [];
+  contexts = c ∷ [];
+  units = [];
+  facts = fact.Item (shape_item p.name p.value c.id) ∷ [];
+  notes = [];
+}
+
+-- the tree is in the first shape, and this is its content: its fact names its context
 pub record FirstShape (t : Tree) (content : Content) : Type 0 where
   pub parts : ShapeParts
   pub has_shape : HasShape t parts
-  pub is : content ≡ shape_content parts
+  pub of : Context
+  pub form : context parts.resource ≡ Some of
+  pub same : parts.named ≡ of.id
+  pub is : content ≡ shape_content parts of
 
 -- the tree isn't in the first shape
 abbrev pub NotShape : Tree → Type 0
-NotShape t = (p : ShapeParts) → ¬ HasShape t p
+NotShape t = (content : Content) → ¬ FirstShape t content

@@ -1,29 +1,35 @@
--- What a run adds to the targets and to the text.
-use Rattle.std.specs.Prelude.{◌≡◌, ◌⊎◌, ℕ, false, List, [], ◌∷◌, ◌++◌, take, Option, option_map}
+-- What a run adds to the starts of pages, to the targets and to the text.
+use Rattle.std.specs.Prelude.{◌≡◌, ◌⊎◌, ℕ, false, List, [], ◌∷◌, ◌++◌, take, Option, IfSome, option_map}
 use Rattle.ix_base.specs.Outside.{Begun}
 
 -- all of these targets were added, and nothing else
 abbrev pub GainsAll : List Begun → Option (List Begun) → Option (List Begun) → Type 0
 GainsAll due old new = new ≡ option_map (λ ts. ts ++ due) old
 
--- Of these targets the first ones stand, in order, and some due one isn't finished: all but the last that stands are
--- whole, and that one is whole or holds a front of its bytes and is unfinished.
-abbrev pub IsPartOf : List Begun → List Begun → Type 0
-IsPartOf [] ts = ⊥
-IsPartOf (d ∷ due) [] = Unit {0}
-IsPartOf (d ∷ due) (t ∷ []) =
-    ((t ≡ d) × IsPartOf due []) ⊎ ((n : ℕ) × (t ≡ record d { bytes = take n d.bytes; finished = false }))
-IsPartOf (d ∷ due) (t ∷ u ∷ ts) = (t ≡ d) × IsPartOf due (u ∷ ts)
+-- nothing of a target, or a front of its bytes, unfinished
+abbrev pub IsCut : Begun → List Begun → Type 0
+IsCut t part = (part ≡ []) ⊎ ((n : ℕ) × (part ≡ record t { bytes = take n t.bytes; finished = false } ∷ []))
 
--- a part of these targets was added, and nothing else
-abbrev pub GainsPart : List Begun → Option (List Begun) → Option (List Begun) → Type 0
-GainsPart due old new = (part : List Begun) × IsPartOf due part × GainsAll part old new
+-- nothing of this target was added, or a front of it
+abbrev pub GainsCut : Begun → Option (List Begun) → Option (List Begun) → Type 0
+GainsCut t old new = (part : List Begun) × IsCut t part × GainsAll part old new
+
+-- Of these targets one isn't whole. Those before it were added, whole and finished, and of it nothing or a front. It was asked
+-- for last: for its directory and its name.
+pub record GainsPart (due : List Begun) (old new : Option (List Begun)) (asked : Option (List ℕ × List ℕ)) : Type 0 where
+  pub whole : List Begun
+  pub target : Begun
+  pub behind : List Begun
+  pub splits : due ≡ whole ++ target ∷ behind
+  pub part : List Begun
+  pub cut : IsCut target part
+  pub gained : GainsAll (whole ++ part) old new
+  pub asked_is : IfSome asked (λ words. words ≡ (target.dir, target.name))
 
 -- a text was added, and nothing else
 abbrev pub GainsText : List ℕ → Option (List ℕ) → Option (List ℕ) → Type 0
 GainsText text old new = new ≡ option_map (λ t. t ++ text) old
 
--- these two words ask for one of these targets: for its directory and its name
-abbrev pub AsksFor : List Begun → List ℕ × List ℕ → Type 0
-AsksFor [] words = ⊥
-AsksFor (t ∷ ts) words = (words ≡ (t.dir, t.name)) ⊎ AsksFor ts words
+-- the starts of a source gained the first of these names, in their order, each once
+abbrev pub GainsStarts : List (List ℕ) → Option (List (List ℕ)) → Option (List (List ℕ)) → Type 0
+GainsStarts names old new = (n : ℕ) × (new ≡ option_map (λ starts. starts ++ take n names) old)

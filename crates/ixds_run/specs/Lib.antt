@@ -5,12 +5,10 @@ pub mod FirstShape
 pub mod Gains
 pub mod Made
 pub mod Names
-pub mod OneFact
 pub mod Outcomes
 pub mod PartForms
 pub mod PartReading
 pub mod Reading
-pub mod ShapeContent
 pub mod ShapeReading
 pub mod ShapeRows
 pub mod ShapeView

@@ -11,7 +11,7 @@ use Rattle.ix_base.specs.declared.content.Content.{Content}
 use Rattle.ix_base.specs.declared.rule.Rule.TheVariants.{U2}
 use Rattle.ix_base.specs.declared.tree.Element.{Element}
 use Rattle.page_tree.specs.Stacks.{AreAll}
-use Rattle.ixds_run.specs.FirstShape.{FirstShape, NotShape}
+use Rattle.ixds_run.specs.FirstShape.{FirstShape}
 use Rattle.ixds_run.specs.Told.{on_page}
 use Rattle.ixds_run.specs.declared.made.Verdict.{Verdict}
 use Rattle.ixds_run.specs.declared.made.Verdict.TheVariants.{Broken, Whole}
@@ -59,12 +59,6 @@ Made base names trees v =
 abbrev pub CanBeWritten : Verdict → Type 0
 CanBeWritten (Broken report) = Unit {0}
 CanBeWritten (Whole targets) = All (λ t. IsWritable t.content) targets
-
--- what the tree of one page says
-abbrev pub IsServedAlone : List (List ℕ) → Tree → Verdict → Type 0
-IsServedAlone names t v =
-    ((content : Content) × FirstShape t content × IsDefault content v)
-    ⊎ (NotShape t × IsReport names (on_page 0 t.head.offset U2 ∷ []) v)
 
 -- these are roots of pages numbered on from this number
 abbrev pub AreNumbered : ℕ → List (Bor Element) → Type 0

@@ -7,7 +7,7 @@ use Rattle.ix_base.specs.declared.rule.Rule.{Rule}
 use Rattle.instance_out.specs.Canonical.{canon_lines}
 use Rattle.page_tree.specs.Page.{page}
 use Rattle.ixds_run.specs.Commands.{base_of, dir_of, pages_of}
-use Rattle.ixds_run.specs.Gains.{AsksFor, GainsAll, GainsPart, GainsText}
+use Rattle.ixds_run.specs.Gains.{GainsAll, GainsPart, GainsText}
 use Rattle.ixds_run.specs.Made.{IsReport, Made}
 use Rattle.ixds_run.specs.Texts.{breach_line, summary_line}
 use Rattle.ixds_run.specs.Told.{on_page, set_rule, text_faults, told}
@@ -79,6 +79,15 @@ SaysNothing c bs = (targets : List Target) → ¬ Says (base_of c) (pages_of c) 
 abbrev pub IfTold : Option Command → (List ℕ → Option (List ℕ)) → (Command → List (List ℕ) → Type 0) → Type 0
 IfTold command page fact = IfSome command (λ c. IfSome (told page (pages_of c)) (fact c))
 
+-- a fact of some bytes, which are these, where there are any
+abbrev pub AreSome : Option (List (List ℕ)) → (List (List ℕ) → Type 0) → Type 0
+AreSome all fact = (bs : List (List ℕ)) × IfSome all (λ told. told ≡ bs) × fact bs
+
+-- A fact of the command and of the bytes of its pages, where the words give one. The source may not tell these bytes; where it
+-- tells them all, they are those that it tells.
+abbrev pub OfBytes : Option Command → (List ℕ → Option (List ℕ)) → (Command → List (List ℕ) → Type 0) → Type 0
+OfBytes command page fact = IfSome command (λ c. AreSome (told page (pages_of c)) (fact c))
+
 -- what is due with this status was given, all of it
 abbrev pub Gives : Status → (targets targets' : Option (List Begun)) → (taken taken' : Option (List ℕ))
     → Command → List (List ℕ) → Type 0
@@ -86,11 +95,10 @@ Gives status targets targets' taken taken' c bs =
     (due : Outcome) × IsOutcome c bs due × (due.status ≡ status)
     × GainsAll due.targets targets targets' × GainsText due.text taken taken'
 
--- of the targets that are due a part was given, and one of them was asked for last
+-- of the targets that are due a part was given
 abbrev pub GivesPart : (targets targets' : Option (List Begun)) → (asked : Option (List ℕ × List ℕ)) → Command → List (List ℕ) → Type 0
 GivesPart targets targets' asked c bs =
-    (due : Outcome) × IsOutcome c bs due
-    × GainsPart due.targets targets targets' × IfSome asked (AsksFor due.targets)
+    (due : Outcome) × IsOutcome c bs due × GainsPart due.targets targets targets' asked
 
 -- the targets that are due were given, all of them, and of the text a front
 abbrev pub GivesFront : (targets targets' : Option (List Begun)) → (taken taken' : Option (List ℕ))
@@ -111,9 +119,13 @@ abbrev pub status_of : Bool → Status
 status_of true = status.Broken
 status_of false = status.Done
 
+-- the targets that are ready to be written under this directory word, which are none without one
+abbrev pub targets_due : Option (List ℕ) → Due → List Begun
+targets_due dir due = ready_under dir due.targets.items
+
 -- what is ready to be given
 abbrev pub outcome_of : Option (List ℕ) → Due → Outcome
-outcome_of dir due = record { status = status_of due.is_broken; text = due.text.items; targets = ready_under dir due.targets.items }
+outcome_of dir due = record { status = status_of due.is_broken; text = due.text.items; targets = targets_due dir due }
 
 -- a target by its name and the lines of its instance
 pub record Bare : Type 0 where

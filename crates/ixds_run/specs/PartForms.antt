@@ -1,12 +1,6 @@
 -- The forms of the parts of a page in the first shape.
 use Rattle.std.specs.Prelude.{◌≡◌, ℕ, ◌≤◌, Bool, ◌&&◌, ◌||◌, ◌==◌, nat_le, List, ◌∷◌, ◌++◌, length, IsTrue}
 use Rattle.std.specs.List.{list_all}
-use Rattle.ix_base.specs.Days.{IsDay}
-use Rattle.ix_base.specs.Decimals.{AreDigits, number_in}
-
--- YYYY-MM-DD
-abbrev pub dashed : List ℕ → List ℕ → List ℕ → List ℕ
-dashed year month day = year ++ 45 ∷ (month ++ 45 ∷ day)
 
 -- ASCII letters, and with them digits
 abbrev pub is_letter : ℕ → Bool
@@ -41,11 +35,3 @@ pub record IsName (bytes : List ℕ) : Type 0 where
   pub spelled : bytes ≡ head ∷ tail
   pub letter : IsTrue (is_letter head)
   pub allowed : IsTrue (list_all is_name_byte tail)
-
--- four, two and two digits, which are a real day of the years 0001 to 9999
-pub record IsDate (year month day : List ℕ) : Type 0 where
-  pub four : length year ≡ 4
-  pub two : length month ≡ 2
-  pub two_more : length day ≡ 2
-  pub digits : AreDigits (year ++ (month ++ day))
-  pub real : IsDay (number_in year) (number_in month) (number_in day)

@@ -1,9 +1,9 @@
 -- Reading a page's tree in the first shape, level by level.
-use Rattle.std.specs.Prelude.{ℕ, Bool, true, false, ◌&&◌, ◌==◌, List, [], ◌∷◌, length, take, drop, get_or, Option, Some, None, if◌then◌else◌, bytes_eq, codes}
+use Rattle.std.specs.Prelude.{ℕ, Bool, true, false, ◌&&◌, ◌==◌, List, [], ◌∷◌, length, Option, Some, None, if◌then◌else◌, bytes_eq, codes}
 use Rattle.ix_base.specs.Elements.{tree_at}
 use Rattle.ix_base.specs.Scope.{namespace_of}
 use Rattle.ix_base.specs.Trees.{Named, Valued, Bound, Nodes, none, chars, elem, Tree}
-use Rattle.ixds_run.specs.PartReading.{text_at, is_address_under, is_name, is_identifier, ◌>>=◌}
+use Rattle.ixds_run.specs.PartReading.{text_at, is_address_under, is_name, ◌>>=◌}
 use Rattle.ixds_run.specs.FirstShape.{ShapeParts, space}
 
 -- Some nodes.
@@ -37,10 +37,6 @@ past_text (elem head children rest) = (None, elem head children rest)
 abbrev pub text_if : Nodes → Option (Option (List ℕ))
 text_if nodes = let cut = past_text nodes in if is_end cut.1 then Some cut.0 else None
 
--- the only one, where it is a text
-abbrev pub only_text : Nodes → Option (List ℕ)
-only_text nodes = text_if nodes >>= λ text. text
-
 -- Names and attributes.
 
 abbrev pub is_of : Named → List ℕ → List ℕ → Bool
@@ -49,11 +45,6 @@ is_of n ns local = bytes_eq n.ns ns && bytes_eq n.local local
 -- the children of an element of this name without attributes
 abbrev pub inside : Tree → List ℕ → List ℕ → Option Nodes
 inside t ns local = if is_of t.head.name ns local && length t.head.attrs == 0 then Some t.children else None
-
--- the value of the only attribute, where it is of this name, in no namespace
-abbrev pub one_value : List Valued → List ℕ → Option (List ℕ)
-one_value (a ∷ []) local = if is_of a.name [] local then Some a.value else None
-one_value attrs local = None
 
 -- the values of the two attributes, where they are of these names in this namespace
 abbrev pub two_values : List Valued → List ℕ → List ℕ → List ℕ → Option (List ℕ × List ℕ)
@@ -84,58 +75,20 @@ schema_in references = do
   link ← only_tree inner
   address_in link
 
--- the scheme and the identifier
-unfoldable pub entity_in : Tree → Option (List ℕ × List ℕ)
-entity_in entity = do
-  inner ← inside entity space.xbrli (codes "entity")
-  identifier ← only_tree inner
-  scheme ← one_value identifier.head.attrs (codes "scheme")
-  text ← only_text identifier.children
-  if is_of identifier.head.name space.xbrli (codes "identifier") then Some (scheme, text) else None
-
--- the year, the month and the day of a date
-abbrev pub date_at : List ℕ → Option (List ℕ × List ℕ × List ℕ)
-date_at text =
-    if length text == 10 && get_or text 4 0 == 45 && get_or text 7 0 == 45
-    then Some (take 4 text, take 2 (drop 5 text), drop 8 text)
-    else None
-
-unfoldable pub date_in : Tree → Option (List ℕ × List ℕ × List ℕ)
-date_in period = do
-  inner ← inside period space.xbrli (codes "period")
-  instant ← only_tree inner
-  within ← inside instant space.xbrli (codes "instant")
-  text ← only_text within
-  date_at text
-
--- what the context says
-pub record Setting : Type 0 where
-  pub context : List ℕ
-  pub scheme : List ℕ
-  pub identifier : List ℕ
-  pub year : List ℕ
-  pub month : List ℕ
-  pub day : List ℕ
-
-unfoldable pub setting_in : Tree → Option Setting
-setting_in resources = do
+-- the element of the only context
+unfoldable pub resource_in : Tree → Option Tree
+resource_in resources = do
   inner ← inside resources space.ix (codes "resources")
-  context ← only_tree inner
-  id ← one_value context.head.attrs (codes "id")
-  both ← two_trees context.children
-  entity ← entity_in both.0
-  date ← date_in both.1
-  if is_of context.head.name space.xbrli (codes "context")
-      then Some (record { context = id; scheme = entity.0; identifier = entity.1; year = date.0; month = date.1; day = date.2 })
-      else None
+  resource ← only_tree inner
+  if is_of resource.head.name space.xbrli (codes "context") then Some resource else None
 
-unfoldable pub header_in : Tree → Option (List ℕ × Setting)
+unfoldable pub header_in : Tree → Option (List ℕ × Tree)
 header_in header = do
   inner ← inside header space.ix (codes "header")
   both ← two_trees inner
   schema ← schema_in both.0
-  setting ← setting_in both.1
-  Some (schema, setting)
+  resource ← resource_in both.1
+  Some (schema, resource)
 
 -- what the fact says
 pub record Said : Type 0 where
@@ -166,29 +119,22 @@ passage_in paragraph = do
   behind ← text_if first.1
   Some (record { before = (past_text inner).0; said = said; behind = behind })
 
-abbrev pub parts_from : List ℕ → Setting → Passage → ShapeParts
-parts_from schema setting passage = record {
+abbrev pub parts_from : List ℕ → Tree → Passage → ShapeParts
+parts_from schema resource passage = record {
   schema = schema;
-  context = setting.context;
-  scheme = setting.scheme;
-  identifier = setting.identifier;
-  year = setting.year;
-  month = setting.month;
-  day = setting.day;
+  resource = resource;
   before = passage.before;
   name = passage.said.name;
+  named = passage.said.context;
   value = passage.said.value;
   behind = passage.behind;
 }
 
-unfoldable pub is_setting : Setting → Bool
-is_setting s = is_name s.context && is_address_under (codes "http://") s.scheme && is_identifier s.identifier
+-- the tests of the parts
+unfoldable pub are_parts : List ℕ → Said → Bool
+are_parts schema said = is_address_under (codes "http://example.com/") schema && is_name said.name
 
-unfoldable pub are_parts : List ℕ → Setting → Said → Bool
-are_parts schema setting said =
-    is_address_under (codes "http://example.com/") schema && is_setting setting && is_name said.name && bytes_eq said.context setting.context
-
--- the parts of a tree in the first shape, where its day turns out to be real
+-- the parts of a tree that has the markup of the first shape
 unfoldable pub shape_of : Tree → Option ShapeParts
 shape_of root = do
   inner ← inside root space.xhtml (codes "html")
@@ -197,4 +143,4 @@ shape_of root = do
   both ← two_trees within
   header ← header_in both.0
   passage ← passage_in both.1
-  if are_parts header.0 header.1 passage.said then Some (parts_from header.0 header.1 passage) else None
+  if are_parts header.0 passage.said then Some (parts_from header.0 header.1 passage) else None

@@ -1,9 +1,10 @@
 -- A small tree in the first shape, and what of it may be chosen.
-use Rattle.std.specs.Prelude.{ℕ, List, [], ◌∷◌, codes}
+use Rattle.std.specs.Prelude.{ℕ, List, [], ◌∷◌, Some, None, codes}
 use Rattle.ix_base.specs.Trees.{Valued, Head, Nodes, none, chars, elem, Tree}
 use Rattle.ix_base.specs.declared.content.Content.{Content}
-use Rattle.ixds_run.specs.OneFact.{one_fact}
-use Rattle.ixds_run.specs.FirstShape.{attribute, space}
+use Rattle.ix_base.specs.declared.content.Context.{Context}
+use Rattle.ix_base.specs.declared.content.Period.TheVariants as period
+use Rattle.ixds_run.specs.FirstShape.{ShapeParts, attribute, shape_content, space}
 
 abbrev pub head_with : (ns local : List ℕ) → List Valued → Head
 head_with ns local attrs = record { offset = 0; name = record { ns = ns; local = local }; attrs = attrs; scope = [] }
@@ -15,20 +16,22 @@ row_references =
     let address = attribute space.xlink (codes "href") (codes "http://example.com/s.xsd") in
     elem (head_with space.link (codes "schemaRef") (kind ∷ address ∷ [])) none none
 
--- its resources, with this scheme
-abbrev pub row_resources : List ℕ → Nodes
-row_resources scheme =
-    let identifier = head_with space.xbrli (codes "identifier") (attribute [] (codes "scheme") scheme ∷ []) in
-    let period = elem (head_with space.xbrli (codes "instant") []) (chars (codes "2023-12-31") none) none in
+-- the element of its context
+abbrev pub row_context : Nodes
+row_context =
+    let identifier = head_with space.xbrli (codes "identifier") (attribute [] (codes "scheme") (codes "http://s") ∷ []) in
+    let period = elem (head_with space.xbrli (codes "forever") []) none none in
     let entity = elem identifier (chars (codes "42") none) none in
-    let both = elem (head_with space.xbrli (codes "entity") []) entity (elem (head_with space.xbrli (codes "period") []) period none) in
-    elem (head_with space.xbrli (codes "context") (attribute [] (codes "id") (codes "c") ∷ [])) both none
+    elem (head_with space.xbrli (codes "entity") []) entity (elem (head_with space.xbrli (codes "period") []) period none)
 
--- its paragraph, with this namespace for the prefix `e`
-abbrev pub row_paragraph : List ℕ → Nodes
-row_paragraph e =
+abbrev pub row_resource : Tree
+row_resource = record { head = head_with space.xbrli (codes "context") (attribute [] (codes "id") (codes "c") ∷ []); children = row_context }
+
+-- its paragraph, with this id of the fact's context, and this namespace for the prefix `e`
+abbrev pub row_paragraph : List ℕ → List ℕ → Nodes
+row_paragraph named e =
     let name = attribute [] (codes "name") (codes "e:Name") in
-    let context = attribute [] (codes "contextRef") (codes "c") in
+    let context = attribute [] (codes "contextRef") named in
     let head : Head = record {
       offset = 0;
       name = record { ns = space.ix; local = codes "nonNumeric" };
@@ -37,14 +40,36 @@ row_paragraph e =
     } in
     chars (codes "Name: ") (elem head (chars (codes "A & B") none) none)
 
--- the tree with this scheme, these attributes of its paragraph, and this namespace for the prefix `e`
-abbrev pub row : (scheme : List ℕ) → List Valued → (e : List ℕ) → Tree
-row scheme attrs e =
-    let header = elem (head_with space.ix (codes "references") []) row_references (elem (head_with space.ix (codes "resources") []) (row_resources scheme) none) in
-    let body = elem (head_with space.ix (codes "header") []) header (elem (head_with space.xhtml (codes "p") attrs) (row_paragraph e) none) in
+-- the tree with this id of the fact's context, these attributes of its paragraph, and this namespace for the prefix `e`
+abbrev pub row : (named : List ℕ) → List Valued → (e : List ℕ) → Tree
+row named attrs e =
+    let resources = elem row_resource.head row_resource.children none in
+    let header = elem (head_with space.ix (codes "references") []) row_references (elem (head_with space.ix (codes "resources") []) resources none) in
+    let body = elem (head_with space.ix (codes "header") []) header (elem (head_with space.xhtml (codes "p") attrs) (row_paragraph named e) none) in
     record { head = head_with space.xhtml (codes "html") []; children = elem (head_with space.xhtml (codes "body") []) body none }
 
+-- its parts
+abbrev pub row_parts : List ℕ → ShapeParts
+row_parts named = record {
+  schema = codes "http://example.com/s.xsd";
+  resource = row_resource;
+  before = Some (codes "Name: ");
+  name = codes "Name";
+  named = named;
+  value = Some (codes "A & B");
+  behind = None;
+}
+
+-- the normal form of its context
+abbrev pub row_form : Context
+row_form = record {
+  id = codes "c";
+  scheme = codes "http://s";
+  identifier = codes "42";
+  segment = [];
+  scenario = [];
+  period = period.Forever;
+}
+
 abbrev pub row_content : Content
-row_content =
-    one_fact (codes "http://example.com/s.xsd") (codes "c") (codes "http://s") (codes "42") 2023 12 31 (codes "http://example.com/e") (codes "Name")
-    (codes "A & B")
+row_content = shape_content (row_parts (codes "c")) row_form

@@ -1,21 +1,11 @@
 -- The parts of a page's tree, without where they lie.
 use Rattle.std.specs.Prelude.{option_map}
+use Rattle.ix_base.specs.Trees.{tree_of}
 use Rattle.ixds_run.specs.FirstShape.{ShapeParts}
-use Rattle.ixds_run.specs.ShapeReading.{Setting, Said, Passage}
+use Rattle.ixds_run.specs.ShapeReading.{Said, Passage}
 use Rattle.ixds_run.specs.declared.shape.ShapeParts.{ShapeParts as PartSlices}
-use Rattle.ixds_run.specs.declared.shape.Setting.{Setting as SettingSlices}
 use Rattle.ixds_run.specs.declared.shape.Said.{Said as SaidSlices}
 use Rattle.ixds_run.specs.declared.shape.Passage.{Passage as PassageSlices}
-
-abbrev pub setting_seen : SettingSlices → Setting
-setting_seen s = record {
-  context = s.context.now;
-  scheme = s.scheme.now;
-  identifier = s.identifier.now;
-  year = s.year.now;
-  month = s.month.now;
-  day = s.day.now;
-}
 
 abbrev pub said_seen : SaidSlices → Said
 said_seen s = record { name = s.name.now; context = s.context.now; value = option_map (λ t. t.now) s.value }
@@ -30,14 +20,10 @@ passage_seen p = record {
 abbrev pub parts_seen : PartSlices → ShapeParts
 parts_seen p = record {
   schema = p.schema.now;
-  context = p.setting.context.now;
-  scheme = p.setting.scheme.now;
-  identifier = p.setting.identifier.now;
-  year = p.setting.year.now;
-  month = p.setting.month.now;
-  day = p.setting.day.now;
+  resource = tree_of p.context.now;
   before = option_map (λ t. t.now) p.passage.before;
   name = p.passage.said.name.now;
+  named = p.passage.said.context.now;
   value = option_map (λ t. t.now) p.passage.said.value;
   behind = option_map (λ t. t.now) p.passage.behind;
 }

@@ -1,8 +1,8 @@
 //! Writing what is due.
 ghost use Rattle.std.specs.Prelude.{◌≡◌, ◌⊎◌, ◌+◌, ◌^◌, ◌<◌, ◌∷◌, [], List, ℕ, map, Option, None, Some, option_map, OnOk, OnErr, IfSome};
 ghost use Rattle.ix_base.specs.Outside.{TextGainsFront};
-ghost use Rattle.ixds_run.specs.Gains.{AsksFor, GainsAll, GainsPart, GainsText};
-ghost use Rattle.ixds_run.specs.Outcomes.{outcome_of, ready, ready_under, status_of};
+ghost use Rattle.ixds_run.specs.Gains.{GainsAll, GainsCut, GainsPart, GainsText};
+ghost use Rattle.ixds_run.specs.Outcomes.{ready, status_of, targets_due};
 ghost use Rattle.ixds_run.specs.declared.status.Status.TheVariants as status;
 
 use crate::Status;
@@ -14,7 +14,7 @@ use ix_base::{Failed, TargetSink, TextSink};
 fn put_target<S: TargetSink>(target: &DueTarget, dir: &str, sink: &mut S) -> Result<(), Failed>
     requires { S.faults sink.old + 1 < 2 ^ 64 }
     ensures ok { OnOk result (GainsAll (ready dir.now target.now ∷ []) (S.targets sink.old) (S.targets sink.new)) }
-    ensures err { OnErr result (GainsPart (ready dir.now target.now ∷ []) (S.targets sink.old) (S.targets sink.new)) }
+    ensures err { OnErr result (GainsCut (ready dir.now target.now) (S.targets sink.old) (S.targets sink.new)) }
     ensures faults { OnOk result (S.faults sink.new ≡ S.faults sink.old) }
     ensures failed { OnErr result (S.faults sink.old < S.faults sink.new) }
     ensures words { IfSome (S.asked sink.new) (λ w. w ≡ (dir.now, target.now.name)) }
@@ -28,11 +28,10 @@ fn put_target<S: TargetSink>(target: &DueTarget, dir: &str, sink: &mut S) -> Res
 fn put_targets<S: TargetSink>(targets: &[DueTarget], dir: &str, sink: &mut S) -> Result<(), Failed>
     requires { S.faults sink.old + 1 < 2 ^ 64 }
     ensures ok { OnOk result (GainsAll (map (ready dir.now) targets.now) (S.targets sink.old) (S.targets sink.new)) }
-    ensures err { OnErr result (GainsPart (map (ready dir.now) targets.now) (S.targets sink.old) (S.targets sink.new)) }
+    ensures err { OnErr result (GainsPart (map (ready dir.now) targets.now) (S.targets sink.old) (S.targets sink.new) (S.asked sink.new)) }
     ensures faults { OnOk result (S.faults sink.new ≡ S.faults sink.old) }
     ensures failed { OnErr result (S.faults sink.old < S.faults sink.new) }
     ensures none { targets.now ≡ [] → sink.new ≡ sink.old }
-    ensures asked { OnErr result (IfSome (S.asked sink.new) (AsksFor (map (ready dir.now) targets.now))) }
 {
     for target in targets {
         put_target(target, dir, sink)?;
@@ -43,13 +42,14 @@ fn put_targets<S: TargetSink>(targets: &[DueTarget], dir: &str, sink: &mut S) ->
 /// Writes the targets that are due, where there is a directory word.
 fn put_due<S: TargetSink>(due: &Due, dir: Option<&str>, sink: &mut S) -> Result<(), Failed>
     requires { S.faults sink.old + 1 < 2 ^ 64 }
-    ensures ok { OnOk result (GainsAll (ready_under (option_map (λ s. s.now) dir.entry) due.now.targets.items) (S.targets sink.old) (S.targets sink.new)) }
-    ensures err { OnErr result (GainsPart (ready_under (option_map (λ s. s.now) dir.entry) due.now.targets.items) (S.targets sink.old) (S.targets sink.new)) }
+    ensures ok { OnOk result (GainsAll (targets_due (option_map (λ s. s.now) dir.entry) due.now)
+        (S.targets sink.old) (S.targets sink.new)) }
+    ensures err { OnErr result (GainsPart (targets_due (option_map (λ s. s.now) dir.entry) due.now)
+        (S.targets sink.old) (S.targets sink.new) (S.asked sink.new)) }
     ensures faults { OnOk result (S.faults sink.new ≡ S.faults sink.old) }
     ensures failed { OnErr result (S.faults sink.old < S.faults sink.new) }
     ensures no_dir { dir.entry ≡ None → sink.new ≡ sink.old }
     ensures none { due.now.targets.items ≡ [] → sink.new ≡ sink.old }
-    ensures asked { OnErr result (IfSome (S.asked sink.new) (AsksFor (ready_under (option_map (λ s. s.now) dir.entry) due.now.targets.items))) }
 {
     match dir {
         Some(dir) => put_targets(due.targets.as_slice(), dir, sink),
@@ -68,7 +68,7 @@ pub fn deliver<S: TargetSink, T: TextSink>(
     requires out { T.faults out.old + 1 < 2 ^ 64 }
     ensures either { (result ≡ status_of due.now.is_broken) ⊎ (result ≡ Status.WriteFault) }
     ensures targets { result ≡ status_of due.now.is_broken
-        → GainsAll (ready_under (option_map (λ s. s.now) dir.entry) due.now.targets.items) (S.targets sink.old) (S.targets sink.new) }
+        → GainsAll (targets_due (option_map (λ s. s.now) dir.entry) due.now) (S.targets sink.old) (S.targets sink.new) }
     ensures text { result ≡ status_of due.now.is_broken → GainsText due.now.text.items (T.taken out.old) (T.taken out.new) }
     ensures quiet { result ≡ status_of due.now.is_broken
         → (S.faults sink.new ≡ S.faults sink.old) × (T.faults out.new ≡ T.faults out.old) }
@@ -76,10 +76,9 @@ pub fn deliver<S: TargetSink, T: TextSink>(
         → (S.faults sink.old < S.faults sink.new) ⊎ (T.faults out.old < T.faults out.new) }
     ensures part { result ≡ Status.WriteFault → S.faults sink.old < S.faults sink.new
         → (out.new ≡ out.old)
-        × GainsPart (ready_under (option_map (λ s. s.now) dir.entry) due.now.targets.items) (S.targets sink.old) (S.targets sink.new)
-        × IfSome (S.asked sink.new) (AsksFor (ready_under (option_map (λ s. s.now) dir.entry) due.now.targets.items)) }
+        × GainsPart (targets_due (option_map (λ s. s.now) dir.entry) due.now) (S.targets sink.old) (S.targets sink.new) (S.asked sink.new) }
     ensures all { result ≡ Status.WriteFault → S.faults sink.new ≡ S.faults sink.old
-        → GainsAll (ready_under (option_map (λ s. s.now) dir.entry) due.now.targets.items) (S.targets sink.old) (S.targets sink.new)
+        → GainsAll (targets_due (option_map (λ s. s.now) dir.entry) due.now) (S.targets sink.old) (S.targets sink.new)
         × TextGainsFront due.now.text.items (T.taken out.old) (T.taken out.new) }
     ensures no_dir { dir.entry ≡ None → sink.new ≡ sink.old }
     ensures none { due.now.targets.items ≡ [] → sink.new ≡ sink.old }

@@ -1,7 +1,7 @@
 //! A command, from its pages to its answer.
 ghost use Rattle.std.specs.Prelude.{◌≡◌, ◌⊎◌, ◌+◌, ◌^◌, ◌<◌, ◌≤◌, [], true, ℕ, List, IfOk, IfSome, None, Some};
 ghost use Rattle.ix_base.specs.Outside.{TextGainsFront};
-ghost use Rattle.ixds_run.specs.Answers.{Answers};
+ghost use Rattle.ixds_run.specs.Answers.{Answers, outside};
 ghost use Rattle.ixds_run.specs.Commands.{IsGiven, base_of, dir_of, pages_of};
 ghost use Rattle.ixds_run.specs.Gains.{GainsText};
 ghost use Rattle.ixds_run.specs.Outcomes.{Gives, GivesFront, GivesPart, IsOutcome, SaysNothing, outcome_of};
@@ -21,9 +21,11 @@ use std::alloc::Global;
 fn due_from(alloc: Global, command: &Command, forest: Forest) -> Result<Due, NoMemory>
     requires given { IsGiven command.now }
     requires sound { IsSound (pages_of command.now) forest }
-    ensures due { IfOk result (λ due. (bs : List (List ℕ)) → IsRead bs forest.entry → IsOutcome command.now bs (outcome_of (dir_of command.now) due)) }
+    ensures due { IfOk result (λ due. (bs : List (List ℕ)) → IsRead bs forest.entry
+        → IsOutcome command.now bs (outcome_of (dir_of command.now) due)) }
     ensures none { IfOk result (λ due. due.is_broken ≡ true → due.targets.items ≡ []) }
-    ensures nothing { IfOk result (λ due. (bs : List (List ℕ)) → IsRead bs forest.entry → SaysNothing command.now bs → due.targets.items ≡ []) }
+    ensures nothing { IfOk result (λ due. (bs : List (List ℕ)) → IsRead bs forest.entry → SaysNothing command.now bs
+        → due.targets.items ≡ []) }
 {
     let verdict = judge(alloc, command.base(), command.pages(), forest)?;
     ready(alloc, &verdict)
@@ -53,8 +55,6 @@ pub fn answer<S: TargetSink, T: TextSink>(
     ensures untouched { result ≡ Status.Broken → sink.new ≡ sink.old }
     ensures check { dir_of command.now ≡ None → sink.new ≡ sink.old }
     ensures nothing { (bs : List (List ℕ)) → IsRead bs forest.entry → SaysNothing command.now bs → sink.new ≡ sink.old }
-    ensures directory { result ≡ Status.WriteFault → S.faults sink.old < S.faults sink.new
-        → IfSome (S.asked sink.new) (λ words. dir_of command.now ≡ Some words.0) }
     ensures cause { result ≡ Status.WriteFault
         → (S.faults sink.old < S.faults sink.new) ⊎ (T.faults out.old < T.faults out.new) }
     ensures part { result ≡ Status.WriteFault → S.faults sink.old < S.faults sink.new
@@ -83,28 +83,8 @@ pub fn extract<P: PageSource, S: TargetSink, T: TextSink>(
     requires sink { S.faults sink.old + 1 < 2 ^ 64 }
     requires out { T.faults out.old + 1 < 2 ^ 64 }
     ensures { Answers (Some command.now)
-        (record {
-          page = P.page pages.old;
-          left = P.left pages.old;
-          page_asked = P.asked pages.old;
-          page_faults = P.faults pages.old;
-          targets = S.targets sink.old;
-          target_asked = S.asked sink.old;
-          target_faults = S.faults sink.old;
-          taken = T.taken out.old;
-          text_faults = T.faults out.old;
-        })
-        (record {
-          page = P.page pages.new;
-          left = P.left pages.new;
-          page_asked = P.asked pages.new;
-          page_faults = P.faults pages.new;
-          targets = S.targets sink.new;
-          target_asked = S.asked sink.new;
-          target_faults = S.faults sink.new;
-          taken = T.taken out.new;
-          text_faults = T.faults out.new;
-        })
+        (outside P.PageSource S.TargetSink T.TextSink pages.old sink.old out.old)
+        (outside P.PageSource S.TargetSink T.TextSink pages.new sink.new out.new)
         (pages.new ≡ pages.old) (sink.new ≡ sink.old) (out.new ≡ out.old) result }
 {
     let arena = Bump::new(alloc);

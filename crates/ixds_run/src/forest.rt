@@ -1,6 +1,8 @@
 //! Reading the pages of a command.
-ghost use Rattle.std.specs.Prelude.{◌≡◌, ◌+◌, ◌^◌, ◌<◌, ◌≤◌, ◌⊎◌, [], ℕ, List, All, length, vec_len, None};
-ghost use Rattle.std.specs.Prelude.{IfOk, IfErr, IfSome, IsErrOf, OnOk, OnErr};
+ghost use Rattle.std.specs.Prelude.{◌≡◌, ◌+◌, ◌^◌, ◌<◌, ◌≤◌, ◌⊎◌, ◌++◌, ◌∷◌, [], ℕ, List, All, length, vec_len, None};
+ghost use Rattle.std.specs.Prelude.{IfOk, IfErr, IfSome, IsErrOf, OnOk, OnErr, option_map};
+ghost use Rattle.ixds_run.specs.Gains.{GainsStarts};
+ghost use Rattle.ixds_run.specs.Outcomes.{AreSome};
 ghost use Rattle.page_tree.specs.Standing.{StandsFor, limit, page_number};
 ghost use Rattle.ixds_run.specs.Reading.{HasGained, IsAmong, IsRead, IsSound, ReadsOn, StopsAt, StopsInTime, WhyStopped};
 ghost use Rattle.ixds_run.specs.Told.{told};
@@ -97,6 +99,7 @@ fn read_on<'a, P: PageSource>(
     ensures most { OnOk result (forest.new.sums.bytes ≤ 268435456 + 65536) }
     ensures tags { OnOk result (forest.new.sums.tags ≤ forest.new.sums.bytes) }
     ensures named { IfSome (P.asked pages.new) (λ n. n ≡ name.now) }
+    ensures starts { P.starts pages.new ≡ option_map (λ names. names ++ name.now ∷ []) (P.starts pages.old) }
     ensures pages { P.page pages.new ≡ P.page pages.old }
     ensures ok { OnOk result (P.faults pages.new ≡ P.faults pages.old) }
     ensures failed { IsErrOf result ReadFailed → P.faults pages.old < P.faults pages.new }
@@ -128,13 +131,15 @@ pub fn read_all<'a, P: PageSource>(
     requires some { 0 < length names.now }
     requires few { length names.now ≤ 64 }
     requires short { All (λ n. length n ≤ 4096) names.now }
-    ensures reads { IfOk result (λ f. IfSome (told (P.page pages.old) names.now) (λ bs. IsRead bs f)) }
+    ensures reads { IfOk result (λ f. AreSome (told (P.page pages.old) names.now) (λ bs. IsRead bs f)) }
     ensures sound { IfOk result (IsSound names.now) }
     ensures stops { OnOk result (StopsInTime (P.page pages.old) names.now (P.left pages.new) (P.asked pages.new)) }
     ensures ok { OnOk result (P.faults pages.new ≡ P.faults pages.old) }
     ensures pages { P.page pages.new ≡ P.page pages.old }
     ensures asked { (pages.new ≡ pages.old) ⊎ ((name : List ℕ) × IsAmong (P.page pages.old) names.now (P.asked pages.new) name) }
-    ensures stopped { IfErr result (λ why. WhyStopped (P.page pages.old) names.now (P.asked pages.new) (P.faults pages.old) (P.faults pages.new) why) }
+    ensures starts { GainsStarts names.now (P.starts pages.old) (P.starts pages.new) }
+    ensures stopped { IfErr result (λ why. WhyStopped (P.page pages.old) names.now (P.asked pages.new) (P.faults pages.old)
+        (P.faults pages.new) why) }
 {
     let Ok(mut buffer) = zeros(alloc, BUFFER) else {
         return Err(Stopped::NoMemory);
@@ -181,6 +186,9 @@ fn read_next<'a, P: PageSource>(
     ensures tags { OnOk result (forest.new.sums.tags ≤ forest.new.sums.bytes) }
     ensures named { OnOk result (IfSome (P.asked pages.new) (λ n. n ≡ name.now)) }
     ensures asked { (pages.new ≡ pages.old) ⊎ IfSome (P.asked pages.new) (λ n. n ≡ name.now) }
+    ensures started { OnOk result (P.starts pages.new ≡ option_map (λ names. names ++ name.now ∷ []) (P.starts pages.old)) }
+    ensures starts { (P.starts pages.new ≡ P.starts pages.old)
+        ⊎ (P.starts pages.new ≡ option_map (λ names. names ++ name.now ∷ []) (P.starts pages.old)) }
     ensures pages { P.page pages.new ≡ P.page pages.old }
     ensures ok { OnOk result (P.faults pages.new ≡ P.faults pages.old) }
     ensures stopped { IfErr result (λ why. StopsAt name.now (P.asked pages.new) (P.faults pages.old) (P.faults pages.new) why) }

@@ -2,11 +2,10 @@
 #![tactic(auto)]
 
 ghost use Rattle.std.specs.Prelude.{◌≡◌, ◌+◌, ◌^◌, ◌<◌};
-ghost use Rattle.ixds_run.specs.Answers.{Answers};
+ghost use Rattle.ixds_run.specs.Answers.{Answers, outside};
 ghost use Rattle.ixds_run.specs.Commands.{command_of};
 
 mod command;
-mod dates;
 mod deliver;
 mod due;
 mod extract;
@@ -45,28 +44,8 @@ pub fn run<P: PageSource, S: TargetSink, T: TextSink>(
     requires sink { S.faults sink.old + 1 < 2 ^ 64 }
     requires out { T.faults out.old + 1 < 2 ^ 64 }
     ensures { Answers (command_of words.now)
-        (record {
-          page = P.page pages.old;
-          left = P.left pages.old;
-          page_asked = P.asked pages.old;
-          page_faults = P.faults pages.old;
-          targets = S.targets sink.old;
-          target_asked = S.asked sink.old;
-          target_faults = S.faults sink.old;
-          taken = T.taken out.old;
-          text_faults = T.faults out.old;
-        })
-        (record {
-          page = P.page pages.new;
-          left = P.left pages.new;
-          page_asked = P.asked pages.new;
-          page_faults = P.faults pages.new;
-          targets = S.targets sink.new;
-          target_asked = S.asked sink.new;
-          target_faults = S.faults sink.new;
-          taken = T.taken out.new;
-          text_faults = T.faults out.new;
-        })
+        (outside P.PageSource S.TargetSink T.TextSink pages.old sink.old out.old)
+        (outside P.PageSource S.TargetSink T.TextSink pages.new sink.new out.new)
         (pages.new ≡ pages.old) (sink.new ≡ sink.old) (out.new ≡ out.old) result }
 {
     match command::command_of(alloc, words) {

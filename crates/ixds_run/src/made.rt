@@ -2,7 +2,7 @@
 ghost use Rattle.std.specs.Prelude.{◌≡◌, ◌≢◌, ◌∷◌, ◌+◌, ◌<◌, ◌≤◌, ℕ, [], All, length, map, IfOk};
 ghost use Rattle.ix_base.specs.Trees.{tree_of};
 ghost use Rattle.instance_out.specs.Writable.{IsWritable};
-ghost use Rattle.ixds_run.specs.Made.{AreNumbered, CanBeWritten, IsDefault, IsReport, IsServedAlone, Made, Serves, element_faults};
+ghost use Rattle.ixds_run.specs.Made.{AreNumbered, CanBeWritten, IsDefault, IsReport, Made, Serves, element_faults};
 ghost use Rattle.ixds_run.specs.Made as spec;
 
 use crate::shape::first_shape;
@@ -79,25 +79,32 @@ fn whole(alloc: Global, content: Content) -> Result<Verdict, NoMemory>
     Ok(Verdict::Whole(targets))
 }
 
+/// The report of one page, whose content isn't built yet.
+fn not_served_alone(alloc: Global, names: &[Text], root: &Element) -> Result<Verdict, NoMemory>
+    requires some { 0 < length names.now }
+    ensures report { IfOk result (IsReport names.now (spec.unbuilt 0 (tree_of root.now ∷ []))) }
+    ensures written { IfOk result CanBeWritten }
+{
+    let mut found = Breaches::new(alloc);
+    found.add(
+        Place {
+            page: 0,
+            offset: root.place.offset,
+        },
+        Rule::U2,
+    )?;
+    reported(found, names)
+}
+
 /// What the tree of one page says that breaks no rule of elements.
 fn served_alone(alloc: Global, names: &[Text], root: &Element) -> Result<Verdict, NoMemory>
     requires some { 0 < length names.now }
-    ensures served { IfOk result (IsServedAlone names.now (tree_of root.now)) }
+    ensures served { IfOk result (Serves names.now (tree_of root.now ∷ [])) }
     ensures written { IfOk result CanBeWritten }
 {
     match first_shape(alloc, root)? {
         Some(content) => whole(alloc, content),
-        None => {
-            let mut found = Breaches::new(alloc);
-            found.add(
-                Place {
-                    page: 0,
-                    offset: root.place.offset,
-                },
-                Rule::U2,
-            )?;
-            reported(found, names)
-        }
+        None => not_served_alone(alloc, names, root),
     }
 }
 

@@ -64,13 +64,6 @@ pub fn text_if<'a>(nodes: &'a [Node<'a>]) -> Option<Option<&'a str>>
     if is_end(rest) { Some(text) } else { None }
 }
 
-/// The only one of some nodes, where it is a text.
-pub fn only_text<'a>(nodes: &'a [Node<'a>]) -> Option<&'a str>
-    ensures { option_map (λ t. t.now) result ≡ reading.only_text (nodes_of nodes.now) }
-{
-    text_if(nodes)?
-}
-
 /// Whether a name is this one.
 pub fn is_of(name: &Name, ns: &str, local: &str) -> bool
     ensures { result ≡ reading.is_of (named name.now) ns.now local.now }
@@ -86,16 +79,6 @@ pub fn inside<'a>(element: &Element<'a>, ns: &str, local: &str) -> Option<&'a [N
         Some(element.children)
     } else {
         None
-    }
-}
-
-/// The value of the only attribute, where it is of this name, in no namespace.
-pub fn one_value<'a>(attrs: &[Attr<'a>], local: &str) -> Option<&'a str>
-    ensures { option_map (λ v. v.now) result ≡ reading.one_value (map valued attrs.now) local.now }
-{
-    match attrs {
-        [attr] if is_of(&attr.name, "", local) => Some(attr.value),
-        _ => None,
     }
 }
 

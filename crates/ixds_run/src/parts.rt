@@ -1,5 +1,5 @@
 //! The parts of a page in the first shape.
-ghost use Rattle.std.specs.Prelude.{◌≡◌, ◌≤◌, ◌∷◌, [], length, option_map, IfOk, IfSome};
+ghost use Rattle.std.specs.Prelude.{◌≡◌, ◌∷◌, [], option_map, IfOk};
 ghost use Rattle.std.specs.List.{list_all};
 ghost use Rattle.ixds_run.specs.PartForms as form;
 ghost use Rattle.ixds_run.specs.PartReading as reading;
@@ -72,19 +72,6 @@ pub fn is_name(bytes: &[u8]) -> bool
         [head, tail @ ..] => is_letter(*head) && all_name_bytes(tail),
         [] => false,
     }
-}
-
-fn all_letters_or_digits(bytes: &[u8]) -> bool
-    ensures { result ≡ list_all form.is_letter_or_digit bytes.now }
-{
-    bytes.iter().all(|b| is_letter_or_digit(*b))
-}
-
-/// Whether the bytes are one or more letters and digits.
-pub fn is_identifier(bytes: &[u8]) -> bool
-    ensures { result ≡ reading.is_identifier bytes.now }
-{
-    !bytes.is_empty() && all_letters_or_digits(bytes)
 }
 
 /// A list of one item.

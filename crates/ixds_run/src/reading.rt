@@ -1,6 +1,6 @@
 //! Reading a page into a builder of its tree.
-ghost use Rattle.std.specs.Prelude.{◌≡◌, ◌+◌, ◌^◌, ◌<◌, ◌≤◌, [], ℕ, List, Option, length, vec_len, true, false};
-ghost use Rattle.std.specs.Prelude.{IsTrue, IsErrOf, IfOk, IfSome, OnOk};
+ghost use Rattle.std.specs.Prelude.{◌≡◌, ◌+◌, ◌^◌, ◌<◌, ◌≤◌, ◌++◌, ◌∷◌, [], ℕ, List, Option, length, vec_len, true, false};
+ghost use Rattle.std.specs.Prelude.{IsTrue, IsErrOf, IfOk, IfSome, OnOk, option_map};
 ghost use Rattle.page_tree.specs.Standing.{StandsFor, fed_bytes, limit, page_number};
 ghost use Rattle.ixds_run.specs.Sizes.{tags_in};
 ghost use Rattle.ixds_run.specs.Reading.{HasFed, IsWhole};
@@ -62,6 +62,7 @@ fn read_piece<P: PageSource>(
     ensures page { OnOk result (page_number builder.new ≡ page_number builder.old) }
     ensures started { OnOk result (P.started pages.new ≡ P.started pages.old) }
     ensures asked { P.asked pages.new ≡ P.asked pages.old }
+    ensures starts { P.starts pages.new ≡ P.starts pages.old }
     ensures pages { P.page pages.new ≡ P.page pages.old }
     ensures ok { OnOk result (P.faults pages.new ≡ P.faults pages.old) }
     ensures failed { IsErrOf result ReadFailed → P.faults pages.old < P.faults pages.new }
@@ -102,6 +103,7 @@ pub fn read_page<P: PageSource>(
     ensures limit { OnOk result (limit builder.new ≡ limit builder.old) }
     ensures page { OnOk result (page_number builder.new ≡ page_number builder.old) }
     ensures named { IfSome (P.asked pages.new) (λ n. n ≡ name.now) }
+    ensures starts { P.starts pages.new ≡ option_map (λ names. names ++ name.now ∷ []) (P.starts pages.old) }
     ensures pages { P.page pages.new ≡ P.page pages.old }
     ensures ok { OnOk result (P.faults pages.new ≡ P.faults pages.old) }
     ensures failed { IsErrOf result ReadFailed → P.faults pages.old < P.faults pages.new }

@@ -20,8 +20,11 @@ const TEXTS: [&[u8]; 21] = [
     b"<ix:header>x</ix:header>",
     b"<ix:fraction name=\"A\" contextRef=\"c\" unitRef=\"u\"/>",
     b"<ix:nonFraction name=\"A\" contextRef=\"c\" unitRef=\"u\" decimals=\"0\"><b/></ix:nonFraction>",
-    b"<ix:nonFraction name=\"A\" contextRef=\"c\" unitRef=\"u\" decimals=\"0\"><ix:nonFraction name=\"B\" contextRef=\"c\" unitRef=\"u\" decimals=\"0\" scale=\"3\">1</ix:nonFraction></ix:nonFraction>",
-    b"<ix:fraction name=\"A\" contextRef=\"c\" unitRef=\"u\"><ix:numerator><b/></ix:numerator><ix:denominator>1</ix:denominator></ix:fraction>",
+    b"<ix:nonFraction name=\"A\" contextRef=\"c\" unitRef=\"u\" decimals=\"0\">\
+    <ix:nonFraction name=\"B\" contextRef=\"c\" unitRef=\"u\" decimals=\"0\" scale=\"3\">1</ix:nonFraction>\
+    </ix:nonFraction>",
+    b"<ix:fraction name=\"A\" contextRef=\"c\" unitRef=\"u\"><ix:numerator><b/></ix:numerator><ix:denominator>1\
+    </ix:denominator></ix:fraction>",
     b"<ix:footnote id=\"n\"/>",
     b"<ix:header><ix:references><link:schemaRef xmlns:link=\"http://www.xbrl.org/2003/linkbase\"/></ix:references></ix:header>",
     b"<ix:header><ix:resources><c:context xmlns:c=\"http://www.xbrl.org/2003/instance\" id=\"c\"/></ix:resources></ix:header>",

@@ -1,4 +1,3 @@
-use Rattle.std.proofs.Common.{length}
 use Rattle.continuations.specs.Berths.{Met}
 use Rattle.continuations.proofs.berths.walk_all.Given as goal
 

@@ -1,6 +1,5 @@
-use Rattle.std.proofs.Common.{◌≡◌, ◌∙◌, ◌<◌, ◌≤◌, ◌+◌, ap, sym, subst, arith, length, refl, false, Some}
+use Rattle.std.proofs.Common.{◌≡◌, ◌∙◌, ◌<◌, ◌≤◌, ap, sym, subst, arith, length, refl, false}
 use Rattle.std.specs.Prelude.{is_some}
-use Rattle.continuations.specs.declared.berths.Berth.{Berth}
 use Rattle.continuations.specs.Berths.{berth_at}
 use Rattle.continuations.proofs.Berthing.{walking-begins, walking-on, unmet, unmet-small, unmet-less, some-is}
 use Rattle.continuations.proofs.Walking.{some-inj}

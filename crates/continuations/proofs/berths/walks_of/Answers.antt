@@ -1,4 +1,4 @@
-use Rattle.std.proofs.Common.{◌≡◌, ◌∙◌, ap, length, List, Option}
+use Rattle.std.proofs.Common.{◌∙◌, ap, length, List, Option}
 use Rattle.continuations.specs.declared.berths.Berth.{Berth}
 use Rattle.continuations.specs.Berths.{berth_at}
 use Rattle.continuations.proofs.Berthing.{met-none, met-same}

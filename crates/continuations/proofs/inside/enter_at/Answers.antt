@@ -1,4 +1,4 @@
-use Rattle.std.proofs.Common.{◌≡◌, ◌∙◌, ◌++◌, ap, refl, List, ℕ, [], ◌∷◌}
+use Rattle.std.proofs.Common.{◌∙◌, ◌++◌, ap, refl, List, ℕ, [], ◌∷◌}
 use Rattle.std.specs.Prelude.{◌&&◌, ◌==◌}
 use Rattle.continuations.specs.Inside.{numbers_at}
 use Rattle.continuations.proofs.Inner.{entered-at}

@@ -1,4 +1,4 @@
-use Rattle.std.proofs.Common.{◌≡◌, ◌∙◌, ap, [], ℕ, false}
+use Rattle.std.proofs.Common.{ap, [], ℕ}
 use Rattle.std.specs.Prelude.{Vec, Option}
 use Rattle.std.specs.Global.{Global}
 use Rattle.std.specs.Option.{option_map_or}

@@ -1,4 +1,4 @@
-use Rattle.std.proofs.Common.{◌≡◌, ◌∙◌, ◌<◌, ap, sym, subst, arith, length, true}
+use Rattle.std.proofs.Common.{◌≡◌, ◌∙◌, ◌<◌, sym, subst, arith, length, true}
 use Rattle.continuations.specs.Walks.{is_marked}
 use Rattle.continuations.proofs.Marking.{going-begins, going-on, going-ends}
 use Rattle.continuations.proofs.Walking.{some-inj}

@@ -1,4 +1,4 @@
-use Rattle.std.proofs.Common.{◌≡◌, ◌∙◌, sym, subst, arith, length}
+use Rattle.std.proofs.Common.{◌∙◌, sym, subst, length}
 use Rattle.continuations.specs.Walks.{AreReached}
 use Rattle.continuations.proofs.Marking.{written-back}
 use Rattle.continuations.proofs.marks.reached_from.Goals as goal

@@ -1,4 +1,4 @@
-use Rattle.std.proofs.Common.{◌≡◌, refl}
+use Rattle.std.proofs.Common.{refl}
 use Rattle.ix_base.specs.Located.{located}
 use Rattle.continuations.proofs.Numbering.{located-at}
 use Rattle.continuations.proofs.Standing.{held-more}

@@ -1,6 +1,5 @@
-use Rattle.std.proofs.Common.{◌≡◌, ap, subst, length, List, Bool}
+use Rattle.std.proofs.Common.{ap, subst, length, List, Bool}
 use Rattle.std.proofs.lemmas.Result.{IfOk-weaker}
-use Rattle.std.proofs.lemmas.List.{length-map}
 use Rattle.id_table.specs.Tables.{all_located}
 use Rattle.continuations.specs.Places.{HoldsMarked}
 use Rattle.continuations.proofs.Standing.{AreOf, of-same, reached-stands}

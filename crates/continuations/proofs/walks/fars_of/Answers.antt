@@ -1,4 +1,4 @@
-use Rattle.std.proofs.Common.{◌≡◌, subst, arith, length, List, ℕ}
+use Rattle.std.proofs.Common.{subst, arith, length, List, ℕ}
 use Rattle.continuations.specs.Berths.{IsFar}
 use Rattle.continuations.proofs.Sharing.{far-more}
 use Rattle.continuations.proofs.walks.fars_of.Goals as goal

@@ -1,6 +1,5 @@
-use Rattle.std.proofs.Common.{◌≡◌, ◌∙◌, ◌<◌, ◌≤◌, ℕ, sym, subst, arith, length, Some, true, false}
-use Rattle.std.proofs.lemmas.Bool.{false≢true, eqb-false, eqb-true}
-use Rattle.continuations.specs.Berths.{Leads, AreFar}
+use Rattle.std.proofs.Common.{◌∙◌, ◌<◌, ◌≤◌, sym, subst, arith, length, Some}
+use Rattle.std.proofs.lemmas.Bool.{false≢true, eqb-true}
 use Rattle.continuations.specs.declared.berths.Berth.{Berth}
 use Rattle.continuations.proofs.Sharing.{leads-nowhere, leads-below, alone-by, merged, step-leads, last-leads}
 use Rattle.continuations.proofs.Walking.{some-inj}

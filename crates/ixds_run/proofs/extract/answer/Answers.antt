@@ -1,9 +1,9 @@
-use Rattle.std.proofs.Common.{inl, inr, ◌≡◌, ◌∙◌, sym, subst, List, ℕ, Option, IfSome}
-use Rattle.ixds_run.specs.Gains.{AsksFor, GainsAll, GainsPart}
+use Rattle.std.proofs.Common.{inl, inr, ◌≡◌, ◌∙◌, sym, subst, List, ℕ, Option}
+use Rattle.ixds_run.specs.Gains.{GainsAll, GainsPart}
 use Rattle.ixds_run.specs.declared.status.Status.TheVariants.{Done, Broken, WriteFault}
 use Rattle.ixds_run.specs.Commands.{dir_of}
-use Rattle.ixds_run.specs.Outcomes.{outcome_of, ready_under, status_of}
-use Rattle.ixds_run.proofs.DueLaws.{by_either, directory_asked}
+use Rattle.ixds_run.specs.Outcomes.{outcome_of, status_of, targets_due}
+use Rattle.ixds_run.proofs.DueLaws.{by_either}
 use Rattle.ixds_run.proofs.extract.answer.Goals as goal
 
 pub returns-in-Ok-clause-done : goal.returns-in-Ok-clause-done
@@ -13,7 +13,8 @@ returns-in-Ok-clause-done g c e bs read =
       outcome_of (dir_of c.args.command.now) due,
       c.in-Ok.ensures.due bs read,
       sym at ∙ e,
-      subst (λ (d : Option (List ℕ)). GainsAll (ready_under d due.targets.items) (g.S.TargetSink.targets c.args.sink.now) (g.S.TargetSink.targets c.deliver.new.sink)) c.dir.ensures (c.deliver.ensures.targets at),
+      subst (λ (d : Option (List ℕ)). GainsAll (targets_due d due) (g.S.TargetSink.targets c.args.sink.now) (g.S.TargetSink.targets c.deliver.new.sink))
+      c.dir.ensures (c.deliver.ensures.targets at),
       c.deliver.ensures.text at,
     )
 
@@ -24,7 +25,8 @@ returns-in-Ok-clause-broken g c e bs read =
       outcome_of (dir_of c.args.command.now) due,
       c.in-Ok.ensures.due bs read,
       sym at ∙ e,
-      subst (λ (d : Option (List ℕ)). GainsAll (ready_under d due.targets.items) (g.S.TargetSink.targets c.args.sink.now) (g.S.TargetSink.targets c.deliver.new.sink)) c.dir.ensures (c.deliver.ensures.targets at),
+      subst (λ (d : Option (List ℕ)). GainsAll (targets_due d due) (g.S.TargetSink.targets c.args.sink.now) (g.S.TargetSink.targets c.deliver.new.sink))
+      c.dir.ensures (c.deliver.ensures.targets at),
       c.deliver.ensures.text at,
     )
 
@@ -36,17 +38,11 @@ returns-in-Ok-clause-part g c e rose =
       λ bs read. (
         outcome_of (dir_of c.args.command.now) due,
         c.in-Ok.ensures.due bs read,
-        subst (λ (d : Option (List ℕ)). GainsPart (ready_under d due.targets.items) (g.S.TargetSink.targets c.args.sink.now) (g.S.TargetSink.targets c.deliver.new.sink)) c.dir.ensures part.1,
-        subst (λ (d : Option (List ℕ)). IfSome (g.S.TargetSink.asked c.deliver.new.sink) (AsksFor (ready_under d due.targets.items))) c.dir.ensures part.2,
+        subst (λ (d : Option (List ℕ)). GainsPart (targets_due d due) (g.S.TargetSink.targets c.args.sink.now)
+            (g.S.TargetSink.targets c.deliver.new.sink) (g.S.TargetSink.asked c.deliver.new.sink))
+        c.dir.ensures part.1,
       ),
     )
-
-pub returns-in-Ok-clause-directory : goal.returns-in-Ok-clause-directory
-returns-in-Ok-clause-directory g c e rose =
-    let due = c.in-Ok.due in
-    let part = c.deliver.ensures.part e rose in
-    directory_asked (dir_of c.args.command.now) due.targets.items (g.S.TargetSink.asked c.deliver.new.sink)
-    (subst (λ (d : Option (List ℕ)). IfSome (g.S.TargetSink.asked c.deliver.new.sink) (AsksFor (ready_under d due.targets.items))) c.dir.ensures part.2)
 
 pub returns-in-Ok-clause-nothing : goal.returns-in-Ok-clause-nothing
 returns-in-Ok-clause-nothing g c bs read nothing = c.deliver.ensures.none (c.in-Ok.ensures.nothing bs read nothing)
@@ -57,7 +53,8 @@ returns-in-Ok-clause-all g c e same bs read =
     let all = c.deliver.ensures.all e same in (
       outcome_of (dir_of c.args.command.now) due,
       c.in-Ok.ensures.due bs read,
-      subst (λ (d : Option (List ℕ)). GainsAll (ready_under d due.targets.items) (g.S.TargetSink.targets c.args.sink.now) (g.S.TargetSink.targets c.deliver.new.sink)) c.dir.ensures all.0,
+      subst (λ (d : Option (List ℕ)). GainsAll (targets_due d due) (g.S.TargetSink.targets c.args.sink.now) (g.S.TargetSink.targets c.deliver.new.sink))
+      c.dir.ensures all.0,
       all.1,
     )
 

@@ -1,13 +1,12 @@
-use Rattle.std.proofs.Common.{◌≡◌, ◌⊎◌, ◌<◌, ◌∙◌, ap, List, ℕ, Option, Some, None, IfSome, inl, inr, refl, sym, subst, rules, arith}
+use Rattle.std.proofs.Common.{◌≡◌, ◌⊎◌, ◌∙◌, List, ℕ, Option, inl, inr, refl, subst, arith}
 use Rattle.ix_base.specs.Outside.{TextGainsFront}
 use Rattle.ixds_run.specs.Commands.{pages_of}
-use Rattle.ixds_run.specs.Gains.{GainsText}
-use Rattle.ixds_run.specs.Outcomes.{Gives, GivesFront, GivesPart, SaysNothing}
+use Rattle.ixds_run.specs.Gains.{GainsStarts, GainsText}
+use Rattle.ixds_run.specs.Outcomes.{AreSome, Gives}
 use Rattle.ixds_run.specs.Reading.{IsAmong, IsRead, StopsInTime}
 use Rattle.ixds_run.specs.Told.{told}
 use Rattle.ixds_run.specs.declared.status.Status.{Status}
-use Rattle.ixds_run.proofs.AnswerLaws.{complete_by, fault_answer, memory_answer}
-use Rattle.ixds_run.proofs.ForestLaws.{if_told}
+use Rattle.ixds_run.proofs.AnswerLaws.{complete_by, fault_answer, memory_answer, of_some, told_of}
 use Rattle.ixds_run.proofs.extract.extract.Goals as goal
 
 pub returns-in-Err-NoMemory : goal.returns-in-Err-NoMemory
@@ -15,6 +14,7 @@ returns-in-Err-NoMemory g c =
     let read = c.in-Err-NoMemory.ensures in
     let faults = rw c.in-Err-NoMemory.field-0-is at read.stopped in
     memory_answer _ _ _ _ _ _ refl refl read.pages faults
+    (subst (λ (names : List (List ℕ)). GainsStarts names (g.P.PageSource.starts c.args.pages.now) (g.P.PageSource.starts c.read_all.new.pages)) c.pages.ensures read.starts)
     (subst (λ (names : List (List ℕ)). (c.read_all.new.pages ≡ c.args.pages.now) ⊎ ((name : List ℕ) × IsAmong (g.P.PageSource.page c.args.pages.now) names (g.P.PageSource.asked c.read_all.new.pages) name))
     c.pages.ensures read.asked)
 
@@ -26,6 +26,7 @@ returns-in-Err-Failed g c =
     let line = (rw c.in-Err-Failed.field-0-is at c.as_slice.ensures.value) ∙ stopped.1.2 in
     fault_answer c.args.command.now _ _ _ _ _ c.put_read_fault.result stopped.1.0 refl read.pages stopped.0 refl
     (subst (λ (names : List (List ℕ)). IsAmong (g.P.PageSource.page c.args.pages.now) names (g.P.PageSource.asked c.read_all.new.pages) stopped.1.0) c.pages.ensures stopped.1.1)
+    (subst (λ (names : List (List ℕ)). GainsStarts names (g.P.PageSource.starts c.args.pages.now) (g.P.PageSource.starts c.read_all.new.pages)) c.pages.ensures read.starts)
     put.either
     (λ e. subst (λ (t : List ℕ). GainsText t (g.T.TextSink.taken c.args.out.now) (g.T.TextSink.taken c.put_read_fault.new.out)) line (put.read e))
     put.quiet put.cause
@@ -37,8 +38,10 @@ returns g c =
     let page : List ℕ → Option (List ℕ) = g.P.PageSource.page c.args.pages.now in
     let all = told page (pages_of command) in
     let read = c.in-Ok.ensures in
-    let is_read : IfSome all (λ bs. IsRead bs c.in-Ok.forest) =
-    subst (λ (names : List (List ℕ)). IfSome (told page names) (λ bs. IsRead bs c.in-Ok.forest)) c.pages.ensures read.reads in
+    let is_read : AreSome all (λ bs. IsRead bs c.in-Ok.forest) =
+    subst (λ (names : List (List ℕ)). AreSome (told page names) (λ bs. IsRead bs c.in-Ok.forest)) c.pages.ensures read.reads in
+    let starts = subst (λ (names : List (List ℕ)). GainsStarts names (g.P.PageSource.starts c.args.pages.now) (g.P.PageSource.starts c.read_all.new.pages))
+    c.pages.ensures read.starts in
     let asked = subst (λ (names : List (List ℕ)). (c.read_all.new.pages ≡ c.args.pages.now) ⊎ ((name : List ℕ) × IsAmong page names (g.P.PageSource.asked c.read_all.new.pages) name))
     c.pages.ensures read.asked in
     let stops = subst (λ (names : List (List ℕ)). StopsInTime page names (g.P.PageSource.left c.read_all.new.pages) (g.P.PageSource.asked c.read_all.new.pages))
@@ -52,24 +55,24 @@ returns g c =
           (g.P.PageSource.faults c.args.pages.now) (g.P.PageSource.faults c.read_all.new.pages)
           (g.S.TargetSink.faults c.args.sink.now) (g.S.TargetSink.faults c.answer.new.sink)
           (g.T.TextSink.faults c.args.out.now) (g.T.TextSink.faults c.answer.new.out)
-          all done.usage done.other (λ e. if_told all _ _ (done.done e) is_read) (λ e. if_told all _ _ (done.broken e) is_read) done.cause done.memory;
-      done = λ e. if_told all _ _ (done.done e) is_read;
-      broken = λ e. if_told all _ _ (done.broken e) is_read;
+          all done.usage done.other (λ e. of_some all (done.done e) is_read) (λ e. of_some all (done.broken e) is_read) done.cause done.memory;
+      done = λ e. of_some all (done.done e) is_read;
+      broken = λ e. of_some all (done.broken e) is_read;
       broken_targets = done.untouched;
-      broken_pages = if_told all _ _ done.nothing is_read;
+      broken_pages = told_of all (of_some all done.nothing is_read);
       check = done.check;
       usage = λ e. absurd (done.usage e);
       usage_exactly = λ e. cc;
       read_fault = λ e. absurd (done.other e);
       write_fault = done.cause;
-      write_fault_targets = λ e rose. ((done.part e rose).0, if_told all _ _ (done.part e rose).1 is_read);
-      write_fault_text = λ e none pages. if_told all _ _ (done.all e none) is_read;
+      write_fault_targets = λ e rose. ((done.part e rose).0, of_some all (done.part e rose).1 is_read);
+      write_fault_text = λ e none pages. of_some all (done.all e none) is_read;
       write_fault_line = λ e rose. absurd (omega (arith, same));
       write_fault_usage = λ e f. cc;
       no_memory = done.memory;
       no_memory_pages = λ e. same;
+      starts = starts;
       asked_page = asked;
-      asked_directory = done.directory;
       same_pages = read.pages;
       stops = λ e. stops;
       quiet_done = λ e. (same, (done.quiet (inl e)).0, (done.quiet (inl e)).1);

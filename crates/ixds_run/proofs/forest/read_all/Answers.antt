@@ -1,7 +1,7 @@
-use Rattle.std.proofs.Common.{◌≡◌, ◌⊎◌, ◌∙◌, ◌+◌, ◌≤◌, ◌<◌, List, [], Option, ℕ, length, drop, refl, subst, rules, inl, inr, arith, IfSome}
+use Rattle.std.proofs.Common.{◌≡◌, ◌∙◌, ◌+◌, ◌≤◌, ◌<◌, List, Option, ℕ, length, drop, refl, subst, rules, inl, inr, arith}
 use Rattle.std.proofs.Math.ListN.{drop_of_length-le}
-use Rattle.ixds_run.specs.Reading.{HasReadSome, IsAmong, IsLast, ReadsOn}
-use Rattle.ixds_run.proofs.ForestLaws.{asked_on, next_of, next_among, over_is_sound, names_over, read_none, read_more, read_over, read_all_is, some_is_sound, last_among, last_is, stops_at_end}
+use Rattle.ixds_run.specs.Reading.{HasReadSome, ReadsOn}
+use Rattle.ixds_run.proofs.ForestLaws.{asked_on, next_of, next_among, over_is_sound, names_over, next_started, none_started, one_started, read_none, read_more, some_is_sound, some_over, some_read, last_among, last_is, stops_at_end}
 use Rattle.ixds_run.proofs.forest.read_all.Goals as goal
 
 pub loop-number-init : goal.loop-number-init
@@ -12,6 +12,7 @@ loop-number-init g c = record {
   most = search rules;
   tags = search rules;
   read = read_none _ _ _ refl refl (search rules) (search rules);
+  starts = none_started _;
   same = λ e. refl;
   stops = inl refl;
 }
@@ -33,6 +34,7 @@ loop-number-preserved g c =
       most = omega arith;
       tags = c.in_ok-read_next.ensures.tags;
       read = read_more page names name (drop (n + 1) names) n _ _ _ (omega arith) on h;
+      starts = one_started names n name _ _ _ within c.index-names-number.is c.loop-number.invariant.starts c.in_ok-read_next.ensures.started;
       same = λ e. absurd (let z : n + 1 ≡ 0 = e in omega arith);
       stops = inr (last_is page names name (drop (n + 1) names) n _ _ _ _ c.loop-number.invariant.most c.in_ok-read_next.ensures.most c.in_ok-read_next.ensures.named on h);
     }
@@ -47,7 +49,7 @@ returns-then-forest-gt-MOST_BYTES-clause-reads g c =
     let on = subst (λ (pg : List ℕ → Option (List ℕ)). ReadsOn (pg name) (g.P.PageSource.left c.read_next.new.pages) n c.loop-number.forest c.read_next.new.forest)
     c.loop-number.invariant.page c.in_ok-read_next.ensures.reads in
     let h = subst (λ (r : List (List ℕ)). HasReadSome page names r n c.loop-number.forest) (next_of names n name within c.index-names-number.is) c.loop-number.invariant.read in
-    read_over page names name (drop (n + 1) names) n _ _ _ c.if-forest-gt-MOST_BYTES.true on h
+    some_over page names name (drop (n + 1) names) n _ _ _ c.if-forest-gt-MOST_BYTES.true on h
 
 pub returns-then-forest-gt-MOST_BYTES-clause-sound : goal.returns-then-forest-gt-MOST_BYTES-clause-sound
 returns-then-forest-gt-MOST_BYTES-clause-sound g c = over_is_sound _ _ c.if-forest-gt-MOST_BYTES.true
@@ -83,7 +85,7 @@ returns-clause-reads g c =
     let names = c.args.names.now in
     let n = c.loop-number.number in
     let past : length names ≤ n = omega arith in
-    read_all_is page names (drop n names) n _ (drop_of_length-le names past) c.loop-number.invariant.read
+    some_read page names (drop n names) n _ (drop_of_length-le names past) c.loop-number.invariant.read
 
 pub returns-clause-sound : goal.returns-clause-sound
 returns-clause-sound g c = some_is_sound _ c.args.names.now _ c.loop-number.number _ (omega arith) c.loop-number.invariant.read
@@ -109,3 +111,20 @@ returns-in_err-read_next-clause-asked g c =
     let h = subst (λ (r : List (List ℕ)). HasReadSome page names r n c.loop-number.forest) (next_of names n name within c.index-names-number.is) c.loop-number.invariant.read in
     asked_on _ g.P.PageSource.asked page names name (drop n names) (drop (n + 1) names) n _ c.loop-number.pages c.args.pages.now c.read_next.new.pages _
     c.loop-number.invariant.most c.loop-number.invariant.same c.loop-number.invariant.stops h c.in_err-read_next.ensures.asked
+
+pub returns-in_default-clause-starts : goal.returns-in_default-clause-starts
+returns-in_default-clause-starts g c = (0, none_started _)
+
+pub returns-then-forest-gt-MOST_BYTES-clause-starts : goal.returns-then-forest-gt-MOST_BYTES-clause-starts
+returns-then-forest-gt-MOST_BYTES-clause-starts g c =
+    let within : c.loop-number.number < length c.args.names.now = omega arith in
+    (c.loop-number.number + 1, one_started _ _ c.index-names-number.result _ _ _ within c.index-names-number.is
+    c.loop-number.invariant.starts c.in_ok-read_next.ensures.started)
+
+pub returns-clause-starts : goal.returns-clause-starts
+returns-clause-starts g c = (c.loop-number.number, c.loop-number.invariant.starts)
+
+pub returns-in_err-read_next-clause-starts : goal.returns-in_err-read_next-clause-starts
+returns-in_err-read_next-clause-starts g c =
+    let within : c.loop-number.number < length c.args.names.now = omega arith in
+    next_started _ _ c.index-names-number.result _ _ _ within c.index-names-number.is c.loop-number.invariant.starts c.in_err-read_next.ensures.starts

@@ -1,4 +1,4 @@
-use Rattle.std.proofs.Common.{◌≡◌, ◌⊎◌, ◌≤◌, vec_len, drop}
+use Rattle.std.proofs.Common.{◌≡◌, ◌⊎◌, ◌≤◌, ◌++◌, vec_len, drop, take, option_map}
 use Rattle.ixds_run.specs.Reading.{HasReadSome, IsLast}
 use Rattle.ixds_run.proofs.forest.read_all.Given as goal
 
@@ -10,6 +10,7 @@ invariant-loop-number g l = record {
   most : l.forest.sums.bytes ≤ 268435456;
   tags : l.forest.sums.tags ≤ l.forest.sums.bytes;
   read : HasReadSome (g.P.PageSource.page l.fn.pages) l.names (drop l.number l.names) l.number l.forest;
+  starts : g.P.PageSource.starts l.pages ≡ option_map (λ starts. starts ++ take l.number l.names) (g.P.PageSource.starts l.fn.pages);
   same : l.number ≡ 0 → l.pages ≡ l.fn.pages;
   stops : (l.number ≡ 0) ⊎ IsLast (g.P.PageSource.page l.fn.pages) l.names (drop l.number l.names) (g.P.PageSource.left l.pages) (g.P.PageSource.asked l.pages);
 }

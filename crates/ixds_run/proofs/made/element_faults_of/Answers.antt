@@ -1,4 +1,3 @@
-use Rattle.std.proofs.Common.{◌<◌, length, arith}
 use Rattle.ixds_run.proofs.ElementLaws.{faults_more, root_behind}
 use Rattle.ixds_run.proofs.made.element_faults_of.Goals as goal
 

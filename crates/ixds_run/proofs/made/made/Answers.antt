@@ -1,4 +1,4 @@
-use Rattle.std.proofs.Common.{◌≡◌, ◌∙◌, ◌+◌, ◌<◌, ◌≤◌, ◌==◌, length, sym, subst, true, false, arith}
+use Rattle.std.proofs.Common.{◌∙◌, length, sym}
 use Rattle.ixds_run.proofs.ElementLaws.{reported_below}
 use Rattle.ixds_run.proofs.JudgeLaws.{made_broken, made_served, trees_of}
 use Rattle.ixds_run.proofs.made.made.Goals as goal

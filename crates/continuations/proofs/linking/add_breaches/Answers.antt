@@ -1,0 +1,34 @@
+use Rattle.std.proofs.Common.{◌∙◌, ◌++◌, List, ap, subst, sym, append_assoc}
+use Rattle.std.proofs.lemmas.Result.{on_err_weaker}
+use Rattle.ix_base.proofs.FrontLemmas.{front-first, front-second, on-err}
+use Rattle.ix_base.specs.Fronts.{AppendsFront}
+use Rattle.ix_base.specs.LinkRules.{breaking}
+use Rattle.ix_base.specs.declared.breach.Found.{Found}
+use Rattle.ix_base.specs.declared.rule.Rule.TheVariants.{L4, L5, L6, L7}
+use Rattle.continuations.proofs.linking.add_breaches.Goals as goal
+
+pub returns-in_err-add_lacking-clause-err : goal.returns-in_err-add_lacking-clause-err
+returns-in_err-add_lacking-clause-err c =
+    let es = c.args.index.now.spots in
+    on-err _ (front-first _ _ (breaking L4 es ++ breaking L5 es ++ breaking L6 es) (breaking L7 es)
+    (front-first _ _ (breaking L4 es ++ breaking L5 es) (breaking L6 es)
+    (front-first _ _ (breaking L4 es) (breaking L5 es) c.in_err-add_lacking.ensures.err)))
+
+pub returns-in_err-add_named_twice-clause-err : goal.returns-in_err-add_named_twice-clause-err
+returns-in_err-add_named_twice-clause-err c =
+    let es = c.args.index.now.spots in
+    on-err _ (front-first _ _ (breaking L4 es ++ breaking L5 es ++ breaking L6 es) (breaking L7 es)
+    (front-first _ _ (breaking L4 es ++ breaking L5 es) (breaking L6 es)
+    (front-second _ _ _ (breaking L4 es) (breaking L5 es) c.in_ok-add_lacking.ensures.ok c.in_err-add_named_twice.ensures.err)))
+
+pub returns-clause-err : goal.returns-clause-err
+returns-clause-err c =
+    let es = c.args.index.now.spots in
+    let old = c.args.breaches.now in
+    let both = c.in_ok-add_named_twice.ensures.ok ∙ ap (λ (x : List Found). x ++ breaking L5 es) c.in_ok-add_lacking.ensures.ok
+        ∙ append_assoc old (breaking L4 es) (breaking L5 es) in
+    on_err_weaker c.add_seen.result
+    (λ f. subst (λ (all : List Found). AppendsFront all old c.add_seen.new.breaches)
+      (sym (append_assoc (breaking L4 es ++ breaking L5 es) (breaking L6 es) (breaking L7 es)))
+      (front-second old _ _ (breaking L4 es ++ breaking L5 es) (breaking L6 es ++ breaking L7 es) both f))
+    c.add_seen.ensures.err
