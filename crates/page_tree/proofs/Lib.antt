@@ -14,6 +14,9 @@ pub mod PieceLaws
 pub mod SizeLaws
 pub mod CodeNames
 pub mod ScopeLaws
+pub mod OrderLaws
+pub mod MergeLaws
+pub mod TwiceLaws
 pub mod Children
 pub mod StackLaws
 pub mod AllowedText

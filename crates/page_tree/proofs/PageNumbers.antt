@@ -9,7 +9,7 @@ use Rattle.ix_base.specs.declared.tree.Element.{Element}
 use Rattle.ix_base.specs.declared.tree.Node.{Node, the_lemmas}
 use Rattle.ix_base.specs.declared.tree.Node.TheVariants.{Elem}
 use Rattle.page_tree.specs.Stacks.{pages_open, pages_under, pages_built, AreAll}
-use Rattle.page_tree.specs.declared.stack.Open.{Open}
+use Rattle.page_tree.specs.declared.opened.Open.{Open}
 
 pub same_pages : (ns : List Node) → flat_map (λ pages. pages) (map pages_in ns) ≡ flat_map pages_in ns
 same_pages ns = flat_map-map (λ pages. pages) pages_in ns

@@ -3,11 +3,15 @@ use Rattle.std.proofs.Common.{◌≡◌, ◌≢◌, ℕ, ◌+◌, ◌<◌, Bool,
 use Rattle.std.proofs.lemmas.Bool.{eq-eqb, ne_eqb}
 use Rattle.std.proofs.lemmas.List.{take_more}
 use Rattle.std.proofs.Math.Seq.{take-length}
-use Rattle.ix_base.specs.Trees.{Head, Nodes, none, elem, Tree}
+use Rattle.std.specs.List.{filter_map}
+use Rattle.ix_base.specs.Scope.{element_name}
+use Rattle.ix_base.specs.Trees.{Bound, Named, Valued, Head, Nodes, none, elem, Tree}
 use Rattle.page_tree.specs.Break.{is_empty, matches}
 use Rattle.page_tree.specs.Machine.{Frame, State, append, flush, flushed, closed, scope_in, running, outlined, is_rooted}
 use Rattle.page_tree.specs.Stacks.{frame, frames_onto, frames_of}
-use Rattle.page_tree.specs.declared.stack.Open.{Open}
+use Rattle.page_tree.specs.Tags.{scope_of, valued, head_of}
+use Rattle.page_tree.specs.Tokens.{Tag}
+use Rattle.page_tree.specs.declared.opened.Open.{Open}
 
 pub frames-snoc : (fs : List Frame) (os : List Open) (o : Open) → frames_onto fs (os ++ o ∷ []) ≡ frame o ∷ frames_onto fs os
 frames-snoc fs [] o = refl
@@ -86,3 +90,11 @@ pub running-some : (os : List Open) (s : State) (cs : List ℕ) → os ≢ [] �
     → running s.frames s cs ≡ record s { text = s.text ++ cs }
 running-some [] s cs h e = absurd (h refl)
 running-some (o ∷ os) s cs h e = let f = onto-some os (frame o) [] in ap (λ x. running x s cs) (e ∙ f.2)
+
+-- the head of an element in its own scope
+pub head-is : (outer scope : List Bound) (t : Tag) (attrs : List Valued) (name : Named) → scope ≡ scope_of outer t → name ≡ element_name scope t.name → attrs ≡ filter_map (valued scope) t.attrs
+    → ◌≡◌ {A = Head} (record { offset = t.offset; name = name; attrs = attrs; scope = scope }) (head_of outer t)
+head-is outer scope t attrs name e n a =
+    let named : name ≡ element_name (scope_of outer t) t.name = n ∙ ap (λ s. element_name s t.name) e in
+    let kept : attrs ≡ filter_map (valued (scope_of outer t)) t.attrs = a ∙ ap (λ s. filter_map (valued s) t.attrs) e in
+    λ i. record { offset = t.offset; name = named i; attrs = kept i; scope = e i }

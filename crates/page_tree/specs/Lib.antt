@@ -12,6 +12,8 @@ pub mod Views
 pub mod Stacks
 pub mod Buildings
 pub mod Names
+pub mod Orders
+pub mod Expansions
 pub mod Spellings
 pub mod Stops
 pub mod Spans

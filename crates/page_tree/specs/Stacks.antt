@@ -5,7 +5,7 @@ use Rattle.ix_base.specs.Elements.{pages_of, pages_in}
 use Rattle.ix_base.specs.Trees.{valued, bound, named, nodes_of}
 use Rattle.ix_base.specs.declared.tree.Element.{Element}
 use Rattle.page_tree.specs.Machine.{Frame}
-use Rattle.page_tree.specs.declared.stack.Open.{Open}
+use Rattle.page_tree.specs.declared.opened.Open.{Open}
 
 abbrev pub frame : Open → Frame
 frame o = record {

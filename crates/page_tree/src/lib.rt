@@ -7,13 +7,16 @@ mod kind;
 pub mod laws;
 mod meaning;
 mod names;
+mod opened;
 mod pending;
 mod reading;
+mod scope;
 mod settle;
 mod size;
 mod stack;
 mod token;
 mod tree;
+mod twice;
 
 pub use builder::{PageFault, TreeBuilder};
 pub use kind::Kind;

@@ -1,63 +1,21 @@
 //! The open elements of a page, and what is built of them.
-ghost use Rattle.std.specs.Prelude.{◌≡◌, ◌∷◌, [], ℕ, Bool, OnOk, IfOk, string_bytes, option_map, map, flat_map};
+ghost use Rattle.std.specs.Prelude.{◌≡◌, ◌∷◌, [], ℕ, Bool, true, OnOk, IfOk, string_bytes, option_map, map, flat_map};
 ghost use Rattle.ix_base.specs.Elements.{pages_of, pages_in};
 ghost use Rattle.ix_base.specs.Trees.{none, tree_of, nodes_of, bound};
-ghost use Rattle.page_tree.specs.Machine.{flush, flushed, scope_in, closed};
+ghost use Rattle.page_tree.specs.Orders.{are_ordered};
+ghost use Rattle.page_tree.specs.Machine.{flushed, scope_in, closed};
 ghost use Rattle.page_tree.specs.Tags.{head_of, scope_of as scope_under_tag};
 ghost use Rattle.page_tree.specs.Views.{tag_of};
+ghost use Rattle.page_tree.specs.Expansions.{expansion, expansions};
 ghost use Rattle.page_tree.specs.Stacks.{frame, frames_of, pages_open, pages_built, AreAll};
 
-use crate::names::{attributes_of, element_name, outermost_scope};
+use crate::names::{Expanded, attributes_of, element_name};
+use crate::opened::Open;
+use crate::scope::outermost_scope;
 use crate::token::Tag;
 use bumpalo::Bump;
-use ix_base::{Attr, Binding, Element, Name, NoMemory, Node, Place};
+use ix_base::{Binding, Element, NoMemory, Place};
 use std::alloc::Global;
-
-/// An open element.
-#[derive(Drop)]
-pub(crate) struct Open<'a> {
-    pub written: &'a str,
-    pub place: Place,
-    pub name: Name<'a>,
-    pub attrs: &'a [Attr<'a>],
-    pub scope: &'a [Binding<'a>],
-    pub children: Vec<Node<'a>>,
-}
-
-/// The pending text becomes a child.
-fn flush_text<'a>(
-    arena: &'a Bump,
-    text: &mut String,
-    children: &mut Vec<Node<'a>>,
-) -> Result<(), NoMemory>
-    ensures nodes { OnOk result (nodes_of children.new.items ≡ flush (nodes_of children.old.items) (string_bytes text.old)) }
-    ensures text { OnOk result (string_bytes text.new ≡ []) }
-    ensures pages { OnOk result (flat_map pages_in children.new.items ≡ flat_map pages_in children.old.items) }
-{
-    if text.is_empty() {
-        return Ok(());
-    }
-    let Ok(chars) = arena.try_alloc_str(text.as_str()) else {
-        return Err(NoMemory);
-    };
-    if children.push(Node::Chars(chars)).is_err() {
-        return Err(NoMemory);
-    }
-    text.clear();
-    Ok(())
-}
-
-impl<'a> Open<'a> {
-    /// The pending text becomes a child.
-    pub(crate) fn flush(&mut self, arena: &'a Bump, text: &mut String) -> Result<(), NoMemory>
-        ensures frame { OnOk result (frame self.new
-            ≡ record (frame self.old) { done = flush (frame self.old).done (string_bytes text.old) }) }
-        ensures text { OnOk result (string_bytes text.new ≡ []) }
-        ensures pages { OnOk result (pages_open self.new ≡ pages_open self.old) }
-    {
-        flush_text(arena, text, &mut self.children)
-    }
-}
 
 /// The pending text becomes a child of the innermost open element.
 pub(crate) fn flush_innermost<'a>(
@@ -80,7 +38,8 @@ pub(crate) fn flush_innermost<'a>(
 
 /// The scope in the innermost open element, or that above the root.
 pub(crate) fn innermost_scope<'a>(elements: &[Open<'a>]) -> &'a [Binding<'a>]
-    ensures { map bound result.now ≡ scope_in (frames_of elements.now) }
+    ensures value { map bound result.now ≡ scope_in (frames_of elements.now) }
+    ensures ordered { are_ordered (map bound result.now) ≡ true }
 {
     let Some(parent) = elements.last() else {
         return outermost_scope();
@@ -95,12 +54,15 @@ pub(crate) fn open_element<'a>(
     page: u32,
     scope: &'a [Binding<'a>],
     tag: &Tag<'a>,
+    expanded: &[Expanded<'a>],
 ) -> Result<Open<'a>, NoMemory>
+    requires ordered { are_ordered (map bound scope.now) ≡ true }
+    requires expanded { map expansion expanded.now ≡ expansions (map bound scope.now) (tag_of tag.now) }
     ensures frame { IfOk result (λ o. (outer : _) → map bound scope.now ≡ scope_under_tag outer (tag_of tag.now)
         → frame o ≡ record { written = tag.now.name.now; head = head_of outer (tag_of tag.now); done = none }) }
     ensures pages { IfOk result (λ o. pages_open o ≡ page ∷ []) }
 {
-    let attrs = attributes_of(arena, scope, tag.attrs)?;
+    let attrs = attributes_of(alloc, arena, expanded)?;
     Ok(Open {
         written: tag.name,
         place: Place {
@@ -151,9 +113,7 @@ pub(crate) fn put<'a>(
         *root = Some(element);
         return Ok(());
     };
-    if parent.children.push(Node::Elem(element)).is_err() {
-        return Err(NoMemory);
-    }
+    parent.add(element)?;
     if elements.push(parent).is_err() {
         return Err(NoMemory);
     }

@@ -1,20 +1,24 @@
 //! A page's tree, built from its constructs one after another.
-ghost use Rattle.std.specs.Prelude.{◌≡◌, ◌&&◌, not, Ok, Some, None, IfOk, IfSome, OnOk, map, option_map, encode_utf8};
+ghost use Rattle.std.specs.Prelude.{◌≡◌, ◌&&◌, true, not, Ok, Some, None, IfOk, IfSome, OnOk, map, option_map, encode_utf8};
 ghost use Rattle.std.specs.List.{list_all};
 ghost use Rattle.ix_base.specs.Elements.{pages_of};
 ghost use Rattle.ix_base.specs.NcName.{is_white as is_white_byte};
 ghost use Rattle.ix_base.specs.Trees.{tree_of, bound};
 ghost use Rattle.page_tree.specs.Break.{broken_by, broken_by_tag, is_outside as is_outside_of, matches as matches_of};
+ghost use Rattle.page_tree.specs.Expansions.{expansion, expansions};
 ghost use Rattle.page_tree.specs.Machine.{outline_of, moved, scope_in, begin, opening, standing, closing, running};
+ghost use Rattle.page_tree.specs.Orders.{are_ordered};
 ghost use Rattle.page_tree.specs.Page.{is_within as is_within_profile, is_encoding as is_known_encoding};
 ghost use Rattle.page_tree.specs.Stacks.{AreAll};
 ghost use Rattle.page_tree.specs.Tags.{scope_of as scope_under_tag};
 ghost use Rattle.page_tree.specs.Tokens.{start, empty, close, words, refer, section, declaration, doctype};
 ghost use Rattle.page_tree.specs.Views.{tag_of, token_of};
 
-use crate::names::{scope_of, tag_break};
+use crate::names::{Expanded, expand, tag_break};
+use crate::opened::Open;
+use crate::scope::scope_of;
 use crate::size::is_white;
-use crate::stack::{Open, close_element, flush_innermost, innermost_scope, open_element, put};
+use crate::stack::{close_element, flush_innermost, innermost_scope, open_element, put};
 use crate::token::{Tag, Token};
 use bumpalo::Bump;
 use ix_base::{Binding, Element, NoMemory, Rule};
@@ -130,37 +134,53 @@ impl<'a> Building<'a> {
 
     /// The scope of an element that begins here.
     fn element_scope(&self, tag: &Tag<'a>) -> Result<&'a [Binding<'a>], NoMemory>
-        ensures { IfOk result (λ s. map bound s.now ≡ scope_under_tag (scope_in (state_of self.now).frames) (tag_of tag.now)) }
+        ensures value { IfOk result (λ s. map bound s.now ≡ scope_under_tag (scope_in (state_of self.now).frames) (tag_of tag.now)) }
+        ensures ordered { IfOk result (λ s. are_ordered (map bound s.now) ≡ true) }
     {
         let outer = innermost_scope(&self.elements);
         scope_of(self.alloc, self.arena, outer, tag.attrs)
     }
 
     /// The lowest rule that a tag breaks, whose element has this scope.
-    fn broken_by_tag(&self, scope: &[Binding<'_>], tag: &Tag<'_>) -> Option<Rule>
-        requires { map bound scope.now ≡ scope_under_tag (scope_in (state_of self.now).frames) (tag_of tag.now) }
-        ensures { result ≡ broken_by_tag self.now.depth (outline_of (state_of self.now)) (tag_of tag.now) }
+    fn broken_by_tag(
+        &self,
+        scope: &[Binding<'_>],
+        tag: &Tag<'_>,
+        expanded: &[Expanded<'_>],
+    ) -> Result<Option<Rule>, NoMemory>
+        requires scope { map bound scope.now ≡ scope_under_tag (scope_in (state_of self.now).frames) (tag_of tag.now) }
+        requires ordered { are_ordered (map bound scope.now) ≡ true }
+        requires expanded { map expansion expanded.now ≡ expansions (map bound scope.now) (tag_of tag.now) }
+        ensures { IfOk result (λ r. r ≡ broken_by_tag self.now.depth (outline_of (state_of self.now)) (tag_of tag.now)) }
     {
-        if let Some(rule) = tag_break(scope, tag) {
-            return Some(rule);
+        let broken = tag_break(self.alloc, scope, tag, expanded)?;
+        if let Some(rule) = broken {
+            return Ok(Some(rule));
         }
         if self.elements.len() >= self.depth as usize {
-            return Some(Rule::W10);
+            return Ok(Some(Rule::W10));
         }
         if self.is_behind_root() {
-            return Some(Rule::W12);
+            return Ok(Some(Rule::W12));
         }
-        None
+        Ok(None)
     }
 
     /// An element begins.
-    fn open(&mut self, scope: &'a [Binding<'a>], tag: &Tag<'a>) -> Result<(), NoMemory>
-        requires { map bound scope.now ≡ scope_under_tag (scope_in (state_of self.old).frames) (tag_of tag.now) }
+    fn open(
+        &mut self,
+        scope: &'a [Binding<'a>],
+        tag: &Tag<'a>,
+        expanded: &[Expanded<'a>],
+    ) -> Result<(), NoMemory>
+        requires scope { map bound scope.now ≡ scope_under_tag (scope_in (state_of self.old).frames) (tag_of tag.now) }
+        requires ordered { are_ordered (map bound scope.now) ≡ true }
+        requires expanded { map expansion expanded.now ≡ expansions (map bound scope.now) (tag_of tag.now) }
         ensures state { OnOk result (state_of self.new ≡ opening (state_of self.old) (tag_of tag.now)) }
         ensures same { (self.new.depth ≡ self.old.depth) × (self.new.page ≡ self.old.page) }
         ensures on_page { OnOk result (IsOnPage self.old.page self.old → IsOnPage self.new.page self.new) }
     {
-        let element = open_element(self.alloc, self.arena, self.page, scope, tag)?;
+        let element = open_element(self.alloc, self.arena, self.page, scope, tag, expanded)?;
         flush_innermost(self.arena, &mut self.elements, &mut self.text)?;
         self.text.clear();
         self.elements.push(element)?;
@@ -168,13 +188,20 @@ impl<'a> Building<'a> {
     }
 
     /// An element begins and ends.
-    fn stand(&mut self, scope: &'a [Binding<'a>], tag: &Tag<'a>) -> Result<(), NoMemory>
-        requires { map bound scope.now ≡ scope_under_tag (scope_in (state_of self.old).frames) (tag_of tag.now) }
+    fn stand(
+        &mut self,
+        scope: &'a [Binding<'a>],
+        tag: &Tag<'a>,
+        expanded: &[Expanded<'a>],
+    ) -> Result<(), NoMemory>
+        requires scope { map bound scope.now ≡ scope_under_tag (scope_in (state_of self.old).frames) (tag_of tag.now) }
+        requires ordered { are_ordered (map bound scope.now) ≡ true }
+        requires expanded { map expansion expanded.now ≡ expansions (map bound scope.now) (tag_of tag.now) }
         ensures state { OnOk result (state_of self.new ≡ standing (state_of self.old) (tag_of tag.now)) }
         ensures same { (self.new.depth ≡ self.old.depth) × (self.new.page ≡ self.old.page) }
         ensures on_page { OnOk result (IsOnPage self.old.page self.old → IsOnPage self.new.page self.new) }
     {
-        let element = open_element(self.alloc, self.arena, self.page, scope, tag)?;
+        let element = open_element(self.alloc, self.arena, self.page, scope, tag, expanded)?;
         flush_innermost(self.arena, &mut self.elements, &mut self.text)?;
         self.text.clear();
         let element = close_element(self.arena, element)?;
@@ -232,10 +259,11 @@ impl<'a> Building<'a> {
         ensures on_page { OnOk result (IsOnPage self.old.page self.old → IsOnPage self.new.page self.new) }
     {
         let scope = self.element_scope(tag)?;
-        if let Some(rule) = self.broken_by_tag(scope, tag) {
+        let expanded = expand(self.alloc, scope, tag.attrs)?;
+        if let Some(rule) = self.broken_by_tag(scope, tag, expanded.as_slice())? {
             return Ok(Some(rule));
         }
-        self.open(scope, tag)?;
+        self.open(scope, tag, expanded.as_slice())?;
         Ok(None)
     }
 
@@ -248,10 +276,11 @@ impl<'a> Building<'a> {
         ensures on_page { OnOk result (IsOnPage self.old.page self.old → IsOnPage self.new.page self.new) }
     {
         let scope = self.element_scope(tag)?;
-        if let Some(rule) = self.broken_by_tag(scope, tag) {
+        let expanded = expand(self.alloc, scope, tag.attrs)?;
+        if let Some(rule) = self.broken_by_tag(scope, tag, expanded.as_slice())? {
             return Ok(Some(rule));
         }
-        self.stand(scope, tag)?;
+        self.stand(scope, tag, expanded.as_slice())?;
         Ok(None)
     }
 

@@ -13,7 +13,7 @@ returns-clause-state c =
     let mid = c.flush_innermost.new.elements.items in
     let pushed : c.push.new.self.items ≡ mid ++ o ∷ [] = search rules in
     opening-is s (tag_of c.args.tag.now) mid c.push.new.self.items o _ pushed c.in_ok-flush_innermost.ensures.frames
-    (c.in_ok-element.ensures.frame (scope_in s.frames) c.requires) c.clear.ensures.bytes
+    (c.in_ok-element.ensures.frame (scope_in s.frames) c.requires.scope) c.clear.ensures.bytes
 
 pub returns-clause-on_page : goal.returns-clause-on_page
 returns-clause-on_page c all =

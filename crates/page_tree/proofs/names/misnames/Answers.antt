@@ -1,0 +1,26 @@
+use Rattle.std.proofs.Common.{◌≡◌, ◌∙◌, true, false, not, ◌&&◌, refl, sym, ap, map}
+use Rattle.std.specs.List.{list_any}
+use Rattle.ix_base.specs.Trees.{bound}
+use Rattle.page_tree.specs.Expansions.{is_unknown}
+use Rattle.page_tree.specs.Tags.{declares, is_unbound}
+use Rattle.page_tree.specs.Views.{attribute_of}
+use Rattle.page_tree.proofs.TwiceLaws.{unbound-is}
+use Rattle.page_tree.proofs.names.misnames.Goals as goal
+
+pub returns-then-has_unknown : goal.returns-then-has_unknown
+returns-then-has_unknown c =
+    let scope = map bound c.args.scope.now in
+    let attrs = map attribute_of c.args.tag.now.attrs.now in
+    let name : is_unbound scope c.args.tag.now.name.now ≡ false = sym c.is_unbound.ensures ∙ c.if-is_unbound.false in
+    let some : list_any (λ a. not (declares a) && is_unbound scope a.name) attrs ≡ true =
+    sym (unbound-is scope attrs) ∙ ap (list_any is_unknown) (sym c.requires.expanded) ∙ sym c.has_unknown.ensures ∙ c.if-has_unknown.true in
+    rw (name, some) refl
+
+pub returns : goal.returns
+returns c =
+    let scope = map bound c.args.scope.now in
+    let attrs = map attribute_of c.args.tag.now.attrs.now in
+    let name : is_unbound scope c.args.tag.now.name.now ≡ false = sym c.is_unbound.ensures ∙ c.if-is_unbound.false in
+    let none : list_any (λ a. not (declares a) && is_unbound scope a.name) attrs ≡ false =
+    sym (unbound-is scope attrs) ∙ ap (list_any is_unknown) (sym c.requires.expanded) ∙ sym c.has_unknown.ensures ∙ c.if-has_unknown.false in
+    rw (name, none) c.has_bad.ensures

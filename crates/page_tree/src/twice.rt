@@ -1,0 +1,74 @@
+//! Whether an attribute stands twice in a tag.
+ghost use Rattle.std.specs.Prelude.{◌≡◌, IfOk, List, map, option_map, bytes_eq};
+ghost use Rattle.std.specs.List.{filter_map};
+ghost use Rattle.ix_base.specs.Trees.{Bound};
+ghost use Rattle.page_tree.specs.Views.{attribute_of};
+ghost use Rattle.page_tree.specs.Expansions.{expansion, expansion_of, known_name as known_name_of, repeats_by, named_pair};
+ghost use Rattle.page_tree.specs.Tags as spec;
+
+use crate::names::{Expanded, PrefixState};
+use crate::token::Attribute;
+use ix_base::NoMemory;
+use std::alloc::Global;
+use std::collections::BTreeSet;
+
+/// Whether two attributes have one written name.
+fn repeats_name(alloc: Global, attrs: &[Attribute<'_>]) -> Result<bool, NoMemory>
+    ensures { IfOk result (λ r. r ≡ repeats_by bytes_eq (map (λ a. a.name.now) attrs.now)) }
+{
+    let mut seen = BTreeSet::new(alloc);
+    for attr in attrs {
+        let is_new = seen.insert(attr.name)?;
+        if !is_new {
+            return Ok(true);
+        }
+    }
+    Ok(false)
+}
+
+/// The expanded name, as its namespace and its local part, where the prefix is bound.
+fn known_name<'a>(expanded: &Expanded<'a>) -> Option<(&'a str, &'a str)>
+    ensures { option_map named_pair result ≡ known_name_of (expansion expanded.now) }
+{
+    match expanded.prefix {
+        PrefixState::Known => Some((expanded.attr.name.ns, expanded.attr.name.local)),
+        PrefixState::Missing | PrefixState::Unknown => None,
+    }
+}
+
+/// Whether two attributes have bound prefixes and one expanded name.
+fn repeats_expanded(alloc: Global, expanded: &[Expanded<'_>]) -> Result<bool, NoMemory>
+    ensures { IfOk result (λ r. r ≡ repeats_by spec.same_name (filter_map known_name_of (map expansion expanded.now))) }
+{
+    let mut seen = BTreeSet::new(alloc);
+    for one in expanded {
+        if let Some(name) = known_name(one) {
+            let is_new = seen.insert(name)?;
+            if !is_new {
+                return Ok(true);
+            }
+        }
+    }
+    Ok(false)
+}
+
+/// Whether an attribute stands there twice: by its written name, or by a bound prefix and an expanded name.
+pub(crate) fn repeats(
+    alloc: Global,
+    attrs: &[Attribute<'_>],
+    expanded: &[Expanded<'_>],
+) -> Result<bool, NoMemory>
+    ensures { IfOk result (λ r. (scope : List Bound)
+        → map expansion expanded.now ≡ filter_map (expansion_of scope) (map attribute_of attrs.now)
+        → r ≡ spec.repeats scope (map attribute_of attrs.now)) }
+{
+    if attrs.len() < 2 {
+        return Ok(false);
+    }
+    let is_named = repeats_name(alloc, attrs)?;
+    if is_named {
+        return Ok(true);
+    }
+    let is_expanded = repeats_expanded(alloc, expanded)?;
+    Ok(is_expanded)
+}
