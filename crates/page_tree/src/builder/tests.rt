@@ -3,7 +3,7 @@ ghost use Rattle.std.specs.Prelude.{◌≡◌, ◌≤◌};
 ghost use Rattle.page_tree.specs.Standing.{fed_bytes};
 
 use super::*;
-use ix_base::Node;
+use ix_base::{Binding, Node};
 use std::test::Fail;
 
 /// Where the piece ends that begins at a place.
@@ -44,7 +44,7 @@ fn refusal(alloc: Global, page: &[u8], step: usize) -> Result<Option<PageFault>,
 }
 
 /// A page, the offset of its first break, and the rule.
-const BROKEN: [(&[u8], u64, Rule); 36] = [
+const BROKEN: [(&[u8], u64, Rule); 40] = [
     (b"\xEF\xBB\xBF<a>\xFF", 6, Rule::W1),
     (b"<a>\xC3", 3, Rule::W1),
     (b"<a>\x01", 3, Rule::W2),
@@ -63,12 +63,16 @@ const BROKEN: [(&[u8], u64, Rule); 36] = [
     (b"<a b=\"1\" b='2'/>", 0, Rule::W7),
     (b"<a xmlns:p='u' xmlns:q='u' p:x='' q:x=''/>", 0, Rule::W7),
     (b"<a xmlns:p='' xmlns:q='' p:x='' q:x=''/>", 0, Rule::W7),
+    (b"<a xmlns:p='u' p:x='' p:y='' p:x=''/>", 0, Rule::W7),
+    (b"<a xmlns:p='u'><b xmlns:q='u' p:x='' q:x=''/></a>", 15, Rule::W7),
     (b"<x:a b='' b='&;'/>", 0, Rule::W7),
     (b"<a>&nbsp;</a>", 3, Rule::W8),
     (b"<x:a b='&nbsp;'/>", 0, Rule::W8),
     (b"<a>&#0;</a>", 3, Rule::W8),
     (b"<x:a/>", 0, Rule::W9),
     (b"<a xml:x='' y:x=''/>", 0, Rule::W9),
+    (b"<a xmlns:p='' p:x='' x=''/>", 0, Rule::W9),
+    (b"<a xmlns:p='u'><b xmlns:p='v' xmlns:q='u' p:x='' q:x=''/><c q:x=''/></a>", 57, Rule::W9),
     (b"<a xmlns:xml='u'/>", 0, Rule::W9),
     (b"<?xml version=\"1.1\"?><a/>", 0, Rule::W11),
     (
@@ -182,5 +186,57 @@ fn a_tree_says_what_its_page_says(rt: HostRuntime) -> Result<(), Fail> {
     assert_eq!(rt; root.children.len(), 3);
     assert_eq!(rt; shown(rt.alloc(), root)?.as_str(), "t&<s{c}\n");
     assert!(rt; arena.reset().is_ok());
+    Ok(())
+}
+
+/// Pages of an element in another, and the scope of the inner one; the namespace of xml isn't shown.
+const SCOPES: [(&[u8], &str); 6] = [
+    (b"<a xmlns:p='1'><b/></a>", "p=1 xml= "),
+    (b"<a><b xmlns:z='1' xmlns:y='2'/></a>", "xml= y=2 z=1 "),
+    (
+        b"<a xmlns:q='1' xmlns:p='2'><b xmlns:r='4' xmlns:p='3' xmlns:a='5'/></a>",
+        "a=5 p=3 q=1 r=4 xml= ",
+    ),
+    (b"<a xmlns='1'><b xmlns='2'/></a>", "=2 xml= "),
+    (b"<a xmlns='1' xmlns:p='2'><b xmlns=''/></a>", "p=2 xml= "),
+    (
+        b"<a xmlns:p='1'><b xmlns='' xmlns:pp='2' xmlns:o='3'/></a>",
+        "o=3 p=1 pp=2 xml= ",
+    ),
+];
+
+/// The bindings of a scope, in order.
+fn bindings(alloc: Global, scope: &[Binding<'_>]) -> Result<String, NoMemory> {
+    let mut text = String::new(alloc);
+    for binding in scope {
+        text.push_str(binding.prefix)?;
+        text.push('=')?;
+        if binding.prefix != "xml" {
+            text.push_str(binding.ns)?;
+        }
+        text.push(' ')?;
+    }
+    Ok(text)
+}
+
+/// The scope of the first child.
+fn inner_scope(alloc: Global, page: &[u8]) -> Result<String, NoMemory> {
+    let arena = Bump::new(alloc);
+    let mut builder = TreeBuilder::new(alloc, &arena, 7, 256);
+    feed_all(&mut builder, page, 100)?;
+    let Ok(root) = builder.finish() else {
+        return Ok(String::new(alloc));
+    };
+    match root.children.first() {
+        Some(Node::Elem(child)) => bindings(alloc, child.scope),
+        _ => Ok(String::new(alloc)),
+    }
+}
+
+#[test]
+fn a_scope_is_in_order(rt: HostRuntime) -> Result<(), Fail> {
+    for (page, wanted) in SCOPES {
+        assert_eq!(rt; inner_scope(rt.alloc(), page)?.as_str(), wanted);
+    }
     Ok(())
 }

@@ -10,7 +10,6 @@ use crate::meaning::span::{Stop, behind_white, equalled, is_white_text, split};
 use crate::meaning::value::value_of;
 use crate::token::{Attribute, Tag, Token};
 use bumpalo::Bump;
-use bumpalo::collections::into_bump_slice;
 use ix_base::NoMemory;
 use scopes::is_ncname;
 use std::alloc::Global;
@@ -49,6 +48,17 @@ fn attribute_at<'a, 't>(
     }
 }
 
+/// The attributes of a tag, in the arena.
+fn kept<'a>(
+    arena: &'a Bump,
+    attrs: &[Attribute<'a>],
+) -> Result<&'a [Attribute<'a>], NoMemory>
+    ensures { IfOk result (λ s. s.now ≡ attrs.now) }
+{
+    let kept = arena.try_alloc_slice_copy(attrs)?;
+    Ok(kept)
+}
+
 /// Attributes, each behind white space, and whether a `/` ends them.
 fn attributes_in<'a>(
     alloc: Global,
@@ -57,15 +67,15 @@ fn attributes_in<'a>(
 ) -> Result<Option<(&'a [Attribute<'a>], bool)>, NoMemory>
     ensures { IfOk result (λ r. (n : ℕ) → length text.now < n → option_map attributes_and_end r ≡ attributes_in_of n text.now) }
 {
-    let mut attrs = Vec::new(arena);
+    let mut attrs = Vec::new(alloc);
     let mut rest = text;
     loop {
         if is_white_text(rest) {
-            return Ok(Some((into_bump_slice(attrs), false)));
+            return Ok(Some((kept(arena, attrs.as_slice())?, false)));
         }
         let dark = behind_white(rest);
         if dark == "/" {
-            return Ok(Some((into_bump_slice(attrs), true)));
+            return Ok(Some((kept(arena, attrs.as_slice())?, true)));
         }
         if dark.len() == rest.len() {
             return Ok(None);

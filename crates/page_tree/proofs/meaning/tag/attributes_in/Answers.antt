@@ -10,13 +10,13 @@ loop-rest-init c =
 
 pub returns-then-is_white_text : goal.returns-then-is_white_text
 returns-then-is_white_text c = λ n l.
-    ap (λ x. Some (map attribute_of x, false)) c.into_bump_slice.ensures
+    ap (λ x. Some (map attribute_of x, false)) (c.in_ok-kept.ensures ∙ c.as_slice.ensures.value)
     ∙ end-white (map attribute_of c.loop-rest.attrs.items) c.loop-rest.rest.now c.args.text.now n (c.loop-rest.invariant.1 n l) (sym c.if-is_white_text.ensures)
 
 pub returns-then-eq : goal.returns-then-eq
 returns-then-eq c = λ n l.
     let ends : bytes_eq (behind_white c.loop-rest.rest.now) slash ≡ true = ap (λ x. bytes_eq x slash) (sym c.behind_white-dark.ensures) ∙ sym c.if-eq.ensures in
-    ap (λ x. Some (map attribute_of x, true)) c.into_bump_slice-then-eq.ensures
+    ap (λ x. Some (map attribute_of x, true)) (c.in_ok-kept-2.ensures ∙ c.as_slice-then-eq.ensures.value)
     ∙ end-slash (map attribute_of c.loop-rest.attrs.items) c.loop-rest.rest.now c.args.text.now n (c.loop-rest.invariant.1 n l) (sym c.if-is_white_text.ensures) ends
 
 pub returns-then-dark-rest : goal.returns-then-dark-rest
