@@ -1,0 +1,9 @@
+pub mod FormatLaws
+mod FractionRows
+pub mod ItemLaws
+mod ItemRows
+mod NumberRows
+pub mod OneItem
+pub mod Renumbered
+mod SignLaws
+pub mod ValueLaws

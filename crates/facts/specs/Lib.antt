@@ -1,0 +1,8 @@
+pub mod Along
+pub mod Exactness
+pub mod Formats
+pub mod FractionValue
+pub mod ItemValue
+pub mod NumberValue
+pub mod Said
+pub mod TextValue

@@ -1,0 +1,159 @@
+//! The formats of the Transformation Rules Registry 4, and what they make of texts.
+ghost use Rattle.std.specs.Prelude.{◌≡◌, ◌≢◌, ◌+◌, ◌≤◌, ℕ, List, IfOk, IfSome, IfNone, IsErrOf, IsTrue, IsUtf8, length, take, vec_len, false};
+ghost use Rattle.std.specs.Str.{chars};
+ghost use Rattle.ix_base.specs.Trees.{named};
+ghost use Rattle.tr4_dates.specs.Transformation.{Tr};
+ghost use Rattle.tr4_dates.specs.declared.TrFault.TheVariants as transformation;
+ghost use Rattle.tr4_numbers.specs.Transformation.{IsValue, fixed_value};
+ghost use Rattle.facts.specs.Formats.{IsFormat, Transforms, gives_number, name_of, registry_4};
+ghost use Rattle.facts.specs.Said.{said};
+ghost use Rattle.facts.specs.TextValue.{IsTransformed};
+ghost use Rattle.facts.specs.declared.format.Format.{Format as FormatOf};
+
+use crate::fault::ItemFault;
+use ix_base::{Name, NoMemory, Rule, Text};
+use std::alloc::Global;
+use tr4_dates::{DateFormat, TrFault};
+use tr4_numbers::{FixedFormat, NumberFormat, values_are_unsigned};
+
+const REGISTRY_4: &str = "http://www.xbrl.org/inlineXBRL/transformation/2020-02-12";
+
+/// A format of the registry.
+#[derive(Clone, Copy)]
+pub(crate) enum Format {
+    Date(DateFormat),
+    Fixed(FixedFormat),
+    Number(NumberFormat),
+}
+
+#[tactic(auto, unfolding(crate::specs::Formats::registry_4))]
+fn is_registry_4(ns: &str) -> bool
+    ensures found { IsTrue result → ns.now ≡ registry_4 }
+    ensures none { result ≡ false → ns.now ≢ registry_4 }
+{
+    ns == REGISTRY_4
+}
+
+/// The format with this local name.
+fn format_in_registry(local: &str) -> Option<Format>
+    ensures found { IfSome result (λ format. local.now ≡ name_of format) }
+    ensures none { IfNone result ((format : FormatOf) → local.now ≢ name_of format) }
+{
+    if let Some(format) = NumberFormat::named(local) {
+        return Some(Format::Number(format));
+    }
+    if let Some(format) = FixedFormat::named(local) {
+        return Some(Format::Fixed(format));
+    }
+    match DateFormat::named(local) {
+        Some(format) => Some(Format::Date(format)),
+        None => None,
+    }
+}
+
+impl Format {
+    /// The format of this name.
+    pub(crate) fn named(name: Name<'_>) -> Option<Format>
+        ensures found { IfSome result (λ format. IsFormat (named name.entry) format) }
+        ensures none { IfNone result ((format : FormatOf) → ¬ IsFormat (named name.entry) format) }
+    {
+        if is_registry_4(name.ns) {
+            return format_in_registry(name.local);
+        }
+        None
+    }
+
+    /// Whether a number may have it.
+    pub(crate) fn gives_number(self) -> bool
+        ensures { result ≡ gives_number self }
+    {
+        match self {
+            Format::Date(_) => false,
+            Format::Fixed(FixedFormat::Zero) => true,
+            Format::Fixed(_) => false,
+            Format::Number(_) => true,
+        }
+    }
+}
+
+/// So many zeros.
+pub(crate) fn zeros(alloc: Global, count: usize) -> Result<Vec<u8>, NoMemory>
+    ensures { IfOk result (λ v. vec_len v ≡ count) }
+{
+    Ok(vec![in alloc; 0u8; count]?)
+}
+
+/// The text at the front of a buffer, in so many bytes.
+pub(crate) fn text_at(alloc: Global, out: &[u8], count: usize) -> Result<Text, NoMemory>
+    requires within { count ≤ length out.now }
+    requires text { IsUtf8 (take count out.now) }
+    ensures { IfOk result (λ v. v ≡ take count out.now) }
+{
+    match str::from_utf8(&out[..count]) {
+        Ok(text) => Text::of(alloc, text),
+        Err(_) => unreachable!(),
+    }
+}
+
+/// What a number format makes of a text, written into this buffer.
+fn number_in(
+    alloc: Global,
+    format: NumberFormat,
+    text: &str,
+    out: &mut [u8],
+) -> Result<Text, TrFault>
+    requires { length text.now + 1 ≤ length out.old }
+    ensures ok { IfOk result (λ v. IsValue format (chars text.now) v) }
+    ensures err { IsErrOf result transformation.NotInGrammar → (v : List ℕ) → ¬ IsValue format (chars text.now) v }
+{
+    values_are_unsigned();
+    match tr4_numbers::apply(format, text, out) {
+        Some(count) => Ok(text_at(alloc, out, count)?),
+        None => Err(TrFault::NotInGrammar),
+    }
+}
+
+/// What a number format makes of a text.
+fn number_of(alloc: Global, format: NumberFormat, text: &str) -> Result<Text, TrFault>
+    ensures ok { IfOk result (λ v. IsValue format (chars text.now) v) }
+    ensures err { IsErrOf result transformation.NotInGrammar → (v : List ℕ) → ¬ IsValue format (chars text.now) v }
+{
+    let mut out = zeros(alloc, text.len() + 1)?;
+    number_in(alloc, format, text, out.as_mut_slice())
+}
+
+/// The value of a fixed format.
+fn fixed_of(alloc: Global, format: FixedFormat) -> Result<Text, TrFault>
+    ensures ok { IfOk result (λ v. v ≡ fixed_value format) }
+    ensures err { ¬ IsErrOf result transformation.NotInGrammar }
+{
+    Ok(Text::of(alloc, format.value())?)
+}
+
+/// What a date format makes of a text.
+fn date_of(alloc: Global, format: DateFormat, text: &str) -> Result<Text, TrFault>
+    ensures ok { IfOk result (λ v. Tr format text.now v) }
+    ensures err { IsErrOf result transformation.NotInGrammar → (v : List ℕ) → ¬ Tr format text.now v }
+{
+    tr4_dates::apply(alloc, format, text)
+}
+
+/// What a format makes of a text.
+pub(crate) fn transformed(alloc: Global, format: Format, text: &str) -> Result<Text, TrFault>
+    ensures ok { IfOk result (λ v. Transforms format text.now v) }
+    ensures err { IsErrOf result transformation.NotInGrammar → (v : List ℕ) → ¬ Transforms format text.now v }
+{
+    match format {
+        Format::Date(format) => date_of(alloc, format, text),
+        Format::Fixed(format) => fixed_of(alloc, format),
+        Format::Number(format) => number_of(alloc, format, text),
+    }
+}
+
+/// What the format of this name makes of a text.
+pub(crate) fn text_in(alloc: Global, name: Name<'_>, text: &str) -> Result<Text, ItemFault>
+    ensures { IfSome (said result) (IsTransformed (named name.entry) text.now) }
+{
+    let format = Format::named(name).ok_or(ItemFault::Breach(Rule::V1))?;
+    Ok(transformed(alloc, format, text)?)
+}

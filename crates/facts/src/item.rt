@@ -1,0 +1,244 @@
+//! Items.
+ghost use Rattle.std.specs.Prelude.{◌≡◌, ◌<◌, [], true, All, codes, length, map, option_map, unwrap_or, IfOk, IfSome};
+ghost use Rattle.ix_base.specs.Asks.{Asks};
+ghost use Rattle.ix_base.specs.Chain as chains;
+ghost use Rattle.ix_base.specs.Elements.{place_of, placed};
+ghost use Rattle.ix_base.specs.Located.{Located, located, base_in, is_kind};
+ghost use Rattle.ix_base.specs.Markup.{plain_along};
+ghost use Rattle.ix_base.specs.OwnNames.{own};
+ghost use Rattle.ix_base.specs.Readers as reader;
+ghost use Rattle.ix_base.specs.Trees.{named, tree_of};
+ghost use Rattle.ix_base.specs.Viewed as viewed;
+ghost use Rattle.ix_base.specs.declared.kind.Kind.TheVariants as kinds;
+ghost use Rattle.facts.specs.Along.{raw_along, text_along};
+ghost use Rattle.facts.specs.ItemValue as spec;
+ghost use Rattle.facts.specs.NumberValue as numbers;
+ghost use Rattle.facts.specs.Said.{as_plain, said};
+ghost use Rattle.facts.specs.TextValue.{IsTransformed};
+
+use crate::exact::accuracy_of;
+use crate::fault::ItemFault;
+use crate::format::text_in;
+use crate::fraction::fraction_value;
+use crate::number::nested_value;
+use escape_text::{markup, plain};
+use fact_view::{fact_name, view};
+use ix_base::namespaces::XHTML;
+use ix_base::{Element, Item, Kind, Name, NoMemory, OwnName, Spot, Text, Value, kind_of, token_at};
+use scopes::Bases;
+use std::alloc::Global;
+
+/// The plain text of a chain.
+fn plain_of(alloc: Global, chain: &[&Spot<'_>]) -> Result<Text, NoMemory>
+    ensures { IfOk result (λ t. t ≡ plain_along (map (λ s. located s.now) chain.now)) }
+{
+    let mut text = Text::of(alloc, "")?;
+    plain(chain, &mut text)?;
+    Ok(text)
+}
+
+/// The markup of a chain within the namespace of xhtml, links resolved.
+#[tactic(auto, unfolding(ix_base::specs::Namespaces::xhtml_namespace))]
+fn markup_of(alloc: Global, chain: &[&Spot<'_>], bases: &Bases) -> Result<Text, NoMemory>
+    requires { All (λ s. (place_of s.now).page < length bases.now.pages) chain.now }
+    ensures { IfOk result (λ t. t ≡ raw_along (base_in bases.now.pages) true (map (λ s. located s.now) chain.now)) }
+{
+    let mut text = Text::of(alloc, "")?;
+    markup(alloc, chain, bases, XHTML, &mut text)?;
+    Ok(text)
+}
+
+/// The text of a chain as it stands: as markup where it is to be escaped, or else plain.
+fn raw_of(alloc: Global, chain: &[&Spot<'_>], bases: &Bases, escape: bool) -> Result<Text, NoMemory>
+    requires { All (λ s. (place_of s.now).page < length bases.now.pages) chain.now }
+    ensures { IfOk result (λ t. t ≡ raw_along (base_in bases.now.pages) escape (map (λ s. located s.now) chain.now)) }
+{
+    if escape {
+        markup_of(alloc, chain, bases)
+    } else {
+        plain_of(alloc, chain)
+    }
+}
+
+/// What the format of this name makes of the plain text of a chain.
+fn formatted(alloc: Global, chain: &[&Spot<'_>], name: Name<'_>) -> Result<Text, ItemFault>
+    ensures { IfSome (said result) (IsTransformed (named name.entry) (plain_along (map (λ s. located s.now) chain.now))) }
+{
+    let text = plain_of(alloc, chain)?;
+    text_in(alloc, name, text.as_str())
+}
+
+/// The value of a nonNumeric.
+fn text_value(
+    alloc: Global,
+    chain: &[&Spot<'_>],
+    bases: &Bases,
+    escape: bool,
+    format: Option<Name<'_>>,
+) -> Result<Text, ItemFault>
+    requires { All (λ s. (place_of s.now).page < length bases.now.pages) chain.now }
+    ensures { IfSome (said result) (spec.IsTextBy (option_map named format.entry)
+        (text_along (base_in bases.now.pages) escape (map (λ s. located s.now) chain.now))) }
+{
+    match format {
+        Some(name) => formatted(alloc, chain, name),
+        None => Ok(raw_of(alloc, chain, bases, escape)?),
+    }
+}
+
+/// A text as a value.
+fn plain_value(text: Result<Text, ItemFault>) -> Result<Value, ItemFault>
+    ensures { said result ≡ option_map as_plain (said text) }
+{
+    Ok(Value::Plain(text?))
+}
+
+/// The value of a nonNumeric that isn't nil.
+fn nonnumeric_value(
+    alloc: Global,
+    spot: &Spot<'_>,
+    chain: &[&Spot<'_>],
+    bases: &Bases,
+) -> Result<Value, ItemFault>
+    requires { All (λ s. (place_of s.now).page < length bases.now.pages) chain.now }
+    ensures { IfSome (said result) (spec.IsPlain (spec.IsTextBy (viewed.view (placed spot.now).tree).format
+        (text_along (base_in bases.now.pages) (viewed.view (placed spot.now).tree).escape (map (λ s. located s.now) chain.now)))) }
+{
+    let seen = view(spot);
+    plain_value(text_value(alloc, chain, bases, seen.escape, seen.format))
+}
+
+/// The value of a nonFraction that isn't nil.
+fn nonfraction_value(alloc: Global, e: &Element<'_>) -> Result<Value, ItemFault>
+    ensures { IfSome (said result) (spec.IsPlain (numbers.IsNumberValue
+        (numbers.number_by (viewed.view (tree_of e.now)) (numbers.number_text (tree_of e.now).children)))) }
+{
+    plain_value(nested_value(alloc, e))
+}
+
+/// The value of an item of this kind that isn't nil.
+fn value_as(
+    alloc: Global,
+    kind: Kind,
+    spot: &Spot<'_>,
+    chain: &[&Spot<'_>],
+    bases: &Bases,
+) -> Result<Value, ItemFault>
+    requires { All (λ s. (place_of s.now).page < length bases.now.pages) chain.now }
+    ensures { IfSome (said result) (spec.IsValueAs kind
+        (text_along (base_in bases.now.pages) (viewed.view (placed spot.now).tree).escape (map (λ s. located s.now) chain.now))
+        (placed spot.now).tree) }
+{
+    match kind {
+        Kind::NonNumeric => nonnumeric_value(alloc, spot, chain, bases),
+        Kind::Fraction => fraction_value(alloc, spot.element),
+        _ => nonfraction_value(alloc, spot.element),
+    }
+}
+
+/// The value of an item.
+fn value_of(
+    alloc: Global,
+    spot: &Spot<'_>,
+    chain: &[&Spot<'_>],
+    bases: &Bases,
+) -> Result<Value, ItemFault>
+    requires { All (λ s. (place_of s.now).page < length bases.now.pages) chain.now }
+    ensures { IfSome (said result) (spec.IsValueOf
+        (text_along (base_in bases.now.pages) (viewed.view (placed spot.now).tree).escape (map (λ s. located s.now) chain.now))
+        (placed spot.now)) }
+{
+    if view(spot).nil {
+        return Ok(Value::Nil);
+    }
+    value_as(alloc, kind_of(spot), spot, chain, bases)
+}
+
+/// A name that is owned.
+fn own_name(alloc: Global, name: Name<'_>) -> Result<OwnName, NoMemory>
+    ensures { IfOk result (λ n. n ≡ own (named name.entry)) }
+{
+    Ok(OwnName {
+        ns: Text::of(alloc, name.ns)?,
+        local: Text::of(alloc, name.local)?,
+    })
+}
+
+/// The token of an attribute, owned.
+fn own_token(alloc: Global, e: &Element<'_>, local: &str) -> Result<Option<Text>, NoMemory>
+    ensures { IfOk result (λ o. o ≡ reader.token_at local.now (tree_of e.now)) }
+{
+    match token_at(e, local) {
+        Some(token) => Ok(Some(Text::of(alloc, token)?)),
+        None => Ok(None),
+    }
+}
+
+/// The id of the context of an item.
+fn context_of(alloc: Global, e: &Element<'_>) -> Result<Text, NoMemory>
+    ensures { IfOk result (λ t. t ≡ unwrap_or (reader.token_at (codes "contextRef") (tree_of e.now)) []) }
+{
+    match token_at(e, "contextRef") {
+        Some(token) => Text::of(alloc, token),
+        None => Text::of(alloc, ""),
+    }
+}
+
+/// The id of the unit of an item of this kind.
+fn unit_of(alloc: Global, kind: Kind, e: &Element<'_>) -> Result<Option<Text>, NoMemory>
+    ensures { IfOk result (λ o. o ≡ spec.unit_of kind (tree_of e.now)) }
+{
+    match kind {
+        Kind::NonFraction | Kind::Fraction => own_token(alloc, e, "unitRef"),
+        _ => Ok(None),
+    }
+}
+
+/// An item of this kind with a value.
+fn item_with(alloc: Global, kind: Kind, e: &Element<'_>, value: Value) -> Result<Item, NoMemory>
+    ensures { IfOk result (λ i. i ≡ spec.item_with kind (tree_of e.now) value) }
+{
+    Ok(Item {
+        name: own_name(alloc, fact_name(e))?,
+        context: context_of(alloc, e)?,
+        unit: unit_of(alloc, kind, e)?,
+        accuracy: accuracy_of(alloc, kind, e)?,
+        id: own_token(alloc, e, "id")?,
+        value,
+    })
+}
+
+/// What an item over a chain says, or the lowest rule of values that it breaks.
+fn item_over(
+    alloc: Global,
+    spot: &Spot<'_>,
+    chain: &[&Spot<'_>],
+    bases: &Bases,
+) -> Result<Item, ItemFault>
+    requires { All (λ s. (place_of s.now).page < length bases.now.pages) chain.now }
+    ensures { IfSome (said result) (spec.IsItemOf
+        (text_along (base_in bases.now.pages) (viewed.view (placed spot.now).tree).escape (map (λ s. located s.now) chain.now))
+        (placed spot.now)) }
+{
+    let value = value_of(alloc, spot, chain, bases)?;
+    Ok(item_with(alloc, kind_of(spot), spot.element, value)?)
+}
+
+/// What an item of a set says, or the lowest rule of values that it breaks.
+///
+/// For a nonNumeric the chain is its chain in the set; for another item the chain isn't looked at. An item that is nil
+/// breaks no rule of values, whatever its format and its content. The fault is `Breach` exactly where the item breaks a
+/// rule of values, since an item says one thing alone ([`one_item`](crate::laws::one_item)).
+pub fn item_of(
+    alloc: Global,
+    spot: &Spot<'_>,
+    chain: &[&Spot<'_>],
+    bases: &Bases,
+) -> Result<Item, ItemFault>
+    requires { All (λ s. (place_of s.now).page < length bases.now.pages) chain.now }
+    ensures { (a : Asks Located)
+        → (is_kind kinds.NonNumeric (located spot.now) ≡ true → map (λ s. located s.now) chain.now ≡ chains.chain a (located spot.now))
+        → IfSome (said result) (spec.IsItem (base_in bases.now.pages) a (located spot.now)) }
+{
+    item_over(alloc, spot, chain, bases)
+}

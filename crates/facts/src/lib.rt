@@ -1,0 +1,17 @@
+//! What the items of a set say, the rules of values that they break, and the contexts and units that they miss.
+#![tactic(auto)]
+
+mod exact;
+mod fault;
+mod format;
+mod fraction;
+mod item;
+pub mod laws;
+mod links;
+mod number;
+#[cfg(test)]
+mod tests;
+
+pub use fault::ItemFault;
+pub use item::item_of;
+pub use links::refs_of;
