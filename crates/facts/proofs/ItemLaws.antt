@@ -1,10 +1,9 @@
 -- What is said of a value, from what is said of its texts.
-use Rattle.std.proofs.Common.{◌≡◌, refl, List, ℕ, Option, Some, None, option_map, Result, Ok, Err, IfSome}
+use Rattle.std.proofs.Common.{◌≡◌, refl, List, ℕ, Option, Some, None, Result, IfSome}
 use Rattle.ix_base.specs.declared.content.Value.{Value}
 use Rattle.ix_base.specs.declared.rule.Rule.{Rule}
 use Rattle.facts.specs.FractionValue.{fraction}
-use Rattle.facts.specs.ItemValue.{IsPlain}
-use Rattle.facts.specs.Said.{as_plain, said_both}
+use Rattle.facts.specs.Said.{said_both}
 
 pub fraction_is : (P Q : Result (List ℕ) Rule → Type 0) (a b : Option (Result (List ℕ) Rule)) → IfSome a P → IfSome b Q
     → IfSome (said_both a b)

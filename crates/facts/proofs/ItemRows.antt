@@ -1,11 +1,9 @@
 -- Small items, and what they say.
-use Rattle.std.proofs.Common.{◌≡◌, refl, ℕ, true, false, List, [], ◌∷◌, codes, Option, Some, None, Ok, Err, pos, Result}
+use Rattle.std.proofs.Common.{◌≡◌, refl, ℕ, true, false, List, [], ◌∷◌, codes, Some, None, Ok, pos}
 use Rattle.std.specs.Str.{chars as chars_of, is_utf8}
 use lib.Utf8.{encode}
 use Rattle.ix_base.specs.declared.content.Accuracy.TheVariants as accuracy
-use Rattle.ix_base.specs.declared.content.Item.{Item}
 use Rattle.ix_base.specs.declared.content.OwnName.{OwnName}
-use Rattle.ix_base.specs.declared.content.Value.{Value}
 use Rattle.ix_base.specs.declared.content.Value.TheVariants as value
 use Rattle.ix_base.specs.Asks.{asks}
 use Rattle.ix_base.specs.Elements.{placed_at, tree_at}

@@ -6,4 +6,5 @@ mod NumberRows
 pub mod OneItem
 pub mod Renumbered
 mod SignLaws
+pub mod SomeItem
 pub mod ValueLaws

@@ -1,18 +1,18 @@
 -- Where the pages have other numbers, each element says what it said.
-use Rattle.std.proofs.Common.{◌≡◌, ◌∙◌, ap, sym, refl, subst, ℕ, ◌==◌, Bool, true, false, List, [], ◌∷◌, ◌++◌, map, Option, Some, Result}
+use Rattle.std.proofs.Common.{◌≡◌, ◌∙◌, ap, sym, refl, subst, ℕ, Bool, true, false, List, [], ◌∷◌, ◌++◌, map, Some, Result}
 use Rattle.ix_base.specs.declared.content.Item.{Item}
 use Rattle.ix_base.specs.declared.rule.Rule.{Rule}
 use Rattle.ix_base.specs.Asks.{asks}
 use Rattle.ix_base.specs.Chain.{chain}
 use Rattle.ix_base.specs.Located.{Located}
-use Rattle.ix_base.specs.Markup.{body, body_along, markup_along, plain, plain_along}
+use Rattle.ix_base.specs.Markup.{body, body_along, plain, plain_along}
 use Rattle.ix_base.specs.Namespaces.{xhtml_namespace}
 use Rattle.ix_base.specs.Readers.{escapes}
 use Rattle.ix_base.specs.Written.{Markup, written}
 use Rattle.id_table.proofs.Renumbered.{chain-moved}
 use Rattle.id_table.specs.Moved.{moved, KeepsApart}
 use Rattle.facts.specs.Along.{raw_along, text_along}
-use Rattle.facts.specs.ItemValue.{ItemText, IsItem, IsItemOf, item_text}
+use Rattle.facts.specs.ItemValue.{ItemText, IsItem, IsItemOf}
 use Rattle.facts.proofs.OneItem.{text-along}
 
 module _ (bases new_bases : Located → List ℕ) (numbers : ℕ → ℕ) (same : (e : Located) → new_bases (moved numbers e) ≡ bases e) where

@@ -4,9 +4,9 @@ use Rattle.std.proofs.lemmas.Bool.{leb-true}
 use Rattle.std.specs.Str.{chars}
 use Rattle.ix_base.specs.Decimals.{AreDigits, IsUnsigned}
 use Rattle.ix_base.specs.Trees.{Named}
-use Rattle.tr4_numbers.specs.Transformation.{AreDigits as AreTested, IsValue}
+use Rattle.tr4_numbers.proofs.Values.{value-unsigned}
+use Rattle.tr4_numbers.specs.Transformation.{AreDigits as AreTested}
 use Rattle.tr4_numbers.specs.Values.{IsUnsignedDecimal}
-use Rattle.tr4_numbers.specs.declared.NumberFormat.{NumberFormat}
 use Rattle.tr4_numbers.specs.declared.FixedFormat.TheVariants.{Empty, False, True, Zero}
 use Rattle.facts.specs.Formats.{Transforms, gives_number}
 use Rattle.facts.specs.NumberValue.{IsDigits}
@@ -41,15 +41,14 @@ zero_is_unsigned = record {
   spelled = inr (refl, refl);
 }
 
-module _ (decimal : (format : NumberFormat) (text value : List ℕ) → IsValue format text value → IsUnsignedDecimal value) where
-  of_format : (format : Format) (text d : List ℕ) → Transforms format text d → gives_number format ≡ true → IsUnsigned d
-  of_format (Date f) text d h gives = absurd (let z : false ≡ true = gives in cc)
-  of_format (Number f) text d h gives = is_unsigned d (decimal f (chars text) d h)
-  of_format (Fixed Zero) text d h gives = subst IsUnsigned (sym h) zero_is_unsigned
-  of_format (Fixed Empty) text d h gives = absurd (let z : false ≡ true = gives in cc)
-  of_format (Fixed False) text d h gives = absurd (let z : false ≡ true = gives in cc)
-  of_format (Fixed True) text d h gives = absurd (let z : false ≡ true = gives in cc)
+of_format : (format : Format) (text d : List ℕ) → Transforms format text d → gives_number format ≡ true → IsUnsigned d
+of_format (Date f) text d h gives = absurd (let z : false ≡ true = gives in cc)
+of_format (Number f) text d h gives = is_unsigned d (value-unsigned f (chars text) d h)
+of_format (Fixed Zero) text d h gives = subst IsUnsigned (sym h) zero_is_unsigned
+of_format (Fixed Empty) text d h gives = absurd (let z : false ≡ true = gives in cc)
+of_format (Fixed False) text d h gives = absurd (let z : false ≡ true = gives in cc)
+of_format (Fixed True) text d h gives = absurd (let z : false ≡ true = gives in cc)
 
-  pub unsigned_digits : (format : Option Named) (text d : List ℕ) → IsDigits format text (Ok d) → IsUnsigned d
-  unsigned_digits None text d h = h.1
-  unsigned_digits (Some name) text d h = of_format h.0 text d h.2 h.3
+pub unsigned_digits : (format : Option Named) (text d : List ℕ) → IsDigits format text (Ok d) → IsUnsigned d
+unsigned_digits None text d h = h.1
+unsigned_digits (Some name) text d h = of_format h.0 text d h.2 h.3

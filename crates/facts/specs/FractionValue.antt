@@ -1,5 +1,5 @@
 -- The value of a fraction, or the lowest rule that it breaks (Inline XBRL 1.1, fraction, numerator and denominator).
-use Rattle.std.specs.Prelude.{◌≡◌, ℕ, Bool, false, List, [], Option, Some, None, Result, Ok, Err, if◌then◌else◌, bytes_eq, codes, pos}
+use Rattle.std.specs.Prelude.{◌≡◌, ℕ, false, List, [], Option, Some, None, Result, Ok, Err, if◌then◌else◌, bytes_eq, codes, pos}
 use Rattle.std.specs.Option.{option_or}
 use Rattle.std.specs.declared.cmp.Ordering.{Ordering}
 use Rattle.std.specs.declared.cmp.Ordering.TheVariants.{Less, Equal, Greater}

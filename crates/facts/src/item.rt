@@ -227,8 +227,9 @@ fn item_over(
 /// What an item of a set says, or the lowest rule of values that it breaks.
 ///
 /// For a nonNumeric the chain is its chain in the set; for another item the chain isn't looked at. An item that is nil
-/// breaks no rule of values, whatever its format and its content. The fault is `Breach` exactly where the item breaks a
-/// rule of values, since an item says one thing alone ([`one_item`](crate::laws::one_item)).
+/// breaks no rule of values, whatever its format and its content. Want of memory aside, the fault is `Breach` exactly where
+/// the item breaks a rule of values: each says one thing ([`some_item`](crate::laws::some_item),
+/// [`one_item`](crate::laws::one_item)).
 pub fn item_of(
     alloc: Global,
     spot: &Spot<'_>,

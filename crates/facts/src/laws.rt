@@ -27,6 +27,12 @@ pub fn one_item()
         → IsItem bases a e r → IsItem bases a e s → r ≡ s }
 {}
 
+/// No element of a set is without an item and without a rule that it breaks.
+pub fn some_item()
+    ensures { (bases : Located → List ℕ) (a : Asks Located) (e : Located)
+        → ((r : Result Item Rule) → ¬ IsItem bases a e r) → ⊥ }
+{}
+
 /// Where the pages have other numbers, each element says what it said.
 pub fn renumbered_item()
     ensures { (bases new_bases : Located → List ℕ) (numbers : ℕ → ℕ) → KeepsApart numbers

@@ -15,7 +15,6 @@ use ix_base::{Element, Name, NoMemory, Node, Rule, Text, attr_of, is_ix, token};
 use scale_sign::{is_unsigned, numbers_are_text, scaled};
 use scopes::name_at;
 use std::alloc::Global;
-use tr4_numbers::values_are_unsigned;
 use value_forms::scale_of;
 
 /// The texts among some nodes, joined.
@@ -124,7 +123,6 @@ pub(crate) fn number_value(
     requires { unsigned_abs scale ≤ 100 }
     ensures { IfSome (said result) (spec.IsNumberValue (spec.number_at (option_map named format.entry) scale negative text.now)) }
 {
-    values_are_unsigned();
     let digits = digits_of(alloc, format, text)?;
     Ok(moved(alloc, digits.as_str(), scale, negative)?)
 }

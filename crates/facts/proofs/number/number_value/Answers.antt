@@ -7,7 +7,7 @@ use Rattle.facts.proofs.number.number_value.Goals as goal
 pub moved-requires-clause-unsigned : goal.moved-requires-clause-unsigned
 moved-requires-clause-unsigned c =
     rw (c.as_str.ensures)
-    (unsigned_digits c.values_are_unsigned.ensures.decimal (option_map named c.args.format) c.args.text.now _ c.in_ok-digits.ensures)
+    (unsigned_digits (option_map named c.args.format) c.args.text.now _ c.in_ok-digits.ensures)
 
 pub returns : goal.returns
 returns c =
