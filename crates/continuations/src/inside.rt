@@ -46,8 +46,8 @@ fn enter_at(
 ) -> Result<(), NoMemory>
     ensures { OnOk result ((page offset : ℕ) → numbers_at numbers.new page offset
         ≡ (if (key.0 == page) && (key.1 == offset)
-            then numbers_at numbers.old page offset ++ number ∷ []
-            else numbers_at numbers.old page offset)) }
+        then numbers_at numbers.old page offset ++ number ∷ []
+        else numbers_at numbers.old page offset)) }
 {
     let mut here = take_at(alloc, numbers, key);
     here.push(number)?;
@@ -64,8 +64,8 @@ fn enter(
 ) -> Result<(), NoMemory>
     ensures { OnOk result ((page offset : ℕ) → numbers_at numbers.new page offset
         ≡ (if is_at page offset (located spot.now)
-            then numbers_at numbers.old page offset ++ number ∷ []
-            else numbers_at numbers.old page offset)) }
+        then numbers_at numbers.old page offset ++ number ∷ []
+        else numbers_at numbers.old page offset)) }
 {
     let place = spot.element.place;
     enter_at(alloc, numbers, (place.page, place.offset), number)

@@ -142,7 +142,7 @@ fn push_shown(
 ) -> Result<(), NoMemory>
     ensures { OnOk result (out.new ≡ out.old
         ++ shown_markup (is_opened_name (spec.manner (tree_of element.now).head.name))
-            (option_map (λ b. b.now) base.entry) around.now (tree_of element.now)) }
+        (option_map (λ b. b.now) base.entry) around.now (tree_of element.now)) }
 {
     if is_opened(element) {
         return push_nodes(alloc, base, around, element.children, out);

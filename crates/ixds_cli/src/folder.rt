@@ -43,7 +43,10 @@ pub struct SystemFolder<'a, R: Files> {
 }
 
 impl<'a, R: Files> SystemFolder<'a, R> {
-    pub fn new(rt: &'a R) -> SystemFolder<'a, R> {
+    /// The folders of this system.
+    pub fn new(rt: &'a R) -> SystemFolder<'a, R>
+        ensures { result.rt ≡ rt }
+    {
         SystemFolder { rt }
     }
 }

@@ -142,7 +142,10 @@ fn a_piece_is_read_or_the_read_fails(rt: HostRuntime) -> Result<(), Fail> {
     for (interrupts, most, end, due) in rows {
         let mut file = Slow::new(alloc, interrupts, most, end);
         let mut buf = [0; 4];
-        assert!(rt; read_some(&mut file, &mut buf) == due, "{interrupts} {most} {end}");
+        assert!(rt;
+            read_some(&mut file, &mut buf) == due,
+            "{interrupts} {most} {end}"
+        );
     }
     Ok(())
 }
@@ -160,7 +163,10 @@ fn a_text_is_put_whole_or_fails(rt: HostRuntime) -> Result<(), Fail> {
     for (interrupts, most, end, is_put) in rows {
         let mut out = StdoutText::new(Slow::new(alloc, interrupts, most, end));
         assert!(rt; out.put(b"").is_ok());
-        assert!(rt; out.put(b"ten bytes\n").is_ok() == is_put, "{interrupts} {most} {end}");
+        assert!(rt;
+            out.put(b"ten bytes\n").is_ok() == is_put,
+            "{interrupts} {most} {end}"
+        );
     }
     let mut out = StdoutText::new(io::writer(&rt));
     out.put(b"printed by the test of the text\n")?;
@@ -270,9 +276,7 @@ fn end_of(alloc: Global, words: io::Result<Args>) -> Result<ExitCode, Fail> {
     let mut sink = MemTargets::new(alloc, 4, 4000, Vec::new(alloc))?;
     let mut out = MemText::new(alloc, 1000, Vec::new(alloc))?;
     let mut err = Slow::new(alloc, 0, 100, 100);
-    let end = run_words(
-        alloc, words, &mut pages, &mut sink, &mut out, &mut err,
-    );
+    let end = run_words(alloc, words, &mut pages, &mut sink, &mut out, &mut err);
     Ok(end)
 }
 
@@ -342,7 +346,10 @@ fn no_half_target_stands(rt: HostRuntime) -> Result<(), Fail> {
             };
             assert!(rt; is_done == is_written, "{fails}");
             assert!(rt; !sink.folder().stands("d/instance-x.xbrl.part"), "{fails}");
-            assert!(rt; sink.folder().stands("d/instance-x.xbrl") == (stood || is_written), "{fails}");
+            assert!(rt;
+                sink.folder().stands("d/instance-x.xbrl") == (stood || is_written),
+                "{fails}"
+            );
         }
     }
     Ok(())
@@ -352,9 +359,21 @@ fn no_half_target_stands(rt: HostRuntime) -> Result<(), Fail> {
 fn a_person_is_told_what_failed(rt: HostRuntime) -> Result<(), Fail> {
     let alloc = rt.alloc();
     let rows: [(Status, Option<(&str, &str)>, &[u8]); 6] = [
-        (Status::WriteFault, Some(("d", "")), b"ixds: cannot write d/instance.xbrl\n"),
-        (Status::WriteFault, Some(("d", "x")), b"ixds: cannot write d/instance-x.xbrl\n"),
-        (Status::WriteFault, None, b"ixds: cannot write standard output\n"),
+        (
+            Status::WriteFault,
+            Some(("d", "")),
+            b"ixds: cannot write d/instance.xbrl\n",
+        ),
+        (
+            Status::WriteFault,
+            Some(("d", "x")),
+            b"ixds: cannot write d/instance-x.xbrl\n",
+        ),
+        (
+            Status::WriteFault,
+            None,
+            b"ixds: cannot write standard output\n",
+        ),
         (Status::NoMemory, None, b"ixds: no memory is left\n"),
         (Status::Done, None, b""),
         (Status::ReadFault, None, b""),

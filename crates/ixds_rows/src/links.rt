@@ -242,9 +242,19 @@ fn chain_text(alloc: Global, pages: &[(&str, &str)], head: &str) -> Result<Optio
 }
 
 /// The first of these orders in which four pages don't give this text; their number where each gives it.
-fn wrong_order(alloc: Global, pages: &[(&str, &str); 4], orders: &[[usize; 4]], due: &str) -> Result<usize, Fail> {
+fn wrong_order(
+    alloc: Global,
+    pages: &[(&str, &str); 4],
+    orders: &[[usize; 4]],
+    due: &str,
+) -> Result<usize, Fail> {
     for (i, &[a, b, c, d]) in orders.iter().enumerate() {
-        let (Some(a), Some(b), Some(c), Some(d)) = (pages.get(a), pages.get(b), pages.get(c), pages.get(d)) else {
+        let (Some(a), Some(b), Some(c), Some(d)) = (
+            pages.get(a),
+            pages.get(b),
+            pages.get(c),
+            pages.get(d),
+        ) else {
             return Ok(i);
         };
         match chain_text(alloc, &[*a, *b, *c, *d], "t1")? {
@@ -297,7 +307,10 @@ fn links_break_these_rules_and_no_others(rt: HostRuntime) -> Result<(), Fail> {
 #[test]
 fn chains_stand_in_the_order_of_their_links(rt: HostRuntime) -> Result<(), Fail> {
     let alloc = rt.alloc();
-    assert_eq!(rt; wrong_order(alloc, &FOUR, &ORDERS, "One two, three, four.")?, 24);
+    assert_eq!(rt;
+        wrong_order(alloc, &FOUR, &ORDERS, "One two, three, four.")?,
+        24
+    );
     assert!(rt; chain_text(alloc, &FOUR, "k1")?.is_none());
     assert!(rt; chain_text(alloc, &FOUR[..3], "t1")?.is_none());
     let alone = chain_text(alloc, &[("a", FOOTNOTE)], "k")?.ok_or("no chain")?;

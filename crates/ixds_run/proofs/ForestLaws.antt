@@ -210,10 +210,10 @@ pub some_over : (page : List ℕ → Option (List ℕ)) (names : List (List ℕ)
 some_over page names name rest n left f g long on h =
     let bs = h.bs ++ on.front ∷ [] in
     let most : g.sums.bytes ≤ bytes_in bs =
-        let sum = bytes-more h.bs on.front in
-        let was = h.read.bytes in
-        let now = on.bytes in
-        omega arith in
+    let sum = bytes-more h.bs on.front in
+    let was = h.read.bytes in
+    let now = on.bytes in
+    omega arith in
     read_some (told page names) g bs (over_is bs g long most) (read_over page names name rest n left f g long on h)
 
 -- where the limit is passed, the pages that are told pass it

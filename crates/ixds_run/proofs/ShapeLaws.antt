@@ -104,8 +104,8 @@ header_is t p e =
     let references = references_are b.0.0 p (s.1 ∙ ap (λ (q : List ℕ × Tree). Some q.0) (some_inj k.2)) in
     let resources = resources_are b.0.1 p (k.1 ∙ ap (λ (q : List ℕ × Tree). Some q.1) (some_inj k.2)) in (
       plain_with (WithinHeader p) t space.ix (codes "header") i.0 i.1
-      (two_ok (Looks space.ix (codes "references") []) (Looks space.ix (codes "resources") []) (WithinReferences p) (WithinResources p) i.0 b.0 b.1
-      references.0 references.1 resources.0.0 resources.0.1),
+          (two_ok (Looks space.ix (codes "references") []) (Looks space.ix (codes "resources") []) (WithinReferences p) (WithinResources p) i.0 b.0 b.1
+          references.0 references.1 resources.0.0 resources.0.1),
       resources.1,
     )
 

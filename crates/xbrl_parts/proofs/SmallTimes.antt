@@ -42,15 +42,15 @@ clock_small text n e =
     by_side (bytes_eq text (codes "T24:00:00")) (Some 86400) (cond test (Some (hours * 3600 + minutes * 60 + seconds)) None) n e
     (λ end. let z : 86400 ≡ n = same end in omega arith)
     (λ clock.
-      let c = chosen test (hours * 3600 + minutes * 60 + seconds) n clock in
-      let s = and_parts (is_like (codes "T00:00:00") text && nat_le hours 23 && nat_le minutes 59) (nat_le seconds 59) c.0 in
-      let m = and_parts (is_like (codes "T00:00:00") text && nat_le hours 23) (nat_le minutes 59) s.0 in
-      let h = and_parts (is_like (codes "T00:00:00") text) (nat_le hours 23) m.0 in
-      let a : seconds ≤ 59 = leb-true seconds 59 s.1 in
-      let b : minutes ≤ 59 = leb-true minutes 59 m.1 in
-      let d : hours ≤ 23 = leb-true hours 23 h.1 in
-      let z : hours * 3600 + minutes * 60 + seconds ≡ n = c.1 in
-      omega arith)
+    let c = chosen test (hours * 3600 + minutes * 60 + seconds) n clock in
+    let s = and_parts (is_like (codes "T00:00:00") text && nat_le hours 23 && nat_le minutes 59) (nat_le seconds 59) c.0 in
+    let m = and_parts (is_like (codes "T00:00:00") text && nat_le hours 23) (nat_le minutes 59) s.0 in
+    let h = and_parts (is_like (codes "T00:00:00") text) (nat_le hours 23) m.0 in
+    let a : seconds ≤ 59 = leb-true seconds 59 s.1 in
+    let b : minutes ≤ 59 = leb-true minutes 59 m.1 in
+    let d : hours ≤ 23 = leb-true hours 23 h.1 in
+    let z : hours * 3600 + minutes * 60 + seconds ≡ n = c.1 in
+    omega arith)
 
 behind_small : (alone : ℕ) (text : List ℕ) (n : ℕ) → alone ≤ 86400 → clock_or alone text ≡ Some n → n ≤ 86400
 behind_small alone [] n most e = subst (λ k. k ≤ 86400) (same e) most

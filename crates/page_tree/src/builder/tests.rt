@@ -64,7 +64,11 @@ const BROKEN: [(&[u8], u64, Rule); 40] = [
     (b"<a xmlns:p='u' xmlns:q='u' p:x='' q:x=''/>", 0, Rule::W7),
     (b"<a xmlns:p='' xmlns:q='' p:x='' q:x=''/>", 0, Rule::W7),
     (b"<a xmlns:p='u' p:x='' p:y='' p:x=''/>", 0, Rule::W7),
-    (b"<a xmlns:p='u'><b xmlns:q='u' p:x='' q:x=''/></a>", 15, Rule::W7),
+    (
+        b"<a xmlns:p='u'><b xmlns:q='u' p:x='' q:x=''/></a>",
+        15,
+        Rule::W7,
+    ),
     (b"<x:a b='' b='&;'/>", 0, Rule::W7),
     (b"<a>&nbsp;</a>", 3, Rule::W8),
     (b"<x:a b='&nbsp;'/>", 0, Rule::W8),
@@ -72,7 +76,11 @@ const BROKEN: [(&[u8], u64, Rule); 40] = [
     (b"<x:a/>", 0, Rule::W9),
     (b"<a xml:x='' y:x=''/>", 0, Rule::W9),
     (b"<a xmlns:p='' p:x='' x=''/>", 0, Rule::W9),
-    (b"<a xmlns:p='u'><b xmlns:p='v' xmlns:q='u' p:x='' q:x=''/><c q:x=''/></a>", 57, Rule::W9),
+    (
+        b"<a xmlns:p='u'><b xmlns:p='v' xmlns:q='u' p:x='' q:x=''/><c q:x=''/></a>",
+        57,
+        Rule::W9,
+    ),
     (b"<a xmlns:xml='u'/>", 0, Rule::W9),
     (b"<?xml version=\"1.1\"?><a/>", 0, Rule::W11),
     (

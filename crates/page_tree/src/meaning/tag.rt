@@ -49,10 +49,7 @@ fn attribute_at<'a, 't>(
 }
 
 /// The attributes of a tag, in the arena.
-fn kept<'a>(
-    arena: &'a Bump,
-    attrs: &[Attribute<'a>],
-) -> Result<&'a [Attribute<'a>], NoMemory>
+fn kept<'a>(arena: &'a Bump, attrs: &[Attribute<'a>]) -> Result<&'a [Attribute<'a>], NoMemory>
     ensures { IfOk result (λ s. s.now ≡ attrs.now) }
 {
     let kept = arena.try_alloc_slice_copy(attrs)?;

@@ -26,9 +26,9 @@ returns-clause-err c =
     let es = c.args.index.now.spots in
     let old = c.args.breaches.now in
     let both = c.in_ok-add_named_twice.ensures.ok ∙ ap (λ (x : List Found). x ++ breaking L5 es) c.in_ok-add_lacking.ensures.ok
-        ∙ append_assoc old (breaking L4 es) (breaking L5 es) in
+    ∙ append_assoc old (breaking L4 es) (breaking L5 es) in
     on_err_weaker c.add_seen.result
     (λ f. subst (λ (all : List Found). AppendsFront all old c.add_seen.new.breaches)
-      (sym (append_assoc (breaking L4 es ++ breaking L5 es) (breaking L6 es) (breaking L7 es)))
-      (front-second old _ _ (breaking L4 es ++ breaking L5 es) (breaking L6 es ++ breaking L7 es) both f))
+    (sym (append_assoc (breaking L4 es ++ breaking L5 es) (breaking L6 es) (breaking L7 es)))
+    (front-second old _ _ (breaking L4 es ++ breaking L5 es) (breaking L6 es ++ breaking L7 es) both f))
     c.add_seen.ensures.err

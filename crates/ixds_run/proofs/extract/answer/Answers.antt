@@ -14,7 +14,7 @@ returns-in-Ok-clause-done g c e bs read =
       c.in-Ok.ensures.due bs read,
       sym at ∙ e,
       subst (λ (d : Option (List ℕ)). GainsAll (targets_due d due) (g.S.TargetSink.targets c.args.sink.now) (g.S.TargetSink.targets c.deliver.new.sink))
-      c.dir.ensures (c.deliver.ensures.targets at),
+          c.dir.ensures (c.deliver.ensures.targets at),
       c.deliver.ensures.text at,
     )
 
@@ -26,7 +26,7 @@ returns-in-Ok-clause-broken g c e bs read =
       c.in-Ok.ensures.due bs read,
       sym at ∙ e,
       subst (λ (d : Option (List ℕ)). GainsAll (targets_due d due) (g.S.TargetSink.targets c.args.sink.now) (g.S.TargetSink.targets c.deliver.new.sink))
-      c.dir.ensures (c.deliver.ensures.targets at),
+          c.dir.ensures (c.deliver.ensures.targets at),
       c.deliver.ensures.text at,
     )
 
@@ -40,7 +40,7 @@ returns-in-Ok-clause-part g c e rose =
         c.in-Ok.ensures.due bs read,
         subst (λ (d : Option (List ℕ)). GainsPart (targets_due d due) (g.S.TargetSink.targets c.args.sink.now)
             (g.S.TargetSink.targets c.deliver.new.sink) (g.S.TargetSink.asked c.deliver.new.sink))
-        c.dir.ensures part.1,
+            c.dir.ensures part.1,
       ),
     )
 
@@ -54,7 +54,7 @@ returns-in-Ok-clause-all g c e same bs read =
       outcome_of (dir_of c.args.command.now) due,
       c.in-Ok.ensures.due bs read,
       subst (λ (d : Option (List ℕ)). GainsAll (targets_due d due) (g.S.TargetSink.targets c.args.sink.now) (g.S.TargetSink.targets c.deliver.new.sink))
-      c.dir.ensures all.0,
+          c.dir.ensures all.0,
       all.1,
     )
 

@@ -117,9 +117,11 @@ returns-in_default-clause-starts g c = (0, none_started _)
 
 pub returns-then-forest-gt-MOST_BYTES-clause-starts : goal.returns-then-forest-gt-MOST_BYTES-clause-starts
 returns-then-forest-gt-MOST_BYTES-clause-starts g c =
-    let within : c.loop-number.number < length c.args.names.now = omega arith in
-    (c.loop-number.number + 1, one_started _ _ c.index-names-number.result _ _ _ within c.index-names-number.is
-    c.loop-number.invariant.starts c.in_ok-read_next.ensures.started)
+    let within : c.loop-number.number < length c.args.names.now = omega arith in (
+      c.loop-number.number + 1,
+      one_started _ _ c.index-names-number.result _ _ _ within c.index-names-number.is
+          c.loop-number.invariant.starts c.in_ok-read_next.ensures.started,
+    )
 
 pub returns-clause-starts : goal.returns-clause-starts
 returns-clause-starts g c = (c.loop-number.number, c.loop-number.invariant.starts)

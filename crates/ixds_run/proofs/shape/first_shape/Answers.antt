@@ -17,11 +17,11 @@ returns-then-not-names_context-clause-none c e =
     no_name_at (tree_of c.args.root.now) (parts_seen c.in-Some.parts) c.in-Some-2.context (sym c.in-Some.ensures)
     (sym c.in_ok-context.ensures ∙ c.in-Some-2.is)
     (λ same.
-      let eq : bytes_eq (parts_seen c.in-Some.parts).named c.in-Some-2.context.id ≡ true =
-      ap (bytes_eq (parts_seen c.in-Some.parts).named) (sym same) ∙ same_bytes (parts_seen c.in-Some.parts).named in
-      let not = c.names_context.ensures in
-      let other = c.if-not-names_context.true in
-      cc)
+    let eq : bytes_eq (parts_seen c.in-Some.parts).named c.in-Some-2.context.id ≡ true =
+    ap (bytes_eq (parts_seen c.in-Some.parts).named) (sym same) ∙ same_bytes (parts_seen c.in-Some.parts).named in
+    let not = c.names_context.ensures in
+    let other = c.if-not-names_context.true in
+    cc)
 
 pub returns-clause-some : goal.returns-clause-some
 returns-clause-some c =
