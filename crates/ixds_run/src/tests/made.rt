@@ -82,14 +82,17 @@ const S2: &[u8] = b"(set): S2 pages together hold too many tags\n";
 
 const W3: &[u8] = b"a.html:0: W3 construct is cut off\n";
 
+const W5: &[u8] = b"a.html:0: W5 end tag doesn't match\n";
+
 const TWO: [&str; 4] = ["check", "--base=http://example.com/", "a.html", "b.html"];
 
-/// A page with a byte too many, or a `<` too many, breaks a size rule, whatever else it breaks; one with as many `<` as it may
-/// have doesn't. Reading stops behind the limit.
+/// A page with a byte too many, or a `<` too many, breaks a size rule, whatever else it breaks; one with as many bytes, or `<`, as
+/// it may have doesn't. Reading stops behind the limit.
 #[test]
 fn the_size_of_a_page_is_limited(rt: HostRuntime) -> Result<(), Fail> {
     let alloc = rt.alloc();
-    let rows: [([u8; 4], u8, usize, &[u8], u64); 3] = [
+    let rows: [([u8; 4], u8, usize, &[u8], u64); 4] = [
+        (*b"</a>", b' ', 268_435_452, W5, 4099),
         (*b"</a>", b' ', 268_435_453, S1, 4098),
         (*b"<<<<", b'<', 8_388_604, W3, 131),
         (*b"<<<<", b'<', 8_388_605, S2, 131),
