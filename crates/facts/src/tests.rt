@@ -486,11 +486,11 @@ fn has_fields(item: &Item, due: &Fields) -> bool {
         && shown(&item.id) == id
 }
 
-/// The number of the first of these nonempty rows that says something else beside its value; none where each says what
+/// The number of the first of these rows whose element says something else beside its value; none where each says what
 /// is due.
-fn wrong_fields(alloc: Global, rows: &[(&'static str, Attrs, Fields)]) -> Option<usize> {
-    for (i, (local, attrs, due)) in rows.iter().enumerate() {
-        match said_in(alloc, local, attrs, Held::Text("1")) {
+fn wrong_fields(alloc: Global, rows: &[(&'static str, Attrs, Held, Fields)]) -> Option<usize> {
+    for (i, (local, attrs, held, due)) in rows.iter().enumerate() {
+        match said_in(alloc, local, attrs, *held) {
             Ok(item) if has_fields(&item, due) => {}
             _ => return Some(i),
         }
@@ -498,7 +498,7 @@ fn wrong_fields(alloc: Global, rows: &[(&'static str, Attrs, Fields)]) -> Option
     None
 }
 
-const FIELDS: [(&str, Attrs, Fields); 9] = [
+const FIELDS: [(&str, Attrs, Held, Fields); 10] = [
     (
         "nonFraction",
         &[
@@ -508,6 +508,7 @@ const FIELDS: [(&str, Attrs, Fields); 9] = [
             ("decimals", "-2"),
             ("id", "f1"),
         ],
+        Held::Text("1"),
         [
             "http://example.com/e",
             "Profit",
@@ -530,11 +531,24 @@ const FIELDS: [(&str, Attrs, Fields); 9] = [
             ("id", "f-3"),
             ("xsi:nil", "true"),
         ],
+        Held::Text("\u{2014}"),
         ["http://example.com/e", "Debt", "c1", "u1", "", "", "f-3"],
+    ),
+    (
+        "fraction",
+        &[
+            ("name", "e:Share"),
+            ("contextRef", "c1"),
+            ("unitRef", "u1"),
+            ("decimals", "0"),
+        ],
+        Held::Parts(&[], "1", &[], "3"),
+        ["http://example.com/e", "Share", "c1", "u1", "", "", ""],
     ),
     (
         "nonNumeric",
         &[("contextRef", "c1"), ("name", "e:Amended")],
+        Held::Text("No"),
         ["http://example.com/e", "Amended", "c1", "", "", "", ""],
     ),
     (
@@ -545,31 +559,37 @@ const FIELDS: [(&str, Attrs, Fields); 9] = [
             ("unitRef", "u1"),
             ("decimals", "0"),
         ],
+        Held::Text("1"),
         ["", "Local", "c1", "", "", "", ""],
     ),
     (
         "nonFraction",
         &[("decimals", "INF")],
+        Held::Text("1"),
         ["", "", "", "", "decimals", "INF", ""],
     ),
     (
         "nonFraction",
         &[("decimals", " +3")],
+        Held::Text("1"),
         ["", "", "", "", "decimals", "3", ""],
     ),
     (
         "nonFraction",
         &[("decimals", "-0")],
+        Held::Text("1"),
         ["", "", "", "", "decimals", "0", ""],
     ),
     (
         "nonFraction",
         &[("precision", "007")],
+        Held::Text("1"),
         ["", "", "", "", "precision", "7", ""],
     ),
     (
         "nonFraction",
         &[("precision", "INF")],
+        Held::Text("1"),
         ["", "", "", "", "precision", "INF", ""],
     ),
 ];
