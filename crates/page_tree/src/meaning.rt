@@ -13,7 +13,7 @@ mod value;
 
 use crate::kind::Kind;
 use crate::size::is_white;
-use crate::token::Token;
+use crate::token::{Attribute, Token};
 use bumpalo::Bump;
 use declaration::declared;
 use ix_base::NoMemory;
@@ -138,11 +138,13 @@ fn ends_of(kind: Kind) -> (&'static str, &'static str)
     }
 }
 
-/// What a construct of a kind means that starts at an offset; none where it isn't of its form.
+/// What a construct of a kind means that starts at an offset; none where it isn't of its form. The attributes of a
+/// tag are collected in a list.
 #[tactic(auto, unfolding(crate::specs::Meanings::meant_by))]
 pub(crate) fn meant<'a, 't>(
     alloc: Global,
     arena: &'a Bump,
+    attrs: &mut Vec<Attribute<'a>>,
     kind: Kind,
     offset: u64,
     text: &'t str,
@@ -160,7 +162,7 @@ pub(crate) fn meant<'a, 't>(
         Kind::Doctype => Ok(doctyped(inner)),
         Kind::Unknown => Ok(None),
         Kind::EndTag => Ok(end_tag(inner)),
-        Kind::StartTag => start_tag(alloc, arena, offset, inner),
+        Kind::StartTag => start_tag(alloc, arena, attrs, offset, inner),
         Kind::Reference => Ok(Some(Token::Refer(referred_by(text)))),
         Kind::Text => Ok(worded(text)),
     }

@@ -55,7 +55,14 @@ fn take<'a>(
     ensures same { (building.new.depth ≡ building.old.depth) × (building.new.page ≡ building.old.page) }
     ensures on_page { OnOk result (IsOnPage building.old.page building.old → IsOnPage building.new.page building.new) }
 {
-    match meant(building.alloc, building.arena, kind, offset, text)? {
+    match meant(
+        building.alloc,
+        building.arena,
+        &mut building.written,
+        kind,
+        offset,
+        text,
+    )? {
         Some(token) => building.take(&token),
         None => Ok(Some(Rule::W4)),
     }

@@ -14,7 +14,7 @@ use crate::opened::Open;
 use crate::scope::outermost_scope;
 use crate::token::Tag;
 use bumpalo::Bump;
-use ix_base::{Binding, Element, NoMemory, Place};
+use ix_base::{Attr, Binding, Element, NoMemory, Place};
 use std::alloc::Global;
 
 /// The pending text becomes a child of the innermost open element.
@@ -55,6 +55,7 @@ pub(crate) fn open_element<'a>(
     scope: &'a [Binding<'a>],
     tag: &Tag<'a>,
     expanded: &[Expanded<'a>],
+    attrs: &mut Vec<Attr<'a>>,
 ) -> Result<Open<'a>, NoMemory>
     requires ordered { are_ordered (map bound scope.now) ≡ true }
     requires expanded { map expansion expanded.now ≡ expansions (map bound scope.now) (tag_of tag.now) }
@@ -62,7 +63,7 @@ pub(crate) fn open_element<'a>(
         → frame o ≡ record { written = tag.now.name.now; head = head_of outer (tag_of tag.now); done = none }) }
     ensures pages { IfOk result (λ o. pages_open o ≡ page ∷ []) }
 {
-    let attrs = attributes_of(alloc, arena, expanded)?;
+    let attrs = attributes_of(arena, expanded, attrs)?;
     Ok(Open {
         written: tag.name,
         place: Place {

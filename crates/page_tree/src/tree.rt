@@ -19,9 +19,9 @@ use crate::opened::Open;
 use crate::scope::scope_of;
 use crate::size::is_white;
 use crate::stack::{close_element, flush_innermost, innermost_scope, open_element, put};
-use crate::token::{Tag, Token};
+use crate::token::{Attribute, Tag, Token};
 use bumpalo::Bump;
-use ix_base::{Binding, Element, NoMemory, Rule};
+use ix_base::{Attr, Binding, Element, NoMemory, Rule};
 use std::alloc::Global;
 
 /// What is built of the constructs so far: the open elements, the innermost last, the text since the last tag, the root
@@ -36,6 +36,11 @@ pub(crate) struct Building<'a> {
     pub text: String,
     pub root: Option<&'a Element<'a>>,
     pub doctyped: bool,
+    /// Lists in which the parts of a tag are collected, one tag after another: its attributes as they are written, those with
+    /// their expanded names, and those of the element.
+    pub written: Vec<Attribute<'a>>,
+    pub expanded: Vec<Expanded<'a>>,
+    pub attrs: Vec<Attr<'a>>,
 }
 
 /// Version 1.0, and no encoding but UTF-8, ASCII or US-ASCII, in any ASCII case.
@@ -84,6 +89,9 @@ impl<'a> Building<'a> {
             text: String::new(alloc),
             root: None,
             doctyped: false,
+            written: Vec::new(alloc),
+            expanded: Vec::new(alloc),
+            attrs: Vec::new(alloc),
         }
     }
 
@@ -142,18 +150,13 @@ impl<'a> Building<'a> {
     }
 
     /// The lowest rule that a tag breaks, whose element has this scope.
-    fn broken_by_tag(
-        &self,
-        scope: &[Binding<'_>],
-        tag: &Tag<'_>,
-        expanded: &[Expanded<'_>],
-    ) -> Result<Option<Rule>, NoMemory>
+    fn broken_by_tag(&self, scope: &[Binding<'_>], tag: &Tag<'_>) -> Result<Option<Rule>, NoMemory>
         requires scope { map bound scope.now ≡ scope_under_tag (scope_in (state_of self.now).frames) (tag_of tag.now) }
         requires ordered { are_ordered (map bound scope.now) ≡ true }
-        requires expanded { map expansion expanded.now ≡ expansions (map bound scope.now) (tag_of tag.now) }
+        requires expanded { map expansion self.now.expanded.items ≡ expansions (map bound scope.now) (tag_of tag.now) }
         ensures { IfOk result (λ r. r ≡ broken_by_tag self.now.depth (outline_of (state_of self.now)) (tag_of tag.now)) }
     {
-        let broken = tag_break(self.alloc, scope, tag, expanded)?;
+        let broken = tag_break(self.alloc, scope, tag, self.expanded.as_slice())?;
         if let Some(rule) = broken {
             return Ok(Some(rule));
         }
@@ -167,20 +170,23 @@ impl<'a> Building<'a> {
     }
 
     /// An element begins.
-    fn open(
-        &mut self,
-        scope: &'a [Binding<'a>],
-        tag: &Tag<'a>,
-        expanded: &[Expanded<'a>],
-    ) -> Result<(), NoMemory>
+    fn open(&mut self, scope: &'a [Binding<'a>], tag: &Tag<'a>) -> Result<(), NoMemory>
         requires scope { map bound scope.now ≡ scope_under_tag (scope_in (state_of self.old).frames) (tag_of tag.now) }
         requires ordered { are_ordered (map bound scope.now) ≡ true }
-        requires expanded { map expansion expanded.now ≡ expansions (map bound scope.now) (tag_of tag.now) }
+        requires expanded { map expansion self.old.expanded.items ≡ expansions (map bound scope.now) (tag_of tag.now) }
         ensures state { OnOk result (state_of self.new ≡ opening (state_of self.old) (tag_of tag.now)) }
         ensures same { (self.new.depth ≡ self.old.depth) × (self.new.page ≡ self.old.page) }
         ensures on_page { OnOk result (IsOnPage self.old.page self.old → IsOnPage self.new.page self.new) }
     {
-        let element = open_element(self.alloc, self.arena, self.page, scope, tag, expanded)?;
+        let element = open_element(
+            self.alloc,
+            self.arena,
+            self.page,
+            scope,
+            tag,
+            self.expanded.as_slice(),
+            &mut self.attrs,
+        )?;
         flush_innermost(self.arena, &mut self.elements, &mut self.text)?;
         self.text.clear();
         self.elements.push(element)?;
@@ -188,20 +194,23 @@ impl<'a> Building<'a> {
     }
 
     /// An element begins and ends.
-    fn stand(
-        &mut self,
-        scope: &'a [Binding<'a>],
-        tag: &Tag<'a>,
-        expanded: &[Expanded<'a>],
-    ) -> Result<(), NoMemory>
+    fn stand(&mut self, scope: &'a [Binding<'a>], tag: &Tag<'a>) -> Result<(), NoMemory>
         requires scope { map bound scope.now ≡ scope_under_tag (scope_in (state_of self.old).frames) (tag_of tag.now) }
         requires ordered { are_ordered (map bound scope.now) ≡ true }
-        requires expanded { map expansion expanded.now ≡ expansions (map bound scope.now) (tag_of tag.now) }
+        requires expanded { map expansion self.old.expanded.items ≡ expansions (map bound scope.now) (tag_of tag.now) }
         ensures state { OnOk result (state_of self.new ≡ standing (state_of self.old) (tag_of tag.now)) }
         ensures same { (self.new.depth ≡ self.old.depth) × (self.new.page ≡ self.old.page) }
         ensures on_page { OnOk result (IsOnPage self.old.page self.old → IsOnPage self.new.page self.new) }
     {
-        let element = open_element(self.alloc, self.arena, self.page, scope, tag, expanded)?;
+        let element = open_element(
+            self.alloc,
+            self.arena,
+            self.page,
+            scope,
+            tag,
+            self.expanded.as_slice(),
+            &mut self.attrs,
+        )?;
         flush_innermost(self.arena, &mut self.elements, &mut self.text)?;
         self.text.clear();
         let element = close_element(self.arena, element)?;
@@ -259,11 +268,11 @@ impl<'a> Building<'a> {
         ensures on_page { OnOk result (IsOnPage self.old.page self.old → IsOnPage self.new.page self.new) }
     {
         let scope = self.element_scope(tag)?;
-        let expanded = expand(self.alloc, scope, tag.attrs)?;
-        if let Some(rule) = self.broken_by_tag(scope, tag, expanded.as_slice())? {
+        expand(scope, tag.attrs, &mut self.expanded)?;
+        if let Some(rule) = self.broken_by_tag(scope, tag)? {
             return Ok(Some(rule));
         }
-        self.open(scope, tag, expanded.as_slice())?;
+        self.open(scope, tag)?;
         Ok(None)
     }
 
@@ -276,11 +285,11 @@ impl<'a> Building<'a> {
         ensures on_page { OnOk result (IsOnPage self.old.page self.old → IsOnPage self.new.page self.new) }
     {
         let scope = self.element_scope(tag)?;
-        let expanded = expand(self.alloc, scope, tag.attrs)?;
-        if let Some(rule) = self.broken_by_tag(scope, tag, expanded.as_slice())? {
+        expand(scope, tag.attrs, &mut self.expanded)?;
+        if let Some(rule) = self.broken_by_tag(scope, tag)? {
             return Ok(Some(rule));
         }
-        self.stand(scope, tag, expanded.as_slice())?;
+        self.stand(scope, tag)?;
         Ok(None)
     }
 

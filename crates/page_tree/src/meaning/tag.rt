@@ -56,15 +56,16 @@ fn kept<'a>(arena: &'a Bump, attrs: &[Attribute<'a>]) -> Result<&'a [Attribute<'
     Ok(kept)
 }
 
-/// Attributes, each behind white space, and whether a `/` ends them.
+/// Attributes, each behind white space, and whether a `/` ends them. They are collected in a list.
 fn attributes_in<'a>(
     alloc: Global,
     arena: &'a Bump,
+    attrs: &mut Vec<Attribute<'a>>,
     text: &str,
 ) -> Result<Option<(&'a [Attribute<'a>], bool)>, NoMemory>
     ensures { IfOk result (λ r. (n : ℕ) → length text.now < n → option_map attributes_and_end r ≡ attributes_in_of n text.now) }
 {
-    let mut attrs = Vec::new(alloc);
+    attrs.clear();
     let mut rest = text;
     loop {
         if is_white_text(rest) {
@@ -91,6 +92,7 @@ fn attributes_in<'a>(
 pub(crate) fn start_tag<'a, 't>(
     alloc: Global,
     arena: &'a Bump,
+    attrs: &mut Vec<Attribute<'a>>,
     offset: u64,
     inner: &'t str,
 ) -> Result<Option<Token<'a, 't>>, NoMemory>
@@ -100,7 +102,7 @@ pub(crate) fn start_tag<'a, 't>(
     if !is_qname(name) {
         return Ok(None);
     }
-    match attributes_in(alloc, arena, rest)? {
+    match attributes_in(alloc, arena, attrs, rest)? {
         Some((attrs, is_empty)) => {
             let name = arena.try_alloc_str(name)?;
             let tag = Tag {

@@ -10,10 +10,12 @@ fn meaning<'a, 't>(
     arena: &'a Bump,
     text: &'t str,
 ) -> Result<Option<Option<Token<'a, 't>>>, NoMemory> {
+    let mut attrs = Vec::new(alloc);
     match whole_size(true, true, text.as_bytes()) {
         Some(size) if size == text.len() => Ok(Some(meant(
             alloc,
             arena,
+            &mut attrs,
             kind_of(true, text.as_bytes()),
             7,
             text,

@@ -1,4 +1,4 @@
-use Rattle.std.proofs.Common.{◌≡◌, Some, true, false, arith, sym, ap, ◌∙◌, subst, map, length, bytes_eq}
+use Rattle.std.proofs.Common.{◌≡◌, [], rules, Some, true, false, arith, sym, ap, ◌∙◌, subst, map, length, bytes_eq}
 use Rattle.page_tree.specs.Meanings.{attribute_at, behind_white, slash}
 use Rattle.page_tree.specs.Views.{attribute_of}
 use Rattle.page_tree.proofs.TagReading.{SoFar, so-far-none, so-far-more, end-white, end-slash, end-joined, end-bad, apart, joined, map-push}
@@ -6,7 +6,8 @@ use Rattle.page_tree.proofs.meaning.tag.attributes_in.Goals as goal
 
 pub loop-rest-init : goal.loop-rest-init
 loop-rest-init c =
-    (c.utf8.text, λ n l. subst (λ x. SoFar (map attribute_of x) c.args.text.now c.args.text.now n) (sym c.new-attrs.ensures.items) (so-far-none c.args.text.now n l))
+    let cleared : c.clear.new.self.items ≡ [] = search rules in
+    (c.utf8.text, λ n l. subst (λ x. SoFar (map attribute_of x) c.args.text.now c.args.text.now n) (sym cleared) (so-far-none c.args.text.now n l))
 
 pub returns-then-is_white_text : goal.returns-then-is_white_text
 returns-then-is_white_text c = λ n l.
