@@ -45,7 +45,7 @@ pub struct SystemFolder<'a, R: Files> {
 impl<'a, R: Files> SystemFolder<'a, R> {
     /// The folders of this system.
     pub fn new(rt: &'a R) -> SystemFolder<'a, R>
-        ensures { result.rt ≡ rt }
+        ensures { result.rt ≡ rt.entry }
     {
         SystemFolder { rt }
     }

@@ -1,4 +1,4 @@
 use Rattle.ixds_cli.proofs.run_words.Goals as goal
 
 pub returns-clause-answers : goal.returns-clause-answers
-returns-clause-answers g c = (c.run_handed.result, c.ended.ensures, c.run_handed.ensures.answers)
+returns-clause-answers g c = (c.run_handed-status.result, c.ended.ensures, c.run_handed-status.ensures.answers)
