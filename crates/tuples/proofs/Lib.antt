@@ -1,0 +1,11 @@
+pub mod Adding
+pub mod DeepLaws
+pub mod Each
+pub mod FitLaws
+pub mod GroupLaws
+pub mod KeptLaws
+pub mod MemberLaws
+pub mod OrderLaws
+pub mod RankLaws
+pub mod SliceLaws
+pub mod TieLaws

@@ -1,0 +1,15 @@
+use Rattle.std.proofs.Common.{◌∙◌, ap, sym, []}
+use Rattle.std.specs.Option.{option_map_or}
+use Rattle.ix_base.specs.Located.{located, offset_of}
+use Rattle.tuples.specs.Kept.{listed, tuples_in}
+use Rattle.tuples.specs.Slices.{slice_at}
+use Rattle.tuples.proofs.KeptLaws.{listed-is}
+use Rattle.tuples.proofs.members.Members.of.Goals as goal
+
+pub returns : goal.returns
+returns c =
+    let e = located c.args.tuple.now in
+    c.spots_in.ensures
+    ∙ (λ i. option_map_or (λ l. l) (slice_at c.self.inside.slices (c.place_of.ensures.page i) (c.place_of.ensures.offset i)) [])
+    ∙ sym (listed-is c.self.inside.slices (tuples_in c.self.inside.tuples) e.page (offset_of e))
+    ∙ ap (λ k. listed k e.page (offset_of e)) c.self.view_is

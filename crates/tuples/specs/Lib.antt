@@ -1,0 +1,9 @@
+pub mod DecimalOrder
+pub mod Fits
+pub mod Grouped
+pub mod Grouping
+pub mod Kept
+pub mod Known
+pub mod Owners
+pub mod Slices
+pub mod Tests

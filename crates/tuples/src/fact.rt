@@ -1,0 +1,26 @@
+//! A fact, with its order and its owner.
+ghost use Rattle.std.specs.Prelude.{◌≡◌, true, option_map};
+ghost use Rattle.ix_base.specs.Located as kinds;
+ghost use Rattle.ix_base.specs.Located.{located};
+ghost use Rattle.ix_base.specs.Membership.{order_of};
+ghost use Rattle.tuples.specs.Fits.{is_number};
+
+use ix_base::Spot;
+
+/// A tuple that owns something, and the page on which it does.
+#[derive(Clone, Copy)]
+pub(crate) struct Owner<'a> {
+    pub page: u32,
+    pub spot: &'a Spot<'a>,
+}
+
+/// A fact, with its order and its owner.
+#[derive(Clone, Copy)]
+pub(crate) struct Fact<'a> {
+    pub spot: &'a Spot<'a>,
+    pub order: Option<&'a str>,
+    pub owner: Option<Owner<'a>>,
+    pub ghost is_fact: { kinds.is_fact (located spot.now) ≡ true },
+    pub ghost is_its: { option_map (λ s. s.now) order ≡ order_of (located spot.now) },
+    pub ghost is_decimal: { is_number (option_map (λ s. s.now) order) ≡ true },
+}

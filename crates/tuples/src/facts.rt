@@ -1,0 +1,73 @@
+//! The facts of a set, each with its order and its owner.
+ghost use Rattle.std.specs.Prelude.{◌≡◌, ◌++◌, OnOk, IfOk, All, true, [], ◌∷◌, filter, option_map};
+ghost use Rattle.ix_base.specs.Located as kinds;
+ghost use Rattle.ix_base.specs.Located.{located};
+ghost use Rattle.ix_base.specs.Membership as spec;
+ghost use Rattle.id_table.specs.Held.{asked};
+ghost use Rattle.tuples.specs.Fits.{fits};
+ghost use Rattle.tuples.specs.Known.{seen, all_seen, IsKnown};
+
+use crate::fact::Fact;
+use crate::owners::owner_of;
+use id_table::Index;
+use ix_base::{Kind, NoMemory, Spot, kind_of, token_at};
+use std::alloc::Global;
+
+pub(crate) fn is_fact(spot: &Spot<'_>) -> bool
+    ensures { result ≡ kinds.is_fact (located spot.now) }
+{
+    matches!(
+        kind_of(spot),
+        Kind::NonFraction | Kind::NonNumeric | Kind::Fraction | Kind::Tuple
+    )
+}
+
+fn order_of<'a>(spot: &Spot<'a>) -> Option<&'a str>
+    ensures { option_map (λ s. s.now) result ≡ spec.order_of (located spot.now) }
+{
+    token_at(spot.element, "order")
+}
+
+/// A fact with its order and its owner.
+fn fact_of<'a>(index: &Index<'a>, spot: &'a Spot<'a>) -> Fact<'a>
+    requires fact { kinds.is_fact (located spot.now) ≡ true }
+    requires fits { fits (located spot.now) ≡ true }
+    ensures seen { seen result ≡ located spot.entry.now }
+    ensures known { IsKnown (asked index.now) result }
+{
+    Fact {
+        spot,
+        order: order_of(spot),
+        owner: owner_of(index, spot),
+    }
+}
+
+/// Adds an element at the end, where it is a fact.
+fn push_if_fact<'a>(
+    index: &Index<'a>,
+    spot: &'a Spot<'a>,
+    facts: &mut Vec<Fact<'a>>,
+) -> Result<(), NoMemory>
+    requires fits { fits (located spot.now) ≡ true }
+    requires known { All (IsKnown (asked index.now)) facts.old.items }
+    ensures seen { OnOk result (all_seen facts.new.items ≡ all_seen facts.old.items ++ filter kinds.is_fact (located spot.entry.now ∷ [])) }
+    ensures known { OnOk result (All (IsKnown (asked index.now)) facts.new.items) }
+{
+    if is_fact(spot) {
+        facts.push(fact_of(index, spot))?;
+    }
+    Ok(())
+}
+
+/// The facts of a set, in order.
+pub(crate) fn facts_of<'a>(alloc: Global, index: &Index<'a>) -> Result<Vec<Fact<'a>>, NoMemory>
+    requires fits { All (λ e. fits e ≡ true) index.now.spots }
+    ensures seen { IfOk result (λ v. all_seen v.items ≡ filter kinds.is_fact index.now.spots) }
+    ensures known { IfOk result (λ v. All (IsKnown (asked index.now)) v.items) }
+{
+    let mut facts = Vec::new(alloc);
+    for spot in index.spots() {
+        push_if_fact(index, *spot, &mut facts)?;
+    }
+    Ok(facts)
+}

@@ -1,0 +1,27 @@
+//! Tuples: which tuple owns a fact, and the members of a tuple.
+//!
+//! `membership` finds the owner of each fact once, sorts the facts once by their orders, and enters them in that order at
+//! the places of their owners, so that the members of each tuple come in order; whether two of them have one order takes a
+//! logarithm of their number. From each tuple it follows up to 100 owners, to see whether too many stand one above the
+//! other. `Members::of` is one look-up by place, `Members::owner` one by tuple id or a walk up the page; both take no
+//! memory.
+#![tactic(auto)]
+
+mod decimals;
+mod digits;
+mod fact;
+mod facts;
+mod groups;
+mod linking;
+mod members;
+mod owners;
+mod rules;
+mod slices;
+mod sorting;
+mod ties;
+
+pub use linking::membership;
+pub use members::Members;
+
+#[cfg(test)]
+mod tests;

@@ -1,0 +1,147 @@
+//! The members of tuples, and the owners of facts.
+ghost use Rattle.std.specs.Prelude.{◌≡◌, ℕ, List, [], All, IfOk, filter, option_map};
+ghost use Rattle.std.specs.Option.{option_map_or};
+ghost use Rattle.ix_base.specs.Asks.{only};
+ghost use Rattle.ix_base.specs.Elements.{placed};
+ghost use Rattle.ix_base.specs.Ids as ids;
+ghost use Rattle.ix_base.specs.Located.{is_fact, located, offset_of};
+ghost use Rattle.ix_base.specs.Membership as spec;
+ghost use Rattle.id_table.specs.Held.{asked};
+ghost use Rattle.id_table.specs.Tables.{all_located, spots_at};
+ghost use Rattle.tuples.specs.Grouping.{AreGrouped};
+ghost use Rattle.tuples.specs.Kept.{listed, owner_in, AreMembersOf};
+ghost use Rattle.tuples.specs.Known.{all_seen, IsKnown};
+ghost use Rattle.tuples.specs.Slices.{members_in, slice_at};
+
+use crate::fact::Fact;
+use crate::groups::Groups;
+use crate::owners::{is_tuple, nearest_tuple, tuple_ref};
+use crate::slices::{Slice, Slices, slices_of};
+use bumpalo::Bump;
+use id_table::{Holders, Index, enter};
+use indexmap::IndexMap;
+use ix_base::{NoMemory, Spot, token_at};
+use std::alloc::Global;
+use std::marker::Model;
+
+/// The members of the tuples of a set, and the owners of its facts.
+///
+/// Contracts see the members with the places of their tuples, and the tuples with their tuple ids.
+#[derive(Drop)]
+pub struct Members<'a> {
+    slices: Slices<'a>,
+    tuples: Holders<'a>,
+}
+
+impl<'a> Model for Members<'a> {
+    ghost use Rattle.tuples.specs.Kept.{kept_code, tuples_in, Kept};
+    ghost use Rattle.tuples.specs.Slices.{lists_in};
+
+    ghost Value = { Kept };
+
+    ghost coded = { kept_code };
+
+    ghost view = { λ m. record { lists = lists_in m.slices; tuples = tuples_in m.tuples } };
+}
+
+/// The tuple id of a tuple.
+fn tuple_id_of<'a>(spot: &Spot<'a>) -> Option<&'a str>
+    ensures { option_map (λ s. s.now) result ≡ ids.tuple_id_of (located spot.now) }
+{
+    if !is_tuple(spot) {
+        return None;
+    }
+    token_at(spot.element, "tupleID")
+}
+
+/// The tuples by their tuple ids.
+fn tuples_of<'a>(alloc: Global, index: &Index<'a>) -> Result<Holders<'a>, NoMemory>
+    ensures { IfOk result (λ m. (id : List ℕ)
+        → option_map (λ s. located s.now) (only (spots_at m id)) ≡ ids.one_tuple (asked index.now) id) }
+{
+    let mut tuples = IndexMap::new(alloc);
+    for spot in index.spots() {
+        enter(alloc, &mut tuples, tuple_id_of(spot), *spot)?;
+    }
+    Ok(tuples)
+}
+
+/// The one tuple at a tuple id.
+fn one_in<'a>(tuples: &Holders<'a>, id: &str) -> Option<&'a Spot<'a>>
+    ensures { result ≡ only (spots_at tuples.now id.now) }
+{
+    match tuples.get(id) {
+        Some(spots) if spots.len() == 1 => Some(spots[0]),
+        _ => None,
+    }
+}
+
+/// The members that are kept at a place, if there are any.
+fn slice_in<'a>(slices: &Slices<'a>, key: (u32, u64)) -> Option<Slice<'a>>
+    ensures { option_map members_in result ≡ slice_at slices.now key.0 key.1 }
+{
+    slices.get(&key).copied()
+}
+
+/// The members that are kept at a place.
+fn spots_in<'a>(slices: &Slices<'a>, key: (u32, u64)) -> &'a [&'a Spot<'a>]
+    ensures { all_located result.now ≡ option_map_or (λ l. l) (slice_at slices.now key.0 key.1) [] }
+{
+    let none = Slice { spots: &[] };
+    slice_in(slices, key).unwrap_or(none).spots
+}
+
+/// The place of an element.
+fn place_of(spot: &Spot<'_>) -> (u32, u64)
+    ensures page { result.0 ≡ (located spot.now).page }
+    ensures offset { result.1 ≡ offset_of (located spot.now) }
+{
+    (spot.element.place.page, spot.element.place.offset)
+}
+
+/// The nearest tuple around an element.
+fn tuple_around<'a>(spot: &Spot<'a>) -> Option<&'a Spot<'a>>
+    ensures { option_map (λ s. placed s.now) result
+        ≡ option_map (λ o. o.placed) (spec.nearest_tuple (located spot.now).page (located spot.now).placed.above) }
+{
+    let owner = nearest_tuple(spot.element.place.page, spot.up)?;
+    Some(owner.spot)
+}
+
+impl<'a> Members<'a> {
+    /// The members of a tuple by rising order, those that tie as they came, and those without one behind all others. It
+    /// takes no memory.
+    pub fn of(&self, tuple: &Spot<'a>) -> &'a [&'a Spot<'a>]
+        ensures { all_located result.now ≡ listed self.now (located tuple.now).page (offset_of (located tuple.now)) }
+    {
+        spots_in(&self.slices, place_of(tuple))
+    }
+
+    /// The tuple that owns a fact, none where there is none: the element and those around it. It takes no memory.
+    pub fn owner(&self, fact: &Spot<'a>) -> Option<&'a Spot<'a>>
+        ensures { option_map (λ s. placed s.now) result ≡ option_map (λ o. o.placed) (owner_in self.now (located fact.now)) }
+    {
+        match tuple_ref(fact) {
+            Some(id) => one_in(&self.tuples, id),
+            None => tuple_around(fact),
+        }
+    }
+}
+
+/// The members and owners.
+pub(crate) fn kept<'a>(
+    alloc: Global,
+    arena: &'a Bump,
+    index: &Index<'a>,
+    groups: &Groups<'a>,
+    facts: &[Fact<'a>],
+) -> Result<Members<'a>, NoMemory>
+    requires groups { AreGrouped groups.now index.now.spots }
+    requires seen { all_seen facts.now ≡ filter is_fact index.now.spots }
+    requires known { All (IsKnown (asked index.now)) facts.now }
+    ensures { IfOk result (λ m. AreMembersOf m index.now.spots) }
+{
+    let slices = slices_of(alloc, arena, index, groups, facts)?;
+    let tuples = tuples_of(alloc, index)?;
+    Ok(Members { slices, tuples })
+}
