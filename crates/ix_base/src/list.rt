@@ -52,6 +52,13 @@ impl<T> List<T> {
         }
     }
 
+    /// The `Vec` of the items, in order. It takes no memory.
+    pub fn into_vec(self) -> Vec<T>
+        ensures { result.items ≡ self }
+    {
+        self.items
+    }
+
     /// The items in order. It takes no memory.
     pub fn as_slice(&self) -> &[T]
         ensures { result.now ≡ self.now }
