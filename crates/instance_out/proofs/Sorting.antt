@@ -1,12 +1,11 @@
 -- What a sort leaves, and what a sort and a `dedup` leave.
-use Rattle.std.proofs.Common.{◌≡◌, ℕ, Bool, true, false, cond, List, [], ◌∷◌, map, refl, sym, ap, ◌∙◌, subst}
-use Rattle.std.specs.List.{dedup, dedup_from}
+use Rattle.std.proofs.Common.{◌≡◌, ℕ, Bool, List, [], ◌∷◌, map, refl, sym, ap, ◌∙◌, subst}
+use Rattle.std.specs.List.{dedup}
 use Rattle.std.specs.List.Sorted.{IsStrictlySortedBy, IsSorted, IsPermutation}
-use Rattle.std.specs.Cmp.{IsTotalOrder, Equal-is}
-use Rattle.std.specs.Cmp.Lexicographic.{slice_cmp}
+use Rattle.std.specs.Cmp.{Equal-is}
 use Rattle.std.specs.declared.cmp.Ordering.{Ordering}
 use Rattle.std.specs.declared.cmp.Ordering.TheVariants.{Less, Equal, Greater}
-use Rattle.std.specs.Ordering.{nat_cmp, on, is_eq, eq_by_cmp}
+use Rattle.std.specs.Ordering.{on, is_eq, eq_by_cmp}
 use Rattle.std.proofs.ByRecursion.{All-map}
 use Rattle.std.proofs.lemmas.Cmp.{eq_by_cmp_equiv, on_total, nat_list_cmp_total}
 use Rattle.std.proofs.lemmas.Map.Text.{is_eq-slice_cmp}
@@ -96,15 +95,32 @@ pub map-map : {X Y Z : Type 0} (f : X → Y) (g : Y → Z) (xs : List X) → map
 map-map f g [] = refl
 map-map f g (x ∷ xs) = ap (λ l. g (f x) ∷ l) (map-map f g xs)
 
--- the texts of some things, by the keys of these
-pub texts_by_keys : {X : Type 0} (key text : X → List ℕ) (xs : List X) (ks : List Keyed)
-    → ks ≡ map {B = Keyed} (λ x. record { key = key x; text = text x }) xs
-    → map (λ k. k.text) (sorted by_key ks) ≡ map text (sorted (on key text_cmp) xs)
-texts_by_keys {X} key text xs ks e =
-    let keyed : X → Keyed = λ x. record { key = key x; text = text x } in
-    ap (λ (l : List Keyed). map (λ (k : Keyed). k.text) (sorted by_key l)) e
-    ∙ ap (map (λ (k : Keyed). k.text)) (sorted-map keyed by_key xs)
-    ∙ map-map keyed (λ (k : Keyed). k.text) (sorted (on key text_cmp) xs)
+-- things made of others, by the keys of these
+pub made_by_keys : {X Y : Type 0} (key : X → List ℕ) (made : X → Y) (xs : List X) (ks : List (Keyed Y))
+    → ks ≡ map {B = Keyed Y} (λ x. record { key = key x; item = made x }) xs
+    → map (λ (k : Keyed Y). k.item) (sorted by_key ks) ≡ map made (sorted (on key text_cmp) xs)
+made_by_keys {X} {Y} key made xs ks e =
+    let keyed : X → Keyed Y = λ x. record { key = key x; item = made x } in
+    ap (λ (l : List (Keyed Y)). map (λ (k : Keyed Y). k.item) (sorted by_key l)) e
+    ∙ ap (map (λ (k : Keyed Y). k.item)) (sorted-map keyed by_key xs)
+    ∙ map-map keyed (λ (k : Keyed Y). k.item) (sorted (on key text_cmp) xs)
+
+-- things by their keys
+pub by_keys_of : {X : Type 0} (key : X → List ℕ) (xs : List X) (ks : List (Keyed X))
+    → ks ≡ map {B = Keyed X} (λ x. record { key = key x; item = x }) xs
+    → map (λ (k : Keyed X). k.item) (sorted by_key ks) ≡ sorted (on key text_cmp) xs
+by_keys_of {X} key xs ks e = made_by_keys key (λ (x : X). x) xs ks e ∙ map_same (sorted (on key text_cmp) xs)
+
+-- the same with each once
+pub once_by_keys_of : {X : Type 0} (key : X → List ℕ) (xs : List X) (ks : List (Keyed X))
+    → ks ≡ map {B = Keyed X} (λ x. record { key = key x; item = x }) xs
+    → map (λ (k : Keyed X). k.item) (in_order by_key ks) ≡ in_order (on key text_cmp) xs
+once_by_keys_of {X} key xs ks e =
+    let keyed : X → Keyed X = λ x. record { key = key x; item = x } in
+    ap (λ (l : List (Keyed X)). map (λ (k : Keyed X). k.item) (in_order by_key l)) e
+    ∙ ap (map (λ (k : Keyed X). k.item)) (in_order-map keyed by_key xs)
+    ∙ map-map keyed (λ (k : Keyed X). k.item) (in_order (on key text_cmp) xs)
+    ∙ map_same (in_order (on key text_cmp) xs)
 
 -- lines in order, each once
 pub once_lines : {X : Type 0} (f : X → Markup) (xs : List X) → in_order text_cmp (map (λ x. line (f x)) xs) ≡ map line (in_order line_cmp (map f xs))

@@ -1,5 +1,11 @@
 -- One turn of a loop that appends.
-use Rattle.std.proofs.Common.{◌≡◌, ◌∙◌, ap, sym, ℕ, suc, ◌+◌, ◌<◌, List, [], ◌∷◌, ◌++◌, length, drop, drop-cons, get_or, add-one, ◌≤◌, take, map, refl, zero, arith}
+use Rattle.std.proofs.Common.{◌≡◌, ◌∙◌, ap, sym, ℕ, suc, ◌+◌, ◌<◌, List, [], ◌∷◌, ◌++◌, length, drop, drop-cons, get_or, add-one, ◌≤◌, take, map, refl, zero, arith, Option, None}
+use Rattle.std.proofs.lemmas.Iterator.Adapters.{YieldsList-from_vec}
+use Rattle.std.proofs.lemmas.Iterator.Consumers.{YieldsList-end}
+use Rattle.std.proofs.lemmas.List.{map-append, map-id}
+use Rattle.std.specs.declared.vec.IntoIter.{IntoIter}
+use Rattle.std.specs.Iterator.{Yields}
+use Rattle.std.specs.Vec.Iter.{into_iter_items, into_iter_steps}
 use Rattle.instance_out.specs.Gaining.{Gains}
 
 -- the element at an index, and those behind it
@@ -32,3 +38,15 @@ map_suc f (y ∷ ys) (suc i) x h e = ap (λ l. f y ∷ l) (map_suc f ys i x (ome
 -- one more of the things that are made of the front
 pub map_taken : {A B : Type 0} (f : A → B) (xs : List A) (i : ℕ) (x : A) → i < length xs → x ≡ get_or xs i x → map f (take (i + 1) xs) ≡ map f (take i xs) ++ f x ∷ []
 map_taken f xs i x h e = rw add-one (map_suc f xs i x h e)
+
+-- a loop over the items of a `Vec` that has ended has taken them all
+pub all_moved : {A Z : Type 0} {r : Option A} (s t u : IntoIter A Z) (xs ys : List A) → into_iter_items s ≡ xs
+    → Yields into_iter_steps s ys t → r ≡ None → into_iter_steps t r u → ys ≡ xs
+all_moved s t u xs ys items taken none last =
+    sym (map-id ys) ∙ (YieldsList-end (YieldsList-from_vec (into_iter_items s) refl s.rest.ok.0) ys t taken _ u none last).0 ∙ items
+
+-- one more of the things that are made of what was taken
+pub map_pushed : {A B : Type 0} (f : A → B) (xs : List A) (x : A) (old new : List B) (y : B) → old ≡ map f xs → new ≡ old ++ y ∷ []
+    → y ≡ f x → new ≡ map f (xs ++ x ∷ [])
+map_pushed f xs x old new y before pushed made =
+    pushed ∙ ap (λ l. l ++ y ∷ []) before ∙ ap (λ z. map f xs ++ z ∷ []) made ∙ sym (map-append f xs (x ∷ []))

@@ -1,3 +1,4 @@
+pub mod Arranged
 pub mod Canonical
 pub mod Elements
 pub mod Gaining

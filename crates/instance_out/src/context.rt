@@ -177,8 +177,8 @@ pub fn context_lines(
     let mut keyed = Vec::new(alloc);
     for context in contexts {
         let key = Text::of(alloc, context.id.as_str())?;
-        let text = context_line(alloc, prefixes, context)?;
-        keyed.push(Keyed { key, text })?;
+        let item = context_line(alloc, prefixes, context)?;
+        keyed.push(Keyed { key, item })?;
     }
     by_keys(alloc, keyed)
 }

@@ -190,7 +190,7 @@ fn push_facts(
 }
 
 /// The line of a fact.
-fn line_of(alloc: Global, prefixes: &Prefixes<'_>, fact: &Fact) -> Result<Text, NoMemory>
+pub fn line_of(alloc: Global, prefixes: &Prefixes<'_>, fact: &Fact) -> Result<Text, NoMemory>
     ensures { IfOk result (λ t. t ≡ fact_line prefixes.now fact.now) }
 {
     let mut out = Text::of(alloc, "")?;

@@ -4,6 +4,7 @@
 ghost use Rattle.std.specs.Prelude.{◌≡◌, ◌+◌, ◌^◌, ◌<◌, IsTrue, length, OnOk, OnErr, IfOk, IfSome, option_map};
 ghost use Rattle.std.specs.List.{concat};
 ghost use Rattle.ix_base.specs.Outside.{HasCause, last_grown, GainsFront};
+ghost use Rattle.instance_out.specs.Arranged.{arranged};
 ghost use Rattle.instance_out.specs.Canonical.{canon_lines};
 ghost use Rattle.instance_out.specs.Writable.{IsWritable};
 
@@ -11,6 +12,9 @@ use ix_base::{Content, Failed, List, NoMemory, TargetSink, Text};
 use std::alloc::Global;
 use std::marker::Model;
 
+mod arranged_laws;
+mod arranged_note;
+mod arrangement;
 mod context;
 mod fact;
 mod lines;
@@ -22,6 +26,8 @@ mod prefix;
 mod reference;
 mod sort;
 mod unit;
+
+pub use arranged_laws::{arranged_lines, arranged_twice, arranged_writable};
 
 /// The canonical text of a content, ready to be written: its lines, each with its line feed.
 #[derive(Drop)]
@@ -60,6 +66,34 @@ pub fn prepare(alloc: Global, content: &Content) -> Result<Prepared, NoMemory>
         Some(len) => Ok(Prepared { lines, len }),
         None => Err(NoMemory),
     }
+}
+
+/// The same content with each list in the order in which its instance is written. References, locators, footnotes and arcs
+/// stand once, contexts, units and facts as often as before, and the members of a tuple keep their order. The content is given
+/// up where memory is wanting.
+pub fn arrange(alloc: Global, content: Content) -> Result<Content, NoMemory>
+    requires { IsWritable content }
+    ensures { IfOk result (λ c. c ≡ arranged content) }
+{
+    let spaces = arrangement::owned_spaces(alloc, &content)?;
+    let schemas = arrangement::schemas_in_order(alloc, content.schemas)?;
+    let linkbases = arrangement::linkbases_in_order(alloc, content.linkbases)?;
+    let roles = arrangement::roles_in_order(alloc, content.roles)?;
+    let arcroles = arrangement::arcroles_in_order(alloc, content.arcroles)?;
+    let contexts = arrangement::contexts_in_order(alloc, content.contexts)?;
+    let units = arrangement::units_in_order(alloc, content.units)?;
+    let facts = arrangement::facts_in_order(alloc, spaces.as_slice(), content.facts)?;
+    let notes = arranged_note::links_in_order(alloc, content.notes)?;
+    Ok(Content {
+        schemas,
+        linkbases,
+        roles,
+        arcroles,
+        contexts,
+        units,
+        facts,
+        notes,
+    })
 }
 
 /// How many bytes lines have together, where the number fits.

@@ -41,7 +41,7 @@ fn locator_of(alloc: Global, id: &str) -> Result<Text, NoMemory>
 }
 
 /// A footnote. Its body is markup already.
-fn footnote_of(alloc: Global, footnote: &Footnote) -> Result<Text, NoMemory>
+pub fn footnote_of(alloc: Global, footnote: &Footnote) -> Result<Text, NoMemory>
     ensures { IfOk result (λ t. t ≡ footnote_text footnote.now) }
 {
     let attributes = [
@@ -74,7 +74,7 @@ fn footnote_of(alloc: Global, footnote: &Footnote) -> Result<Text, NoMemory>
 }
 
 /// An arc.
-fn arc_of(alloc: Global, arc: &Arc) -> Result<Text, NoMemory>
+pub fn arc_of(alloc: Global, arc: &Arc) -> Result<Text, NoMemory>
     ensures { IfOk result (λ t. t ≡ arc_text arc.now) }
 {
     let attributes = [
@@ -132,8 +132,8 @@ fn footnotes_of(alloc: Global, footnotes: &[Footnote]) -> Result<Vec<Text>, NoMe
     let mut keyed = Vec::new(alloc);
     for footnote in footnotes {
         let key = Text::of(alloc, footnote.id.as_str())?;
-        let text = footnote_of(alloc, footnote)?;
-        keyed.push(Keyed { key, text })?;
+        let item = footnote_of(alloc, footnote)?;
+        keyed.push(Keyed { key, item })?;
     }
     by_keys(alloc, keyed)
 }
@@ -195,8 +195,8 @@ pub fn link_lines(alloc: Global, links: &[NoteLink]) -> Result<Vec<Text>, NoMemo
     let mut keyed = Vec::new(alloc);
     for link in links {
         let key = Text::of(alloc, link.role.as_str())?;
-        let text = link_line(alloc, link)?;
-        keyed.push(Keyed { key, text })?;
+        let item = link_line(alloc, link)?;
+        keyed.push(Keyed { key, item })?;
     }
     by_keys(alloc, keyed)
 }

@@ -23,7 +23,7 @@ fn leaf_line(alloc: Global, name: &str, attributes: &[Valued<'_>]) -> Result<Tex
 }
 
 /// The line of a schema's address.
-fn schema_line(alloc: Global, href: &str) -> Result<Text, NoMemory>
+pub fn schema_line(alloc: Global, href: &str) -> Result<Text, NoMemory>
     ensures { IfOk result (λ t. t ≡ line (schema_markup href.now)) }
 {
     let attributes = [
@@ -53,7 +53,7 @@ pub fn schema_lines(alloc: Global, hrefs: &[Text]) -> Result<Vec<Text>, NoMemory
 }
 
 /// The line of a linkbase.
-fn linkbase_line(alloc: Global, linkbase: &Linkbase) -> Result<Text, NoMemory>
+pub fn linkbase_line(alloc: Global, linkbase: &Linkbase) -> Result<Text, NoMemory>
     ensures { IfOk result (λ t. t ≡ line (linkbase_markup linkbase.now)) }
 {
     let attributes = [
@@ -91,7 +91,7 @@ pub fn linkbase_lines(alloc: Global, linkbases: &[Linkbase]) -> Result<Vec<Text>
 }
 
 /// The line of a role or an arcrole, in an element of this name with its URI in this attribute.
-fn role_line(alloc: Global, name: &str, uri: &str, role: &RoleRef) -> Result<Text, NoMemory>
+pub fn role_line(alloc: Global, name: &str, uri: &str, role: &RoleRef) -> Result<Text, NoMemory>
     ensures { IfOk result (λ t. t ≡ line (reference_markup name.now uri.now role.now)) }
 {
     let attributes = [

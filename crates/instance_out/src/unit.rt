@@ -85,8 +85,8 @@ pub fn unit_lines(
     let mut keyed = Vec::new(alloc);
     for unit in units {
         let key = Text::of(alloc, unit.id.as_str())?;
-        let text = unit_line(alloc, prefixes, unit)?;
-        keyed.push(Keyed { key, text })?;
+        let item = unit_line(alloc, prefixes, unit)?;
+        keyed.push(Keyed { key, item })?;
     }
     by_keys(alloc, keyed)
 }

@@ -1,4 +1,4 @@
-use Rattle.std.proofs.Common.{◌≡◌, map, take}
+use Rattle.std.proofs.Common.{◌≡◌, map, take, List, ℕ}
 use Rattle.ix_base.specs.declared.content.Footnote.{Footnote}
 use Rattle.instance_out.specs.Elements.{footnote_text}
 use Rattle.instance_out.specs.declared.sort.Keyed.{Keyed}
@@ -6,4 +6,5 @@ use Rattle.instance_out.proofs.note.footnotes_of.Given as goal
 
 abbrev pub invariant-loop-footnote : goal.invariant-loop-footnote
 invariant-loop-footnote l =
-    l.keyed.items ≡ map {B = Keyed} (λ (x : Footnote). record { key = x.id; text = footnote_text x }) (take l.footnote-index l.footnotes)
+    l.keyed.items ≡ map {B = Keyed (List ℕ)} (λ (x : Footnote). record { key = x.id; item = footnote_text x })
+    (take l.footnote-index l.footnotes)

@@ -1,4 +1,4 @@
-use Rattle.std.proofs.Common.{◌≡◌, map, take}
+use Rattle.std.proofs.Common.{◌≡◌, map, take, List, ℕ}
 use Rattle.ix_base.specs.declared.content.NoteLink.{NoteLink}
 use Rattle.instance_out.specs.Canonical.{line, link_markup}
 use Rattle.instance_out.specs.declared.sort.Keyed.{Keyed}
@@ -6,4 +6,5 @@ use Rattle.instance_out.proofs.note.link_lines.Given as goal
 
 abbrev pub invariant-loop-link : goal.invariant-loop-link
 invariant-loop-link l =
-    l.keyed.items ≡ map {B = Keyed} (λ (x : NoteLink). record { key = x.role; text = line (link_markup x) }) (take l.link-index l.links)
+    l.keyed.items ≡ map {B = Keyed (List ℕ)} (λ (x : NoteLink). record { key = x.role; item = line (link_markup x) })
+    (take l.link-index l.links)

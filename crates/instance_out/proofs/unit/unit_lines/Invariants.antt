@@ -1,4 +1,4 @@
-use Rattle.std.proofs.Common.{◌≡◌, map, take}
+use Rattle.std.proofs.Common.{◌≡◌, map, take, List, ℕ}
 use Rattle.ix_base.specs.declared.content.Unit.{Unit as UnitContent}
 use Rattle.instance_out.specs.Canonical.{unit_markup, line}
 use Rattle.instance_out.specs.declared.sort.Keyed.{Keyed}
@@ -6,4 +6,5 @@ use Rattle.instance_out.proofs.unit.unit_lines.Given as goal
 
 abbrev pub invariant-loop-unit : goal.invariant-loop-unit
 invariant-loop-unit l =
-    l.keyed.items ≡ map {B = Keyed} (λ (x : UnitContent). record { key = x.id; text = line (unit_markup l.prefixes x) }) (take l.unit-index l.units)
+    l.keyed.items ≡ map {B = Keyed (List ℕ)} (λ (x : UnitContent). record { key = x.id; item = line (unit_markup l.prefixes x) })
+    (take l.unit-index l.units)

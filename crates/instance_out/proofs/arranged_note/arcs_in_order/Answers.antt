@@ -1,0 +1,16 @@
+use Rattle.std.proofs.Common.{◌∙◌, ap, map}
+use Rattle.ix_base.specs.declared.content.Arc.{Arc}
+use Rattle.instance_out.specs.Elements.{arc_text}
+use Rattle.instance_out.specs.declared.sort.Keyed.{Keyed}
+use Rattle.instance_out.proofs.Sorting.{once_by_keys_of}
+use Rattle.instance_out.proofs.Steps.{all_moved}
+use Rattle.instance_out.proofs.arranged_note.arcs_in_order.Goals as goal
+
+pub returns : goal.returns
+returns c =
+    let f : Arc → Keyed Arc = λ x. record { key = arc_text x; item = x } in
+    let xs = c.args.arcs in
+    let all = all_moved _ _ c.next.new.self xs _ (c.into_iter-arc-iterator.ensures.into_iter_gives.0 ∙ c.into_vec-arc-items.ensures)
+    c.loop-arc.yielded_by c.in-None.is c.next.ensures.steps in
+    c.of.ensures ∙ c.in_ok-items.ensures ∙ once_by_keys_of (λ (x : Arc). arc_text x) xs c.loop-arc.keyed.items
+    (c.loop-arc.invariant ∙ ap (map f) all)

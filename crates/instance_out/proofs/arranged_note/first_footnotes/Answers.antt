@@ -1,0 +1,59 @@
+use Rattle.std.proofs.Common.{◌≡◌, ◌∙◌, ap, sym, Bool, true, false, cond, List, [], ◌∷◌, ◌++◌, append-nil}
+use Rattle.std.specs.Prelude.{bytes_eq, not}
+use Rattle.ix_base.specs.declared.content.Footnote.{Footnote}
+use Rattle.instance_out.specs.Arranged.{firsts}
+use Rattle.instance_out.specs.Elements.{footnote_text}
+use Rattle.instance_out.proofs.FirstLaws.{firsts-push, has_text, has_text-push}
+use Rattle.instance_out.proofs.arranged_note.first_footnotes.Goals as goal
+
+not_not : (a b : Bool) → a ≡ not b → not a ≡ b
+not_not a true e = ap not e
+not_not a false e = ap not e
+
+-- one more that is new, and one more that isn't
+
+kept_new : (ks new xs : List Footnote) (x : Footnote) (b : Bool) → ks ≡ firsts footnote_text xs → new ≡ ks ++ x ∷ []
+    → b ≡ not (has_text footnote_text xs (footnote_text x)) → b ≡ true
+    → new ≡ firsts footnote_text (xs ++ x ∷ [])
+kept_new ks new xs x b inv e told h =
+    e ∙ ap (λ l. l ++ x ∷ []) inv
+    ∙ ap (λ c. firsts footnote_text xs ++ cond c [] (x ∷ [])) (sym (ap not h)
+    ∙ not_not b (has_text footnote_text xs (footnote_text x)) told)
+    ∙ sym (firsts-push footnote_text xs x)
+
+kept_old : (ks xs : List Footnote) (x : Footnote) (b : Bool) → ks ≡ firsts footnote_text xs
+    → b ≡ not (has_text footnote_text xs (footnote_text x)) → b ≡ false
+    → ks ≡ firsts footnote_text (xs ++ x ∷ [])
+kept_old ks xs x b inv told h =
+    inv ∙ sym (append-nil (firsts footnote_text xs))
+    ∙ ap (λ c. firsts footnote_text xs ++ cond c [] (x ∷ [])) (sym (ap not h)
+    ∙ not_not b (has_text footnote_text xs (footnote_text x)) told)
+    ∙ sym (firsts-push footnote_text xs x)
+
+pub loop-footnote-preserved-then-branch : goal.loop-footnote-preserved-then-branch
+loop-footnote-preserved-then-branch c =
+    let x = c.in-Some.footnote in
+    let xs = c.loop-footnote.yielded in
+    let text : c.as_str.result.now ≡ footnote_text x = c.as_str.ensures ∙ c.in_ok-text.ensures in
+    record {
+      kept = kept_new _ _ xs x _ c.loop-footnote.invariant.kept c.in_ok-push.ensures.items
+          (c.in_ok-is_first.ensures.told ∙ ap not (c.loop-footnote.invariant.seen c.as_str.result.now
+          ∙ ap (has_text footnote_text xs) text)) c.if-branch.true;
+      seen = λ t. c.in_ok-is_first.ensures.noted t
+          ∙ ap (λ a. cond (bytes_eq c.as_str.result.now t) true a) (c.loop-footnote.invariant.seen t)
+          ∙ ap (λ s. cond (bytes_eq s t) true (has_text footnote_text xs t)) text ∙ sym (has_text-push footnote_text xs x t);
+    }
+
+pub loop-footnote-preserved : goal.loop-footnote-preserved
+loop-footnote-preserved c =
+    let x = c.in-Some.footnote in
+    let xs = c.loop-footnote.yielded in
+    let text : c.as_str.result.now ≡ footnote_text x = c.as_str.ensures ∙ c.in_ok-text.ensures in
+    record {
+      kept = kept_old _ xs x _ c.loop-footnote.invariant.kept
+          (c.in_ok-is_first.ensures.told ∙ ap not (c.loop-footnote.invariant.seen c.as_str.result.now
+          ∙ ap (has_text footnote_text xs) text)) c.if-branch.false;
+      seen = λ t. c.in_ok-is_first.ensures.noted t
+          ∙ ap (λ a. cond (bytes_eq c.as_str.result.now t) true a) (c.loop-footnote.invariant.seen t)
+          ∙ ap (λ s. cond (bytes_eq s t) true (has_text footnote_text xs t)) text ∙ sym (has_text-push footnote_text xs x t);
+    }

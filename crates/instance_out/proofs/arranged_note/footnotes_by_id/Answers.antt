@@ -1,0 +1,17 @@
+use Rattle.std.proofs.Common.{◌∙◌, ap, map}
+use Rattle.std.proofs.lemmas.Result.{IfOk-weaker}
+use Rattle.ix_base.specs.declared.content.Footnote.{Footnote}
+use Rattle.instance_out.specs.declared.sort.Keyed.{Keyed}
+use Rattle.instance_out.proofs.Sorting.{by_keys_of}
+use Rattle.instance_out.proofs.Steps.{all_moved}
+use Rattle.instance_out.proofs.arranged_note.footnotes_by_id.Goals as goal
+
+pub returns : goal.returns
+returns c =
+    let f : Footnote → Keyed Footnote = λ x. record { key = x.id; item = x } in
+    let xs = c.args.footnotes in
+    let all = all_moved _ _ c.next.new.self xs _ (c.into_iter-footnote-iterator.ensures.into_iter_gives.0 ∙ c.into_vec-footnote-items.ensures)
+    c.loop-footnote.yielded_by c.in-None.is c.next.ensures.steps in
+    IfOk-weaker c.by_keys.result _ _
+    (λ v e. e ∙ by_keys_of (λ (x : Footnote). x.id) xs c.loop-footnote.keyed.items (c.loop-footnote.invariant ∙ ap (map f) all))
+    c.by_keys.ensures

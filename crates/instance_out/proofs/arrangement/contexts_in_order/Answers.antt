@@ -1,0 +1,15 @@
+use Rattle.std.proofs.Common.{◌∙◌, ap, map}
+use Rattle.ix_base.specs.declared.content.Context.{Context}
+use Rattle.instance_out.specs.declared.sort.Keyed.{Keyed}
+use Rattle.instance_out.proofs.Sorting.{by_keys_of}
+use Rattle.instance_out.proofs.Steps.{all_moved}
+use Rattle.instance_out.proofs.arrangement.contexts_in_order.Goals as goal
+
+pub returns : goal.returns
+returns c =
+    let f : Context → Keyed Context = λ x. record { key = x.id; item = x } in
+    let xs = c.args.contexts in
+    let all = all_moved _ _ c.next.new.self xs _ (c.into_iter-context-iterator.ensures.into_iter_gives.0 ∙ c.into_vec-context-items.ensures)
+    c.loop-context.yielded_by c.in-None.is c.next.ensures.steps in
+    c.of-2.ensures ∙ c.in_ok-contexts.ensures ∙ by_keys_of (λ (x : Context). x.id) xs c.loop-context.keyed.items
+    (c.loop-context.invariant ∙ ap (map f) all)

@@ -1,0 +1,139 @@
+//! The parts of a content in the order in which an instance has them.
+ghost use Rattle.std.specs.Prelude.{◌≡◌, IfOk};
+ghost use Rattle.std.specs.Ordering.{on};
+ghost use Rattle.ix_base.specs.Facts.{facts_of};
+ghost use Rattle.ix_base.specs.Once.{in_order};
+ghost use Rattle.ix_base.specs.Sorted.{sorted, text_cmp};
+ghost use Rattle.instance_out.specs.Arranged.{by_line};
+ghost use Rattle.instance_out.specs.Canonical.{arcrole_markup, content_spaces, linkbase_markup, role_markup, schema_markup};
+ghost use Rattle.instance_out.specs.Elements.{fact_markup};
+
+use crate::fact::line_of;
+use crate::names::spaces_in;
+use crate::prefix::Prefixes;
+use crate::reference::{linkbase_line, role_line, schema_line};
+use crate::sort::{Keyed, by_keys, copies_of, once_by_keys, views_of};
+use ix_base::{Content, Context, Fact, Linkbase, List, NoMemory, RoleRef, Text, Unit};
+use std::alloc::Global;
+
+/// The addresses of schemas by their lines, each once.
+pub fn schemas_in_order(alloc: Global, hrefs: List<Text>) -> Result<List<Text>, NoMemory>
+    ensures { IfOk result (λ l. l ≡ in_order (by_line schema_markup) hrefs) }
+{
+    let mut keyed = Vec::new(alloc);
+    for href in hrefs.into_vec() {
+        let key = schema_line(alloc, href.as_str())?;
+        keyed.push(Keyed { key, item: href })?;
+    }
+    let schemas = once_by_keys(alloc, keyed)?;
+    Ok(List::of(schemas))
+}
+
+/// References to linkbases by their lines, each once.
+pub fn linkbases_in_order(
+    alloc: Global,
+    linkbases: List<Linkbase>,
+) -> Result<List<Linkbase>, NoMemory>
+    ensures { IfOk result (λ l. l ≡ in_order (by_line linkbase_markup) linkbases) }
+{
+    let mut keyed = Vec::new(alloc);
+    for linkbase in linkbases.into_vec() {
+        let key = linkbase_line(alloc, &linkbase)?;
+        keyed.push(Keyed {
+            key,
+            item: linkbase,
+        })?;
+    }
+    let linkbases = once_by_keys(alloc, keyed)?;
+    Ok(List::of(linkbases))
+}
+
+/// References to roles by their lines, each once.
+pub fn roles_in_order(alloc: Global, roles: List<RoleRef>) -> Result<List<RoleRef>, NoMemory>
+    ensures { IfOk result (λ l. l ≡ in_order (by_line role_markup) roles) }
+{
+    let mut keyed = Vec::new(alloc);
+    for role in roles.into_vec() {
+        let key = role_line(alloc, "link:roleRef", "roleURI", &role)?;
+        keyed.push(Keyed { key, item: role })?;
+    }
+    let roles = once_by_keys(alloc, keyed)?;
+    Ok(List::of(roles))
+}
+
+/// References to arcroles by their lines, each once.
+pub fn arcroles_in_order(alloc: Global, roles: List<RoleRef>) -> Result<List<RoleRef>, NoMemory>
+    ensures { IfOk result (λ l. l ≡ in_order (by_line arcrole_markup) roles) }
+{
+    let mut keyed = Vec::new(alloc);
+    for role in roles.into_vec() {
+        let key = role_line(alloc, "link:arcroleRef", "arcroleURI", &role)?;
+        keyed.push(Keyed { key, item: role })?;
+    }
+    let arcroles = once_by_keys(alloc, keyed)?;
+    Ok(List::of(arcroles))
+}
+
+/// Contexts by id. Those with one id keep the order that they have.
+pub fn contexts_in_order(alloc: Global, contexts: List<Context>) -> Result<List<Context>, NoMemory>
+    ensures { IfOk result (λ l. l ≡ sorted (on (λ x. x.id) text_cmp) contexts) }
+{
+    let mut keyed = Vec::new(alloc);
+    for context in contexts.into_vec() {
+        let key = Text::of(alloc, context.id.as_str())?;
+        keyed.push(Keyed { key, item: context })?;
+    }
+    let contexts = by_keys(alloc, keyed)?;
+    Ok(List::of(contexts))
+}
+
+/// Units by id. Those with one id keep the order that they have.
+pub fn units_in_order(alloc: Global, units: List<Unit>) -> Result<List<Unit>, NoMemory>
+    ensures { IfOk result (λ l. l ≡ sorted (on (λ u. u.id) text_cmp) units) }
+{
+    let mut keyed = Vec::new(alloc);
+    for unit in units.into_vec() {
+        let key = Text::of(alloc, unit.id.as_str())?;
+        keyed.push(Keyed { key, item: unit })?;
+    }
+    let units = by_keys(alloc, keyed)?;
+    Ok(List::of(units))
+}
+
+/// Facts by their lines. Those with one line keep the order that they have.
+fn facts_by_line(
+    alloc: Global,
+    prefixes: &Prefixes<'_>,
+    facts: List<Fact>,
+) -> Result<List<Fact>, NoMemory>
+    ensures { IfOk result (λ l. l ≡ sorted (by_line (fact_markup prefixes.now)) facts) }
+{
+    let mut keyed = Vec::new(alloc);
+    for fact in facts.into_vec() {
+        let key = line_of(alloc, prefixes, &fact)?;
+        keyed.push(Keyed { key, item: fact })?;
+    }
+    let facts = by_keys(alloc, keyed)?;
+    Ok(List::of(facts))
+}
+
+/// Copies of the namespaces of a content that need prefixes of their own, in order, each once.
+pub fn owned_spaces(alloc: Global, content: &Content) -> Result<Vec<Text>, NoMemory>
+    ensures { IfOk result (λ v. v.items ≡ content_spaces content.now (facts_of content.now.facts)) }
+{
+    let spaces = spaces_in(alloc, content)?;
+    copies_of(alloc, spaces.as_slice())
+}
+
+/// Facts by their lines, in an instance that has these further namespaces.
+pub fn facts_in_order(
+    alloc: Global,
+    spaces: &[Text],
+    facts: List<Fact>,
+) -> Result<List<Fact>, NoMemory>
+    ensures { IfOk result (λ l. l ≡ sorted (by_line (fact_markup spaces.now)) facts) }
+{
+    let views = views_of(alloc, spaces)?;
+    let prefixes = Prefixes::of(alloc, views)?;
+    facts_by_line(alloc, &prefixes, facts)
+}
