@@ -1,0 +1,112 @@
+-- Fans, and the arcs that they make.
+use Rattle.std.proofs.Common.{◌≡◌, ◌∙◌, ◌++◌, ◌+◌, ◌<◌, ℕ, Bool, true, false, cond, List, [], ◌∷◌, length, take, get_or, map, refl, sym, ap, Option, Some, None, option_map, append-nil, append_assoc}
+use Rattle.std.proofs.lemmas.List.{take_more}
+use Rattle.std.proofs.lemmas.List.Concat.{flat_map-append}
+use Rattle.std.proofs.lemmas.List.Elements.{filter-append, All-head, All-tail}
+use Rattle.std.specs.Prelude.{bytes_eq, Vec}
+use Rattle.std.specs.Borrow.{Bor}
+use Rattle.std.specs.Global.{Global}
+use Rattle.std.specs.List.{All, filter, flat_map}
+use Rattle.std.specs.Map.{lookup}
+use Rattle.std.specs.Option.{option_map_or}
+use Rattle.indexmap.specs.IndexMap.{IndexMap}
+use Rattle.ix_base.specs.Asks.{Asks, asks}
+use Rattle.ix_base.specs.LinkRules.{is_relationship, target_of}
+use Rattle.ix_base.specs.Located.{Located, located}
+use Rattle.ix_base.specs.declared.tree.Spot.{Spot}
+use Rattle.id_table.specs.Tables.{all_located}
+use Rattle.footnotes.specs.declared.fans.Fan.{Fan}
+use Rattle.footnotes.specs.declared.fans.Tie.{Tie}
+use Rattle.footnotes.specs.declared.relation.Relation.{Relation}
+use Rattle.footnotes.specs.Fans.{arcs_along, arcs_from, fan_arcs, fans_at, IsTieOf}
+use Rattle.footnotes.specs.FootnoteLinks.{Between, arcs_by, arcs_in, between, label}
+use Rattle.footnotes.specs.Kept.{arcs_at, arcs_kept}
+use Rattle.footnotes.specs.Known.{all_seen, seen, IsKnown}
+
+-- the arcs of a fan of a relationship
+pub fan-is : (r : Located) (t : Tie) (from : Bor Spot) (ends : Bor (List (Bor Spot))) → IsTieOf r t
+    → fan_arcs (record { tie = t; from = from; ends = ends }) ≡ map (between r (located from.now)) (all_located ends.now)
+fan-is r t from ends h = λ i. map (λ x. record {
+  role = h.role i;
+  arc = record { arcrole = h.arcrole i; from_id = label (located from.now); to_id = label x; order = h.order i };
+  from = located from.now;
+  to = x;
+}) (all_located ends.now)
+
+entered-by : (g : Located → List Between) (f : Located) (fan : Fan) (old new : List Fan) (b : Bool) → new ≡ cond b (old ++ fan ∷ []) old → fan_arcs fan ≡ g f
+    → arcs_along new ≡ arcs_along old ++ flat_map g (cond b (f ∷ []) [])
+entered-by g f fan old new true n e = ap arcs_along n ∙ flat_map-append fan_arcs old (fan ∷ []) ∙ ap (λ l. arcs_along old ++ (l ++ [])) e
+entered-by g f fan old new false n e = ap arcs_along n ∙ sym (append-nil (arcs_along old))
+
+-- a fan was entered at the target of its fact
+pub fan-entered : (r : Located) (xs : List Located) (q target : List ℕ) (f : Located) (fan : Fan) (old new : List Fan)
+    → new ≡ cond (bytes_eq q target) (old ++ fan ∷ []) old → target ≡ target_of f → fan_arcs fan ≡ map (between r f) xs
+    → arcs_along new ≡ arcs_along old ++ arcs_from r xs q (f ∷ [])
+fan-entered r xs q target f fan old new n t e =
+    entered-by (λ f. map (between r f) xs) f fan old new (bytes_eq q (target_of f)) (n ∙ ap (λ u. cond (bytes_eq q u) (old ++ fan ∷ []) old) t) e
+
+pub arcs_from-append : (r : Located) (xs : List Located) (q : List ℕ) (fs gs : List Located)
+    → arcs_from r xs q (fs ++ gs) ≡ arcs_from r xs q fs ++ arcs_from r xs q gs
+arcs_from-append r xs q fs gs =
+    ap (flat_map (λ f. map (between r f) xs)) (filter-append (λ f. bytes_eq q (target_of f)) fs gs)
+    ∙ flat_map-append (λ f. map (between r f) xs) (filter (λ f. bytes_eq q (target_of f)) fs) (filter (λ f. bytes_eq q (target_of f)) gs)
+
+pub joined : (a b c d e : List Between) → b ≡ a ++ d → c ≡ b ++ e → c ≡ a ++ (d ++ e)
+joined a b c d e h k = k ∙ ap (λ l. l ++ e) h ∙ append_assoc a d e
+
+-- the arcs of a relationship in a target, from what its ids name
+abbrev pub relation_arcs : List ℕ → Relation → List Between
+relation_arcs q x = arcs_from (seen x) (all_located x.ends.spots.now) q (all_located x.sources.spots.now)
+
+known-arcs : (a : Asks Located) (q : List ℕ) (x : Relation) → IsKnown a x → relation_arcs q x ≡ arcs_by true a q (seen x)
+known-arcs a q x k = λ i. arcs_from (seen x) (k.ends i) q (k.sources i)
+
+all-known : (a : Asks Located) (q : List ℕ) (rs : List Relation) → All (IsKnown a) rs → flat_map (relation_arcs q) rs ≡ flat_map (arcs_by true a q) (all_seen rs)
+all-known a q [] k = refl
+all-known a q (x ∷ rs) k =
+    ap (λ l. l ++ flat_map (relation_arcs q) rs) (known-arcs a q x (All-head (IsKnown a) x rs k))
+    ∙ ap (λ l. arcs_by true a q (seen x) ++ l) (all-known a q rs (All-tail (IsKnown a) x rs k))
+
+only-step : (a : Asks Located) (q : List ℕ) (e : Located) (es : List Located) (b : Bool)
+    → flat_map (arcs_by true a q) (filter is_relationship es) ≡ flat_map (λ r. arcs_by (is_relationship r) a q r) es
+    → flat_map (arcs_by true a q) (cond b (e ∷ filter is_relationship es) (filter is_relationship es)) ≡ arcs_by b a q e ++ flat_map (λ r. arcs_by (is_relationship r) a q r) es
+only-step a q e es true h = ap (λ l. arcs_by true a q e ++ l) h
+only-step a q e es false h = h
+
+only-relationships : (a : Asks Located) (q : List ℕ) (es : List Located)
+    → flat_map (arcs_by true a q) (filter is_relationship es) ≡ flat_map (λ r. arcs_by (is_relationship r) a q r) es
+only-relationships a q [] = refl
+only-relationships a q (e ∷ es) = only-step a q e es (is_relationship e) (only-relationships a q es)
+
+-- the arcs of all relationships in a target
+pub all-arcs : (es : List Located) (q : List ℕ) (rs : List Relation) → all_seen rs ≡ filter is_relationship es → All (IsKnown (asks es)) rs
+    → flat_map (relation_arcs q) rs ≡ arcs_in es q
+all-arcs es q rs s k = all-known (asks es) q rs k ∙ ap (flat_map (arcs_by true (asks es) q)) s ∙ only-relationships (asks es) q es
+
+-- the arcs of one more relationship
+pub more-arcs : (q : List ℕ) (rs : List Relation) (i : ℕ) (x : Relation) → i < length rs → x ≡ get_or rs i x
+    → flat_map (relation_arcs q) (take (i + 1) rs) ≡ flat_map (relation_arcs q) (take i rs) ++ relation_arcs q x
+more-arcs q rs i x h e =
+    ap (flat_map (relation_arcs q)) (take_more rs i x h ∙ ap (λ y. take i rs ++ y ∷ []) (sym e))
+    ∙ flat_map-append (relation_arcs q) (take i rs) (x ∷ [])
+    ∙ ap (λ l. flat_map (relation_arcs q) (take i rs) ++ l) (append-nil (relation_arcs q x))
+
+found-by : (b : Bool) (v : Vec Fan Global) (p : Option (List Between)) (q : Option (Vec Fan Global))
+    → p ≡ option_map (λ (w : Vec Fan Global). arcs_along w.items) q
+    → cond b (Some (arcs_along v.items)) p ≡ option_map (λ (w : Vec Fan Global). arcs_along w.items) (cond b (Some v) q)
+found-by true v p q h = refl
+found-by false v p q h = h
+
+lookup-texts : (id : List ℕ) (es : List (Bor (List ℕ) × Vec Fan Global))
+    → lookup (bytes_eq id) (map (λ e. (e.0.now, arcs_along e.1.items)) es) ≡ option_map (λ (w : Vec Fan Global). arcs_along w.items) (lookup (λ k. bytes_eq id k.now) es)
+lookup-texts id [] = refl
+lookup-texts id (e ∷ es) = found-by (bytes_eq id e.0.now) e.1 _ _ (lookup-texts id es)
+
+arcs-of : (o : Option (Vec Fan Global))
+    → option_map_or (λ (xs : List Between). xs) (option_map (λ (w : Vec Fan Global). arcs_along w.items) o) [] ≡ arcs_along (option_map_or (λ (w : Vec Fan Global). w.items) o [])
+arcs-of None = refl
+arcs-of (Some v) = refl
+
+-- the arcs in a target, by a table of fans
+pub kept-is : {S : Type 0} (m : IndexMap (Bor (List ℕ)) (Vec Fan Global) S) (target : List ℕ) → arcs_at (arcs_kept m) target ≡ arcs_along (fans_at m target)
+kept-is m target = ap (λ o. option_map_or (λ (xs : List Between). xs) o []) (lookup-texts target m.entries) ∙ arcs-of (lookup (λ k. bytes_eq target k.now) m.entries)

@@ -1,0 +1,101 @@
+-- Lists that are made of fans, part by part.
+use Rattle.std.proofs.Common.{◌≡◌, ◌∙◌, ◌++◌, ◌+◌, ◌<◌, ℕ, List, [], ◌∷◌, length, take, get_or, map, sym, ap, append_assoc}
+use Rattle.std.proofs.lemmas.List.{take_more, map-append}
+use Rattle.std.proofs.lemmas.List.Concat.{flat_map-append}
+use Rattle.std.proofs.lemmas.List.Elements.{filter-append}
+use Rattle.std.specs.Borrow.{Bor}
+use Rattle.std.specs.List.{filter}
+use Rattle.ix_base.specs.LinkRules.{is_footnote}
+use Rattle.ix_base.specs.Located.{Located, located, is_fact}
+use Rattle.ix_base.specs.declared.tree.Spot.{Spot}
+use Rattle.id_table.specs.Tables.{all_located}
+use Rattle.footnotes.specs.declared.fans.Fan.{Fan}
+use Rattle.footnotes.specs.Fans.{arc_to, arcs_along, fan_arcs}
+use Rattle.footnotes.specs.FootnoteLinks.{Between, ends, label}
+use Rattle.footnotes.specs.Linked.{noted}
+
+-- what is made of a list is made of its parts
+abbrev pub Joins : {X Y : Type 0} → (List X → List Y) → Type 0
+Joins {X} f = (xs ys : List X) → f (xs ++ ys) ≡ f xs ++ f ys
+
+pub step : {X Y : Type 0} (f : List X → List Y) → Joins f → (xs : List X) (i : ℕ) (x : X) → i < length xs → x ≡ get_or xs i x
+    → f (take (i + 1) xs) ≡ f (take i xs) ++ f (x ∷ [])
+step f j xs i x h e = ap f (take_more xs i x h ∙ ap (λ y. take i xs ++ y ∷ []) (sym e)) ∙ j (take i xs) (x ∷ [])
+
+-- what is made of one more was added
+pub step-all : {X Y : Type 0} (f : List X → List Y) → Joins f → (xs : List X) (i : ℕ) (x : X) → i < length xs → x ≡ get_or xs i x
+    → (now new : List Y) → now ≡ f (take i xs) → new ≡ now ++ f (x ∷ []) → new ≡ f (take (i + 1) xs)
+step-all f j xs i x h e now new n m = m ∙ ap (λ l. l ++ f (x ∷ [])) n ∙ sym (step f j xs i x h e)
+
+pub step-from : {X Y : Type 0} (f : List X → List Y) → Joins f → (xs : List X) (i : ℕ) (x : X) → i < length xs → x ≡ get_or xs i x
+    → (old now new : List Y) → now ≡ old ++ f (take i xs) → new ≡ now ++ f (x ∷ []) → new ≡ old ++ f (take (i + 1) xs)
+step-from f j xs i x h e old now new n m =
+    m ∙ ap (λ l. l ++ f (x ∷ [])) n ∙ append_assoc old (f (take i xs)) (f (x ∷ [])) ∙ ap (λ l. old ++ l) (sym (step f j xs i x h e))
+
+-- the arcs of a fan to some ends
+abbrev pub arcs_to : Fan → List (Bor Spot) → List Between
+arcs_to f ss = map (arc_to f) (all_located ss)
+
+arcs_to-joins : (f : Fan) → Joins (arcs_to f)
+arcs_to-joins f xs ys =
+    ap (map (arc_to f)) (map-append (λ (s : Bor Spot). located s.now) xs ys) ∙ map-append (arc_to f) (all_located xs) (all_located ys)
+
+arcs-joins : Joins arcs_along
+arcs-joins xs ys = flat_map-append fan_arcs xs ys
+
+-- one joining list of another
+both-join : {X Y Z : Type 0} (f : List X → List Y) (g : List Y → List Z) → Joins f → Joins g → Joins (λ xs. g (f xs))
+both-join f g j k xs ys = ap g (j xs ys) ∙ k (f xs) (f ys)
+
+abbrev ids_of : List Between → List (List ℕ)
+ids_of xs = map label (filter is_fact (ends xs))
+
+ids-join : Joins ids_of
+ids-join xs ys =
+    ap (λ l. map label (filter is_fact l)) (flat_map-append (λ (x : Between). x.from ∷ x.to ∷ []) xs ys)
+    ∙ ap (map label) (filter-append is_fact (ends xs) (ends ys)) ∙ map-append label (filter is_fact (ends xs)) (filter is_fact (ends ys))
+
+noted-joins : Joins noted
+noted-joins xs ys = ap (filter is_footnote) (map-append (λ (x : Between). x.to) xs ys) ∙ filter-append is_footnote (map (λ x. x.to) xs) (map (λ x. x.to) ys)
+
+-- the ids of facts at the arcs of a fan to some ends
+abbrev pub facts_to : Fan → List (Bor Spot) → List (List ℕ)
+facts_to f ss = ids_of (arcs_to f ss)
+
+pub facts_to-joins : (f : Fan) → Joins (facts_to f)
+facts_to-joins f = both-join (arcs_to f) ids_of (arcs_to-joins f) ids-join
+
+-- those at the arcs of some fans
+abbrev pub facts_along : List Fan → List (List ℕ)
+facts_along fans = ids_of (arcs_along fans)
+
+pub facts_along-joins : Joins facts_along
+facts_along-joins = both-join arcs_along ids_of arcs-joins ids-join
+
+-- the footnotes among some ends of a fan
+abbrev pub notes_to : Fan → List (Bor Spot) → List Located
+notes_to f ss = noted (arcs_to f ss)
+
+pub notes_to-joins : (f : Fan) → Joins (notes_to f)
+notes_to-joins f = both-join (arcs_to f) noted (arcs_to-joins f) noted-joins
+
+pub notes_along-joins : Joins (λ fans. noted (arcs_along fans))
+notes_along-joins = both-join arcs_along noted arcs-joins noted-joins
+
+pub drawn_to-joins : (f : Fan) → Joins (λ ss. map (λ (x : Between). x.arc) (arcs_to f ss))
+drawn_to-joins f = both-join (arcs_to f) (map (λ (x : Between). x.arc)) (arcs_to-joins f) (map-append (λ (x : Between). x.arc))
+
+pub drawn_along-joins : Joins (λ fans. map (λ (x : Between). x.arc) (arcs_along fans))
+drawn_along-joins = both-join arcs_along (map (λ (x : Between). x.arc)) arcs-joins (map-append (λ (x : Between). x.arc))
+
+-- the two ends of an arc, one after the other
+pub two-facts : (x y : Located) (old now new : List (List ℕ)) → now ≡ old ++ map label (filter is_fact (x ∷ [])) → new ≡ now ++ map label (filter is_fact (y ∷ []))
+    → new ≡ old ++ map label (filter is_fact (x ∷ y ∷ []))
+two-facts x y old now new n m =
+    m ∙ ap (λ l. l ++ map label (filter is_fact (y ∷ []))) n ∙ append_assoc old _ _
+    ∙ ap (λ l. old ++ l) (sym (ap (map label) (filter-append is_fact (x ∷ []) (y ∷ [])) ∙ map-append label (filter is_fact (x ∷ [])) (filter is_fact (y ∷ []))))
+
+-- the same at the element of an index
+pub step-at : {X Y : Type 0} (f : List X → List Y) → Joins f → (xs : List X) (i : ℕ) (d : X) → i < length xs
+    → (now new : List Y) → now ≡ f (take i xs) → new ≡ now ++ f (get_or xs i d ∷ []) → new ≡ f (take (i + 1) xs)
+step-at f j xs i d h now new n m = m ∙ ap (λ l. l ++ f (get_or xs i d ∷ [])) n ∙ sym (ap f (take_more xs i d h) ∙ j (take i xs) (get_or xs i d ∷ []))

@@ -1,0 +1,7 @@
+use lib.Utf8.{encode}
+use Rattle.footnotes.proofs.OrderLaws.{sign_gone}
+use Rattle.footnotes.proofs.order.without_sign.Goals as goal
+
+pub returns-in-None-strip_prefix : goal.returns-in-None-strip_prefix
+unfolding encode
+returns-in-None-strip_prefix c = sign_gone c.args.text.now c.in-None.ensures.cases c.in-None-strip_prefix.ensures.cases

@@ -1,0 +1,17 @@
+use Rattle.std.proofs.Common.{◌∙◌, ap, [], Vec}
+use Rattle.std.proofs.lemmas.Result.{IfOk-weaker}
+use Rattle.std.specs.Global.{Global}
+use Rattle.std.specs.Option.{option_map_or}
+use Rattle.ix_base.specs.Located.{base_in}
+use Rattle.footnotes.specs.declared.fans.Fan.{Fan}
+use Rattle.footnotes.specs.Fans.{arcs_along}
+use Rattle.footnotes.specs.Linked.{links_by, note_in}
+use Rattle.footnotes.proofs.relations.links_at.Goals as goal
+
+pub returns-in-Some : goal.returns-in-Some
+returns-in-Some c =
+    IfOk-weaker c.links_of.result _ _
+    (λ l e. e
+    ∙ ap (λ fans. links_by (note_in (base_in c.args.bases.now.pages) c.args.chains.now) (arcs_along fans))
+    (c.as_slice.ensures.value ∙ ap (λ o. option_map_or (λ (v : Vec Fan Global). v.items) o []) c.in-Some.ensures.value))
+    c.links_of.ensures

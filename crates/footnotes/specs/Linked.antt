@@ -1,0 +1,61 @@
+-- The footnote links of some arcs, from what stands for each footnote.
+use Rattle.std.specs.Prelude.{ℕ, List, [], ◌∷◌, map, flat_map, filter, Option, Some, None, bytes_eq, if◌then◌else◌}
+use Rattle.std.specs.Borrow.{Bor}
+use Rattle.std.specs.List.{filter_map}
+use Rattle.std.specs.Option.{option_map_or}
+use Rattle.indexmap.specs.IndexMap.{IndexMap, get_by}
+use Rattle.ix_base.specs.declared.content.Footnote.{Footnote}
+use Rattle.ix_base.specs.declared.content.NoteLink.{NoteLink}
+use Rattle.ix_base.specs.declared.tree.Spot.{Spot}
+use Rattle.ix_base.specs.LinkRules.{is_footnote}
+use Rattle.ix_base.specs.Located.{Located, is_fact, offset_of}
+use Rattle.ix_base.specs.Once.{in_order}
+use Rattle.ix_base.specs.Sorted.{text_cmp}
+use Rattle.continuations.specs.Kept.{chain_at}
+use Rattle.footnotes.specs.declared.fans.Fan.{Fan}
+use Rattle.footnotes.specs.FootnoteLinks.{Between, arc_cmp, ends, label, footnote_along}
+
+abbrev pub texts_of : List (Bor (List ℕ)) → List (List ℕ)
+texts_of xs = map (λ s. s.now) xs
+
+-- the last of some elements that is called so
+abbrev pub last_called : List ℕ → List Located → Option Located → Option Located
+last_called id [] found = found
+last_called id (e ∷ es) found = last_called id es (if bytes_eq id (label e) then Some e else found)
+
+-- the element that is kept for a name
+abbrev pub kept_at : {S : Type 0} → IndexMap (Bor (List ℕ)) (Bor Spot) S → List ℕ → Option (Bor Spot)
+kept_at m id = get_by (λ k. bytes_eq id k.now) m
+
+-- the chain that is kept for an element
+abbrev pub chain_kept : List ((ℕ × ℕ) × List Located) → Located → List Located
+chain_kept chains e = option_map_or (λ l. l) (chain_at chains e.page (offset_of e)) []
+
+-- a footnote whose text goes along the chain that is kept for it
+abbrev pub note_in : (Located → List ℕ) → List ((ℕ × ℕ) × List Located) → Located → Footnote
+note_in bases chains e = footnote_along bases (chain_kept chains e) e
+
+-- the footnotes at the ends of some arcs
+abbrev pub noted : List Between → List Located
+noted xs = filter is_footnote (map (λ x. x.to) xs)
+
+-- a link of these arcs
+abbrev pub link_by : (Located → Footnote) → List ℕ → List Between → NoteLink
+link_by note role xs = record {
+  role = role;
+  locs = in_order text_cmp (map label (filter is_fact (ends xs)));
+  footnotes = map note (filter_map (λ id. last_called id (noted xs) None) (in_order text_cmp (map label (noted xs))));
+  arcs = in_order arc_cmp (map (λ x. x.arc) xs);
+}
+
+-- the links of these arcs, by role
+abbrev pub links_by : (Located → Footnote) → List Between → List NoteLink
+links_by note xs = map (λ role. link_by note role (filter (λ x. bytes_eq role x.role) xs)) (in_order text_cmp (map (λ x. x.role) xs))
+
+-- the role of a fan that has arcs
+abbrev pub role_by : List (Bor Spot) → List ℕ → List (List ℕ)
+role_by [] role = []
+role_by (s ∷ ss) role = role ∷ []
+
+abbrev pub roles_along : List Fan → List (List ℕ)
+roles_along fans = flat_map (λ f. role_by f.ends.now f.tie.role.now) fans

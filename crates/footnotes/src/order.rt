@@ -1,0 +1,91 @@
+//! Orders as canonical decimals.
+ghost use Rattle.std.specs.Prelude.{◌≡◌, ◌+◌, ◌≤◌, IfOk, length, take, pos, vec_len};
+ghost use Rattle.std.specs.Str.{IsUtf8};
+ghost use Rattle.ix_base.specs.Decimals.{IsUnsigned};
+ghost use Rattle.ix_base.specs.Forms as form;
+ghost use Rattle.scale_sign.specs.Scaled.{IsNumber};
+ghost use Rattle.footnotes.specs.FootnoteLinks as spec;
+
+use ix_base::{NoMemory, Text};
+use scale_sign::{is_unsigned, numbers_are_text, scaled};
+use std::alloc::Global;
+
+/// A text without the sign that may stand in front.
+fn without_sign(text: &str) -> &str
+    ensures { result.now ≡ form.unsigned_of text.now }
+{
+    match text.strip_prefix('+') {
+        Some(rest) => rest,
+        None => match text.strip_prefix('-') {
+            Some(rest) => rest,
+            None => text,
+        },
+    }
+}
+
+fn is_negative(text: &str) -> bool
+    ensures { result ≡ form.is_negative text.now }
+{
+    match text.as_bytes() {
+        [] => false,
+        [first, ..] => *first == b'-',
+    }
+}
+
+/// Whether a text is an unsigned decimal.
+fn is_unsigned_decimal(text: &str) -> bool
+    ensures { result ≡ form.is_unsigned text.now }
+{
+    is_unsigned(text)
+}
+
+/// The text that the first so many bytes of a buffer are.
+fn text_at(alloc: Global, out: &[u8], count: usize) -> Result<Text, NoMemory>
+    requires within { count ≤ length out.now }
+    requires text { IsUtf8 (take count out.now) }
+    ensures { IfOk result (λ t. t ≡ take count out.now) }
+{
+    match str::from_utf8(&out[..count]) {
+        Ok(text) => Text::of(alloc, text),
+        Err(_) => unreachable!(),
+    }
+}
+
+/// An unsigned decimal with a sign in canonical form, written into this buffer.
+fn written_in(alloc: Global, digits: &str, negative: bool, out: &mut [u8]) -> Result<Text, NoMemory>
+    requires unsigned { IsUnsigned digits.now }
+    requires room { length digits.now + 3 ≤ length out.old }
+    ensures { IfOk result (λ t. IsNumber digits.now (pos 0) negative t) }
+{
+    numbers_are_text();
+    let count = scaled(digits, 0, negative, out);
+    text_at(alloc, out, count)
+}
+
+/// So many zeros.
+fn zeros(alloc: Global, count: usize) -> Result<Vec<u8>, NoMemory>
+    ensures { IfOk result (λ v. vec_len v ≡ count) }
+{
+    Ok(vec![in alloc; 0u8; count]?)
+}
+
+/// An unsigned decimal with a sign in canonical form.
+fn written(alloc: Global, digits: &str, negative: bool) -> Result<Text, NoMemory>
+    requires { IsUnsigned digits.now }
+    ensures { IfOk result (λ t. IsNumber digits.now (pos 0) negative t) }
+{
+    let mut out = zeros(alloc, digits.len() + 3)?;
+    written_in(alloc, digits, negative, out.as_mut_slice())
+}
+
+/// An order as a canonical decimal. A text that isn't a decimal stands as it is.
+pub(crate) fn canonical_order(alloc: Global, text: &str) -> Result<Text, NoMemory>
+    ensures { IfOk result (λ t. t ≡ spec.canonical_order text.now) }
+{
+    let digits = without_sign(text);
+    if is_unsigned_decimal(digits) {
+        written(alloc, digits, is_negative(text))
+    } else {
+        Text::of(alloc, text)
+    }
+}
