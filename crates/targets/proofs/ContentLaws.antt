@@ -1,0 +1,79 @@
+-- What stands of the contents of targets.
+use Rattle.std.proofs.Common.{◌≡◌, ◌∙◌, ◌≤◌, ap, refl, Bool, true, false, cond, not, List, [], ◌∷◌, Option, Some, None}
+use Rattle.std.specs.List.{All, Contains, cons_option, filter, filter_map}
+use Rattle.std.specs.Prelude.{ℕ, ◌&&◌, ◌||◌, bytes_eq, is_some}
+use Rattle.std.proofs.lemmas.List.Elements.{All-cons, All-contains_itself, All-filter, All-nil, All-same, filter_agree}
+use Rattle.ix_base.specs.declared.content.Content.{Content}
+use Rattle.ix_base.specs.declared.content.Context.{Context}
+use Rattle.ix_base.specs.declared.rule.Rule.TheVariants.{L9}
+use Rattle.ix_base.specs.Asks.{asks}
+use Rattle.ix_base.specs.ContextForm.{context}
+use Rattle.ix_base.specs.Facts.{facts_of}
+use Rattle.ix_base.specs.Kinds as kinds
+use Rattle.ix_base.specs.Kinds.{kind_of, same_kind}
+use Rattle.ix_base.specs.declared.kind.Kind.{Kind}
+use Rattle.ix_base.specs.declared.kind.Kind.TheVariants as kind
+use Rattle.ix_base.specs.LinkRules.{breaking, target_of}
+use Rattle.ix_base.specs.Located.{Located, is_fact, is_item}
+use Rattle.ix_base.specs.Membership.{owner}
+use Rattle.instance_out.specs.Writable.{IsTimely, IsWritable}
+use Rattle.targets.specs.Contents.{IsGathered, SaysItem, context_at, is_item_of, is_outer}
+use Rattle.targets.specs.Groups.{is_fact_of}
+use Rattle.targets.specs.Linked.{AreApart, AreOwned}
+use Rattle.targets.proofs.DepthLaws.{shallow}
+use Rattle.targets.proofs.TimelyLaws.{timely_form}
+
+timely-one : (e : Located) (o : Option Context) (rest : List Context) → context_at e ≡ o → All (λ x. IsTimely x.period) rest
+    → All (λ x. IsTimely x.period) (cons_option o rest)
+timely-one e None rest h all = all
+timely-one e (Some x) rest h all = All-cons (λ (y : Context). IsTimely y.period) x rest (timely_form e.placed.tree x h) all
+
+-- contexts in normal form hold at times that can be written
+all-timely : (es : List Located) → All (λ x. IsTimely x.period) (filter_map context_at es)
+all-timely [] = All-nil (λ (x : Context). IsTimely x.period)
+all-timely (e ∷ es) = timely-one e (context_at e) (filter_map context_at es) refl (all-timely es)
+
+-- what is gathered can be written
+pub gathered-writable : (bases : Located → List ℕ) (es : List Located) (target : List ℕ) (c : Content) → AreApart es → AreOwned es → breaking L9 es ≡ []
+    → IsGathered bases es target c → IsWritable c
+gathered-writable bases es target c apart owned sound g = record {
+  times = All-same (λ (x : Context). IsTimely x.period) c.contexts _ g.contexts (all-timely _);
+  tuples = shallow (SaysItem bases es) es apart owned sound (filter (is_outer (asks es) target) es)
+      (All-filter (is_outer (asks es) target) (Contains es) es (All-contains_itself es)) (facts_of c.facts) g.facts;
+}
+
+filter-both : {X : Type 0} (p q : X → Bool) (xs : List X) → filter p (filter q xs) ≡ filter (λ x. q x && p x) xs
+filter-both p q [] = refl
+filter-both p q (x ∷ xs) = by (q x) (filter-both p q xs)
+  where
+    by : (b : Bool) → filter p (filter q xs) ≡ filter (λ y. q y && p y) xs
+        → filter p (cond b (x ∷ filter q xs) (filter q xs)) ≡ cond (b && p x) (x ∷ filter (λ y. q y && p y) xs) (filter (λ y. q y && p y) xs)
+    by true h = ap (λ ys. cond (p x) (x ∷ ys) ys) h
+    by false h = h
+
+and-true : (b : Bool) → (b && true) ≡ b
+and-true true = refl
+and-true false = refl
+
+and-false : (b : Bool) → (b && false) ≡ false
+and-false true = refl
+and-false false = refl
+
+item-kind : (k : Kind) (b : Bool) → (kinds.is_fact k && b && (same_kind k kind.NonNumeric || same_kind k kind.NonFraction || same_kind k kind.Fraction))
+    ≡ ((same_kind k kind.NonNumeric || same_kind k kind.NonFraction || same_kind k kind.Fraction) && b)
+item-kind kind.NonNumeric b = and-true b
+item-kind kind.NonFraction b = and-true b
+item-kind kind.Fraction b = and-true b
+item-kind kind.Tuple b = and-false b
+item-kind k b = refl
+
+-- the items of a target
+pub items-are : (es : List Located) (target : List ℕ) → filter is_item (filter (is_fact_of target) es) ≡ filter (is_item_of target) es
+items-are es target =
+    filter-both is_item (is_fact_of target) es
+    ∙ filter_agree _ (is_item_of target) (λ e. item-kind (kind_of e.placed) (bytes_eq target (target_of e))) es
+
+-- the facts of a target without an owner
+pub outer-are : (es : List Located) (target : List ℕ)
+    → filter (λ e. not (is_some (owner (asks es) e))) (filter (is_fact_of target) es) ≡ filter (is_outer (asks es) target) es
+outer-are es target = filter-both (λ e. not (is_some (owner (asks es) e))) (is_fact_of target) es

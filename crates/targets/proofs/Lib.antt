@@ -1,0 +1,16 @@
+mod AboveLaws
+mod AmongLaws
+mod BelowLaws
+mod ChainLaws
+mod ClosingLaws
+mod ComesLaws
+mod ContentLaws
+mod DepthLaws
+mod FactsLaws
+mod FitLaws
+mod GroupLaws
+mod LinkLaws
+mod PlaceLaws
+mod RedirectLaws
+mod TimelyLaws
+mod ValueLaws

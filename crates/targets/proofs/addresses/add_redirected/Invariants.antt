@@ -1,0 +1,11 @@
+use Rattle.std.proofs.Common.{◌≡◌, ◌++◌, take}
+use Rattle.std.specs.List.{flat_map}
+use Rattle.ix_base.specs.Located.{base_in}
+use Rattle.id_table.specs.Held.{asked}
+use Rattle.id_table.specs.Tables.{all_located}
+use Rattle.targets.specs.Faults.{redirected_at}
+use Rattle.targets.proofs.addresses.add_redirected.Given as goal
+
+-- those before here are added
+abbrev pub invariant-loop-spot : goal.invariant-loop-spot
+invariant-loop-spot l = l.found ≡ l.initial.found ++ flat_map (redirected_at (base_in l.bases.pages) (asked l.index)) (all_located (take l.spot-index l.spot-items))

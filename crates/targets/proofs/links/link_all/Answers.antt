@@ -1,0 +1,35 @@
+use Rattle.std.proofs.Common.{◌≡◌, ◌∙◌, ◌++◌, [], List, ap, subst, sym}
+use Rattle.std.specs.List.{flat_map}
+use Rattle.ix_base.specs.declared.breach.Found.{Found}
+use Rattle.ix_base.specs.declared.rule.Rule.{Rule}
+use Rattle.ix_base.specs.declared.rule.Rule.TheVariants as rule
+use Rattle.ix_base.specs.Asks.{asks}
+use Rattle.ix_base.specs.LinkRules.{breaking, broken}
+use Rattle.ix_base.specs.Located.{base_in}
+use Rattle.ix_base.specs.Once.{SameMembers}
+use Rattle.targets.specs.Faults.{redirected_at, refs_at}
+use Rattle.targets.proofs.FitLaws.{both-none}
+use Rattle.targets.proofs.LinkLaws.{same-broken}
+use Rattle.targets.proofs.links.link_all.Goals as goal
+
+pub returns-clause-faults : goal.returns-clause-faults
+returns-clause-faults c =
+    let es = c.args.index.now.spots in
+    let bases = base_in c.args.bases.now.pages in
+    let on : Rule → List Found = λ r. breaking r es in
+    let ids = c.in_ok-doubled.ensures.ok ∙ ap (λ (x : List Found). x ++ on rule.L1) c.requires.none in
+    let refs = c.in_ok-add_refs.ensures ∙ ap (λ (x : List Found). x ++ flat_map (refs_at (asks es)) es) ids in
+    let chains = c.in_ok-chains.ensures.breaches ∙ ap (λ (x : List Found). x ++ on rule.L4 ++ on rule.L5 ++ on rule.L6 ++ on rule.L7) refs in
+    let tuples = c.in_ok-members.ensures.breaches ∙ ap (λ (x : List Found). x ++ on rule.L8 ++ on rule.L9 ++ on rule.L10 ++ on rule.L12 ++ on rule.L13) chains in
+    let schemas = c.in_ok-add_lacking_schema.ensures ∙ ap (λ (x : List Found). x ++ on rule.L14) tuples in
+    let roles = c.in_ok-add_redirected.ensures ∙ ap (λ (x : List Found). x ++ flat_map (redirected_at bases (asks es)) es) schemas in
+    subst (λ (xs : List Found). SameMembers xs (broken bases es)) (sym roles) (same-broken bases es c.requires.built)
+
+pub returns-clause-chains : goal.returns-clause-chains
+returns-clause-chains c = λ none.
+    let left : (xs ys : List Found) → xs ++ ys ≡ [] → xs ≡ [] = λ xs ys h. (both-none xs ys h).0 in
+    let schemas = left _ _ (sym c.in_ok-add_redirected.ensures ∙ none) in
+    let tuples = left _ _ (sym c.in_ok-add_lacking_schema.ensures ∙ schemas) in
+    let chains = left _ _ (left _ _ (left _ _ (left _ _ (left _ _ (sym c.in_ok-members.ensures.breaches ∙ tuples))))) in
+    let before = left _ _ (left _ _ (left _ _ (left _ _ (sym c.in_ok-chains.ensures.breaches ∙ chains)))) in
+    c.in_ok-chains.ensures.chains (chains ∙ sym before)

@@ -1,0 +1,23 @@
+use Rattle.std.proofs.Common.{◌∙◌, sym, append-nil}
+use Rattle.std.proofs.Common.{None, Some}
+use Rattle.ix_base.specs.Asks.{asks}
+use Rattle.ix_base.specs.Located.{base_in, located}
+use Rattle.facts.specs.ItemValue.{IsItem}
+use Rattle.facts.specs.Said.{said}
+use Rattle.targets.specs.Linked.{all_of, bases_of}
+use Rattle.targets.proofs.ValueLaws.{value-added}
+use Rattle.indexmap.proofs.MapLemmas.{OnOk-map}
+use Rattle.std.proofs.Common.{ap}
+use Rattle.targets.proofs.values.add_value.Goals as goal
+
+pub returns-in-Some : goal.returns-in-Some
+returns-in-Some c =
+    OnOk-map c.add_at.result _ _ (λ n. value-added (IsItem (base_in (bases_of c.args.linked.now)) (asks (all_of c.args.linked.now)) (located c.args.spot.now))
+    (located c.args.spot.now) (said c.item_at.result) (Some c.in-Some.rule) c.args.found.now c.add_at.new.found c.item_at.ensures
+    (c.in_ok-rule.ensures ∙ ap Some c.in-Some.is) n) c.add_at.ensures
+
+pub returns-in-None : goal.returns-in-None
+returns-in-None c =
+    value-added (IsItem (base_in (bases_of c.args.linked.now)) (asks (all_of c.args.linked.now)) (located c.args.spot.now)) (located c.args.spot.now)
+    (said c.item_at.result) None c.args.found.now c.args.found.now c.item_at.ensures (c.in_ok-rule.ensures ∙ ap Some c.in-None.is)
+    (sym (append-nil c.args.found.now))

@@ -1,0 +1,111 @@
+-- What the pages of a set say of a target.
+use Rattle.std.specs.Prelude.{◌≡◌, ◌&&◌, ◌||◌, not, ℕ, Bool, List, [], map, flat_map, filter, Option, None, Some, Ok, is_some, unwrap_or, if◌then◌else◌, bytes_eq, codes}
+use Rattle.std.specs.List.{filter_map}
+use Rattle.ix_base.specs.declared.content.Content.{Content}
+use Rattle.ix_base.specs.declared.content.Context.{Context}
+use Rattle.ix_base.specs.declared.content.Item.{Item}
+use Rattle.ix_base.specs.declared.content.Linkbase.{Linkbase}
+use Rattle.ix_base.specs.declared.content.Unit.{Unit as UnitContent}
+use Rattle.ix_base.specs.declared.kind.Kind.{Kind}
+use Rattle.ix_base.specs.declared.kind.Kind.TheVariants as kind
+use Rattle.ix_base.specs.Asks.{Asks, asks}
+use Rattle.ix_base.specs.Attributes.{value_of}
+use Rattle.ix_base.specs.ContextForm.{context}
+use Rattle.ix_base.specs.Facts.{facts_of}
+use Rattle.ix_base.specs.Forms.{is_empty}
+use Rattle.ix_base.specs.Ids.{one_such}
+use Rattle.ix_base.specs.Kinds.{kind_of}
+use Rattle.ix_base.specs.LinkRules.{address_of, is_schema_for, target_above, target_of}
+use Rattle.ix_base.specs.Located.{Located, head_of, is_fact, is_item, is_kind, token_at}
+use Rattle.ix_base.specs.Membership.{deepest, owner}
+use Rattle.ix_base.specs.Namespaces.{xlink_namespace}
+use Rattle.ix_base.specs.Once.{in_order}
+use Rattle.ix_base.specs.Rows.{row}
+use Rattle.ix_base.specs.Sorted.{text_cmp}
+use Rattle.ix_base.specs.Token.{token_of}
+use Rattle.ix_base.specs.UnitForm.{unit}
+use Rattle.facts.specs.ItemValue.{IsItem, unit_of}
+use Rattle.instance_out.specs.Arranged.{arranged}
+use Rattle.targets.specs.TargetFacts.{AreFacts}
+
+-- an element that has a target of its own
+abbrev pub has_target : Located → Bool
+has_target e = is_fact e || is_kind kind.References e
+
+abbrev pub targets_at : Located → List (List ℕ)
+targets_at e = row (has_target e) (target_of e)
+
+-- the targets of a set, in byte order, each once
+abbrev pub target_names : List Located → List (List ℕ)
+target_names es = in_order text_cmp (flat_map targets_at es)
+
+-- References.
+
+-- a linkbaseRef in an ix:references of this target
+abbrev pub is_linkbase_for : List ℕ → Located → Bool
+is_linkbase_for target e = is_kind kind.LinkbaseRef e && bytes_eq target (target_above e.placed.above)
+
+-- a text, unless it is empty
+abbrev pub if_any : List ℕ → Option (List ℕ)
+if_any text = if is_empty text then None else Some text
+
+-- what a linkbaseRef refers to
+abbrev pub linkbase_at : (Located → List ℕ) → Located → Linkbase
+linkbase_at bases e = record {
+  href = address_of bases e;
+  role = if_any (token_of (unwrap_or (value_of (head_of e).attrs xlink_namespace (codes "role")) []));
+}
+
+-- Contexts and units: those that the items of a target name.
+
+abbrev pub is_item_of : List ℕ → Located → Bool
+is_item_of target e = is_item e && bytes_eq target (target_of e)
+
+abbrev pub context_named : Located → Option (List ℕ)
+context_named e = token_at (codes "contextRef") e
+
+abbrev pub unit_named : Located → Option (List ℕ)
+unit_named e = unit_of (kind_of e.placed) e.placed.tree
+
+-- the ids that the items of a target name, in order, each once
+abbrev pub ids_named : (Located → Option (List ℕ)) → List ℕ → List Located → List (List ℕ)
+ids_named ref target es = in_order text_cmp (filter_map ref (filter (is_item_of target) es))
+
+-- the elements of a kind with these ids
+abbrev pub of_ids : Asks Located → Kind → List (List ℕ) → List Located
+of_ids a k ids = filter_map (one_such (is_kind k) a) ids
+
+abbrev pub context_at : Located → Option Context
+context_at e = context e.placed.tree
+
+abbrev pub unit_at : Located → Option UnitContent
+unit_at e = unit e.placed.tree
+
+abbrev pub contexts_of : List Located → List ℕ → List Context
+contexts_of es target = filter_map context_at (of_ids (asks es) kind.Context (ids_named context_named target es))
+
+abbrev pub units_of : List Located → List ℕ → List UnitContent
+units_of es target = filter_map unit_at (of_ids (asks es) kind.Unit (ids_named unit_named target es))
+
+-- a fact of a target without an owner
+abbrev pub is_outer : Asks Located → List ℕ → Located → Bool
+is_outer a target e = is_fact e && bytes_eq target (target_of e) && not (is_some (owner a e))
+
+-- an item says this
+abbrev pub SaysItem : (Located → List ℕ) → List Located → Located → Item → Type 0
+SaysItem bases es e i = IsItem bases (asks es) e (Ok i)
+
+-- what elements say of a target, each list as they come
+pub record IsGathered (bases : Located → List ℕ) (es : List Located) (target : List ℕ) (c : Content) : Type 0 where
+  pub schemas : c.schemas ≡ map (address_of bases) (filter (is_schema_for target) es)
+  pub linkbases : c.linkbases ≡ map (linkbase_at bases) (filter (is_linkbase_for target) es)
+  pub contexts : c.contexts ≡ contexts_of es target
+  pub units : c.units ≡ units_of es target
+  pub facts : AreFacts (SaysItem bases es) es deepest (filter (is_outer (asks es) target) es) (facts_of c.facts)
+  pub roles : c.roles ≡ []
+  pub arcroles : c.arcroles ≡ []
+  pub notes : c.notes ≡ []
+
+-- the content of a target: what the elements say of it, each list in the order of an instance
+abbrev pub IsContent : (Located → List ℕ) → List Located → List ℕ → Content → Type 0
+IsContent bases es target c = (gathered : Content) × IsGathered bases es target gathered × (c ≡ arranged gathered)

@@ -1,0 +1,32 @@
+-- By what elements are put together.
+use Rattle.std.specs.Prelude.{◌≡◌, ◌&&◌, ℕ, Bool, List, filter, Option, Some, None, if◌then◌else◌, bytes_eq}
+use Rattle.ix_base.specs.declared.kind.Kind.TheVariants as kind
+use Rattle.ix_base.specs.Located.{Located, is_fact, is_kind}
+use Rattle.ix_base.specs.LinkRules.{is_schema_for, target_above, target_of}
+use Rattle.id_table.specs.Tables.{all_located, spots_at}
+use Rattle.targets.specs.Contents.{context_named, is_linkbase_for, unit_named}
+use Rattle.targets.specs.declared.contents.Groups.{Groups}
+use Rattle.targets.specs.declared.contents.Ref.{Ref}
+use Rattle.targets.specs.declared.contents.Ref.TheVariants.{Context, Unit}
+use Rattle.targets.specs.declared.groups.Group.{Group}
+use Rattle.targets.specs.declared.groups.Group.TheVariants.{Facts, Schemas, Linkbases}
+
+-- the target for which an element stands in a group
+abbrev pub key_by : Group → Located → Option (List ℕ)
+key_by Facts e = if is_fact e then Some (target_of e) else None
+key_by Schemas e = if is_kind kind.SchemaRef e then Some (target_above e.placed.above) else None
+key_by Linkbases e = if is_kind kind.LinkbaseRef e then Some (target_above e.placed.above) else None
+
+-- what items name
+abbrev pub ref_by : Ref → Located → Option (List ℕ)
+ref_by Context e = context_named e
+ref_by Unit e = unit_named e
+
+abbrev pub is_fact_of : List ℕ → Located → Bool
+is_fact_of target e = is_fact e && bytes_eq target (target_of e)
+
+-- the facts and the references among these elements, by their targets
+pub record AreGroups (g : Groups) (es : List Located) : Type 0 where
+  pub facts : (target : List ℕ) → all_located (spots_at g.facts target) ≡ filter (is_fact_of target) es
+  pub schemas : (target : List ℕ) → all_located (spots_at g.schemas target) ≡ filter (is_schema_for target) es
+  pub linkbases : (target : List ℕ) → all_located (spots_at g.linkbases target) ≡ filter (is_linkbase_for target) es

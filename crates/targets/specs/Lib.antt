@@ -1,0 +1,10 @@
+pub mod Contents
+pub mod Faults
+pub mod Groups
+pub mod Holding
+pub mod Linked
+pub mod Outcomes
+pub mod PageSet
+pub mod Redirects
+pub mod Seen
+pub mod TargetFacts

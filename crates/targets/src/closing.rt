@@ -1,0 +1,165 @@
+//! What the pages of a set come to, class by class.
+ghost use Rattle.std.specs.Prelude.{◌≡◌, ◌<◌, [], All, length, map, IfOk};
+ghost use Rattle.targets.specs.Faults.{element_faults, link_faults, unbuilt};
+ghost use Rattle.targets.specs.Holding.{KeepsAll, set_of};
+ghost use Rattle.targets.specs.Linked.{IsLinked, IsShallow, IsValued, all_of, bases_of};
+ghost use Rattle.ix_base.specs.Located.{base_in};
+ghost use Rattle.targets.specs.Outcomes.{AreAllTargets, CanBeWritten, ComesOfValues, ComesTo, FirstOf, IsReport};
+ghost use Rattle.targets.specs.PageSet as spec;
+ghost use Rattle.targets.specs.PageSet.{elements, page_bases};
+
+use crate::contents::targets_of;
+use crate::links::{Linked, link_all, unbuilt_in};
+use crate::outcome::Outcome;
+use crate::values::value_faults;
+use bumpalo::Bump;
+use id_table::Index;
+use ix_base::{Breaches, Element, NoMemory, Text};
+use ix_grammar::check_page;
+use scopes::Bases;
+use std::alloc::Global;
+
+/// A page of a set.
+#[derive(Drop)]
+pub(crate) struct Page<'a> {
+    pub(crate) name: Text,
+    pub(crate) root: &'a Element<'a>,
+}
+
+/// The pages of a set, with their index and their bases.
+#[derive(Drop)]
+pub(crate) struct Pages<'s, 'a> {
+    pub(crate) base: &'s str,
+    pub(crate) pages: &'s [Page<'a>],
+    pub(crate) index: &'s Index<'a>,
+    pub(crate) bases: &'s Bases,
+}
+
+/// The report of what was found.
+fn reported(found: Breaches, names: &[Text]) -> Result<Outcome, NoMemory>
+    requires { All (λ f. f.place.page < length names.now) found }
+    ensures report { IfOk result (IsReport names.now found) }
+    ensures written { IfOk result CanBeWritten }
+{
+    let report = found.report(names)?;
+    Ok(Outcome::Broken(report))
+}
+
+/// The rules of elements that the pages break, page by page and in document order.
+fn element_faults_of(alloc: Global, pages: &Pages<'_, '_>) -> Result<Breaches, NoMemory>
+    requires { KeepsAll pages.now }
+    ensures { IfOk result (λ b. b ≡ element_faults (set_of pages.now)) }
+{
+    let mut found = Breaches::new(alloc);
+    for page in pages.pages {
+        check_page(alloc, page.root, &mut found)?;
+    }
+    Ok(found)
+}
+
+/// All targets of a set.
+fn whole(alloc: Global, linked: &Linked<'_, '_>) -> Result<Outcome, NoMemory>
+    requires linked { IsLinked linked.now }
+    requires valued { IsValued linked.now }
+    requires shallow { IsShallow linked.now }
+    ensures whole { IfOk result (AreAllTargets (base_in (bases_of linked.now)) (all_of linked.now)) }
+    ensures written { IfOk result CanBeWritten }
+{
+    let targets = targets_of(alloc, linked)?;
+    Ok(Outcome::Whole(targets))
+}
+
+/// What pages come to that break no rule on links.
+fn comes_of_values(
+    alloc: Global,
+    pages: &Pages<'_, '_>,
+    linked: &Linked<'_, '_>,
+    names: &[Text],
+) -> Result<Outcome, NoMemory>
+    requires keeps { KeepsAll pages.now }
+    requires linked { IsLinked linked.now }
+    requires elements { all_of linked.now ≡ elements (set_of pages.now) }
+    requires bases { bases_of linked.now ≡ page_bases (set_of pages.now) }
+    requires shallow { IsShallow linked.now }
+    requires names { names.now ≡ spec.names (set_of pages.now) }
+    ensures comes { IfOk result (ComesOfValues (set_of pages.now)) }
+    ensures written { IfOk result CanBeWritten }
+{
+    let found = value_faults(alloc, linked)?;
+    if found.is_empty() {
+        return whole(alloc, linked);
+    }
+    reported(found, names)
+}
+
+/// What pages come to that break no rule of elements, where all of them is built.
+fn comes_of_links<'a>(
+    alloc: Global,
+    arena: &'a Bump,
+    pages: &Pages<'_, 'a>,
+    names: &[Text],
+) -> Result<Outcome, NoMemory>
+    requires keeps { KeepsAll pages.now }
+    requires sound { element_faults (set_of pages.now) ≡ [] }
+    requires built { unbuilt (set_of pages.now) ≡ [] }
+    requires names { names.now ≡ spec.names (set_of pages.now) }
+    ensures comes { IfOk result (FirstOf names.now (link_faults (set_of pages.now)) (ComesOfValues (set_of pages.now))) }
+    ensures written { IfOk result CanBeWritten }
+{
+    let mut found = Breaches::new(alloc);
+    let linked = link_all(alloc, arena, pages.index, pages.bases, &mut found)?;
+    if found.is_empty() {
+        return comes_of_values(alloc, pages, &linked, names);
+    }
+    reported(found, names)
+}
+
+/// What pages come to that break no rule of elements.
+fn comes_of_elements<'a>(
+    alloc: Global,
+    arena: &'a Bump,
+    pages: &Pages<'_, 'a>,
+    names: &[Text],
+) -> Result<Outcome, NoMemory>
+    requires keeps { KeepsAll pages.now }
+    requires sound { element_faults (set_of pages.now) ≡ [] }
+    requires names { names.now ≡ spec.names (set_of pages.now) }
+    ensures comes { IfOk result (FirstOf names.now (unbuilt (set_of pages.now))
+        (FirstOf names.now (link_faults (set_of pages.now)) (ComesOfValues (set_of pages.now)))) }
+    ensures written { IfOk result CanBeWritten }
+{
+    let found = unbuilt_in(alloc, pages.index)?;
+    if found.is_empty() {
+        return comes_of_links(alloc, arena, pages, names);
+    }
+    reported(found, names)
+}
+
+/// The names of pages.
+fn names_of(alloc: Global, pages: &[Page<'_>]) -> Result<Vec<Text>, NoMemory>
+    ensures { IfOk result (λ v. v.items ≡ map (λ p. p.name) pages.now) }
+{
+    let mut names = Vec::new(alloc);
+    for page in pages {
+        names.push(Text::of(alloc, page.name.as_str())?)?;
+    }
+    Ok(names)
+}
+
+/// What pages come to.
+pub(crate) fn closed<'a>(
+    alloc: Global,
+    arena: &'a Bump,
+    pages: &Pages<'_, 'a>,
+) -> Result<Outcome, NoMemory>
+    requires { KeepsAll pages.now }
+    ensures comes { IfOk result (ComesTo (set_of pages.now)) }
+    ensures written { IfOk result CanBeWritten }
+{
+    let names = names_of(alloc, pages.pages)?;
+    let found = element_faults_of(alloc, pages)?;
+    if found.is_empty() {
+        return comes_of_elements(alloc, arena, pages, names.as_slice());
+    }
+    reported(found, names.as_slice())
+}

@@ -1,0 +1,466 @@
+//! The contents of the targets of a set.
+ghost use Rattle.std.specs.Prelude.{◌≡◌, ◌<◌, ◌++◌, ◌∷◌, [], All, length, map, filter, not, is_some, option_map, IfOk, OnOk};
+ghost use Rattle.std.specs.List.{filter_map, flat_map};
+ghost use Rattle.ix_base.specs.Asks.{asks};
+ghost use Rattle.ix_base.specs.Located as kinds;
+ghost use Rattle.ix_base.specs.Located.{base_in, located};
+ghost use Rattle.ix_base.specs.LinkRules as rules;
+ghost use Rattle.ix_base.specs.Facts.{facts_of};
+ghost use Rattle.ix_base.specs.Membership.{deepest, owner};
+ghost use Rattle.ix_base.specs.Once.{in_order};
+ghost use Rattle.ix_base.specs.Sorted.{text_cmp};
+ghost use Rattle.ix_base.specs.declared.kind.Kind.TheVariants as kind;
+ghost use Rattle.id_table.specs.Held.{asked};
+ghost use Rattle.id_table.specs.Tables.{all_located};
+ghost use Rattle.instance_out.specs.Writable.{IsWritable};
+ghost use Rattle.targets.specs.Contents as spec;
+ghost use Rattle.targets.specs.Contents.{IsContent, IsGathered, target_names};
+ghost use Rattle.targets.specs.Groups.{AreGroups, ref_by};
+ghost use Rattle.targets.specs.Linked.{IsLinked, IsShallow, IsValued, SaysIn, all_of, bases_of};
+ghost use Rattle.targets.specs.Outcomes.{AreTargets};
+ghost use Rattle.targets.specs.Seen.{AreOnPages, values_of};
+ghost use Rattle.targets.specs.TargetFacts.{AreFacts};
+
+use crate::addresses::{address_of, link_token};
+use crate::facts_in::facts_at;
+use crate::groups::{Group, at, grouped, is_fact};
+use crate::links::Linked;
+use crate::outcome::Target;
+use crate::values::is_item;
+use fact_view::target_of;
+use id_table::{Holders, Index};
+use instance_out::arrange;
+use ix_base::{
+    Content, Context, Fact, Kind, Linkbase, List, NoMemory, Spot, Text, Unit, kind_of, token_at,
+};
+use scopes::Bases;
+use std::alloc::Global;
+use xbrl_parts::{PartFault, context_of, unit_of};
+
+/// How deep tuples stand within tuples at most.
+const DEEPEST: u32 = 100;
+
+/// The facts and the references of a set, by their targets.
+#[derive(Drop)]
+struct Groups<'a> {
+    facts: Holders<'a>,
+    schemas: Holders<'a>,
+    linkbases: Holders<'a>,
+}
+
+/// What an item names: a context or a unit.
+#[derive(Clone, Copy)]
+enum Ref {
+    Context,
+    Unit,
+}
+
+fn groups_of<'a>(alloc: Global, index: &Index<'a>) -> Result<Groups<'a>, NoMemory>
+    ensures { IfOk result (λ g. AreGroups g index.now.spots) }
+{
+    let spots = index.spots();
+    let facts = grouped(alloc, Group::Facts, spots)?;
+    let schemas = grouped(alloc, Group::Schemas, spots)?;
+    let linkbases = grouped(alloc, Group::Linkbases, spots)?;
+    Ok(Groups {
+        facts,
+        schemas,
+        linkbases,
+    })
+}
+
+/// The addresses of references.
+fn addresses_at(alloc: Global, bases: &Bases, spots: &[&Spot<'_>]) -> Result<List<Text>, NoMemory>
+    requires { AreOnPages bases.now.pages spots.now }
+    ensures { IfOk result (λ l. l ≡ map (rules.address_of (base_in bases.now.pages)) (all_located spots.now)) }
+{
+    let mut addresses = List::new(alloc);
+    for spot in spots {
+        addresses.push(address_of(alloc, bases, spot)?)?;
+    }
+    Ok(addresses)
+}
+
+/// A text that is owned, unless it is empty.
+fn own_unless_empty(alloc: Global, text: &str) -> Result<Option<Text>, NoMemory>
+    ensures { IfOk result (λ o. o ≡ spec.if_any text.now) }
+{
+    if text.is_empty() {
+        return Ok(None);
+    }
+    Ok(Some(Text::of(alloc, text)?))
+}
+
+/// What a linkbaseRef refers to.
+fn linkbase_of(alloc: Global, bases: &Bases, spot: &Spot<'_>) -> Result<Linkbase, NoMemory>
+    requires { (located spot.now).page < length bases.now.pages }
+    ensures { IfOk result (λ l. l ≡ spec.linkbase_at (base_in bases.now.pages) (located spot.now)) }
+{
+    Ok(Linkbase {
+        href: address_of(alloc, bases, spot)?,
+        role: own_unless_empty(alloc, link_token(spot.element, "role"))?,
+    })
+}
+
+/// What linkbaseRefs refer to.
+fn linkbases_at(
+    alloc: Global,
+    bases: &Bases,
+    spots: &[&Spot<'_>],
+) -> Result<List<Linkbase>, NoMemory>
+    requires { AreOnPages bases.now.pages spots.now }
+    ensures { IfOk result (λ l. l ≡ map (spec.linkbase_at (base_in bases.now.pages)) (all_located spots.now)) }
+{
+    let mut linkbases = List::new(alloc);
+    for spot in spots {
+        linkbases.push(linkbase_of(alloc, bases, spot)?)?;
+    }
+    Ok(linkbases)
+}
+
+/// The id of the context, or of the unit, that an item names.
+fn id_named<'a>(by: Ref, spot: &Spot<'a>) -> Option<&'a str>
+    ensures { option_map (λ s. s.now) result ≡ ref_by by (located spot.now) }
+{
+    match (by, kind_of(spot)) {
+        (Ref::Context, _) => token_at(spot.element, "contextRef"),
+        (Ref::Unit, Kind::NonFraction | Kind::Fraction) => token_at(spot.element, "unitRef"),
+        _ => None,
+    }
+}
+
+/// Adds the id that an element names, where it is an item.
+fn push_named<'a>(by: Ref, spot: &Spot<'a>, ids: &mut Vec<&'a str>) -> Result<(), NoMemory>
+    ensures { OnOk result (values_of ids.new.items
+        ≡ values_of ids.old.items ++ filter_map (ref_by by) (filter kinds.is_item (located spot.now ∷ []))) }
+{
+    if !is_item(spot) {
+        return Ok(());
+    }
+    if let Some(id) = id_named(by, spot) {
+        ids.push(id)?;
+    }
+    Ok(())
+}
+
+/// The ids that the items among these elements name, as often as they do.
+fn each_named<'a>(alloc: Global, by: Ref, spots: &[&'a Spot<'a>]) -> Result<Vec<&'a str>, NoMemory>
+    ensures { IfOk result (λ v. values_of v.items ≡ filter_map (ref_by by) (filter kinds.is_item (all_located spots.now))) }
+{
+    let mut ids = Vec::new(alloc);
+    for spot in spots {
+        push_named(by, spot, &mut ids)?;
+    }
+    Ok(ids)
+}
+
+/// Puts texts in order by their bytes, each once.
+fn each_once(texts: &mut Vec<&str>)
+    ensures { values_of texts.new.items ≡ in_order text_cmp (values_of texts.old.items) }
+{
+    texts.sort_unstable();
+    texts.dedup();
+}
+
+/// The ids that the items among these elements name, in order, each once.
+fn ids_named<'a>(alloc: Global, by: Ref, spots: &[&'a Spot<'a>]) -> Result<Vec<&'a str>, NoMemory>
+    ensures { IfOk result (λ v. values_of v.items
+        ≡ in_order text_cmp (filter_map (ref_by by) (filter kinds.is_item (all_located spots.now)))) }
+{
+    let mut ids = each_named(alloc, by, spots)?;
+    each_once(&mut ids);
+    Ok(ids)
+}
+
+/// Adds the context of an id, where there is one.
+fn push_context(
+    alloc: Global,
+    index: &Index<'_>,
+    id: &str,
+    contexts: &mut List<Context>,
+) -> Result<(), NoMemory>
+    ensures { OnOk result (contexts.new ≡ contexts.old ++ filter_map spec.context_at (spec.of_ids (asked index.now) kind.Context (id.now ∷ []))) }
+{
+    let Some(entry) = index.one(id) else {
+        return Ok(());
+    };
+    if entry.kind != Kind::Context {
+        return Ok(());
+    }
+    match context_of(alloc, entry.spot.element) {
+        Ok(context) => contexts.push(context),
+        Err(PartFault::Breach(_)) => Ok(()),
+        Err(PartFault::NoMemory) => Err(NoMemory),
+    }
+}
+
+/// The contexts of these ids.
+fn contexts_of(alloc: Global, index: &Index<'_>, ids: &[&str]) -> Result<List<Context>, NoMemory>
+    ensures { IfOk result (λ l. l ≡ filter_map spec.context_at (spec.of_ids (asked index.now) kind.Context (values_of ids.now))) }
+{
+    let mut contexts = List::new(alloc);
+    for id in ids {
+        push_context(alloc, index, *id, &mut contexts)?;
+    }
+    Ok(contexts)
+}
+
+/// Adds the unit of an id, where there is one.
+fn push_unit(
+    alloc: Global,
+    index: &Index<'_>,
+    id: &str,
+    units: &mut List<Unit>,
+) -> Result<(), NoMemory>
+    ensures { OnOk result (units.new ≡ units.old ++ filter_map spec.unit_at (spec.of_ids (asked index.now) kind.Unit (id.now ∷ []))) }
+{
+    let Some(entry) = index.one(id) else {
+        return Ok(());
+    };
+    if entry.kind != Kind::Unit {
+        return Ok(());
+    }
+    match unit_of(alloc, entry.spot.element) {
+        Ok(unit) => units.push(unit),
+        Err(PartFault::Breach(_)) => Ok(()),
+        Err(PartFault::NoMemory) => Err(NoMemory),
+    }
+}
+
+/// The units of these ids.
+fn units_of(alloc: Global, index: &Index<'_>, ids: &[&str]) -> Result<List<Unit>, NoMemory>
+    ensures { IfOk result (λ l. l ≡ filter_map spec.unit_at (spec.of_ids (asked index.now) kind.Unit (values_of ids.now))) }
+{
+    let mut units = List::new(alloc);
+    for id in ids {
+        push_unit(alloc, index, *id, &mut units)?;
+    }
+    Ok(units)
+}
+
+/// Adds an element that has no owner.
+fn push_outer<'a>(
+    linked: &Linked<'_, 'a>,
+    spot: &'a Spot<'a>,
+    outer: &mut Vec<&'a Spot<'a>>,
+) -> Result<(), NoMemory>
+    requires { IsLinked linked.now }
+    ensures { OnOk result (all_located outer.new.items ≡ all_located outer.old.items
+        ++ filter (λ e. not (is_some (owner (asks (all_of linked.now)) e))) (located spot.entry.now ∷ [])) }
+{
+    if linked.members.owner(spot).is_none() {
+        outer.push(spot)?;
+    }
+    Ok(())
+}
+
+/// Those of some elements that have no owner.
+fn outer_of<'a>(
+    alloc: Global,
+    linked: &Linked<'_, 'a>,
+    spots: &[&'a Spot<'a>],
+) -> Result<Vec<&'a Spot<'a>>, NoMemory>
+    requires { IsLinked linked.now }
+    ensures { IfOk result (λ v. all_located v.items ≡ filter (λ e. not (is_some (owner (asks (all_of linked.now)) e))) (all_located spots.now)) }
+{
+    let mut outer = Vec::new(alloc);
+    for spot in spots {
+        push_outer(linked, *spot, &mut outer)?;
+    }
+    Ok(outer)
+}
+
+/// The addresses of the schemas of a target.
+fn schemas_for<'a>(
+    alloc: Global,
+    linked: &Linked<'_, 'a>,
+    groups: &Groups<'a>,
+    target: &str,
+) -> Result<List<Text>, NoMemory>
+    requires linked { IsLinked linked.now }
+    requires groups { AreGroups groups.now (all_of linked.now) }
+    ensures { IfOk result (λ l. l ≡ map (rules.address_of (base_in (bases_of linked.now))) (filter (rules.is_schema_for target.now) (all_of linked.now))) }
+{
+    let spots = at(alloc, &groups.schemas, target)?;
+    addresses_at(alloc, linked.bases, spots.as_slice())
+}
+
+/// The references to linkbases of a target.
+fn linkbases_for<'a>(
+    alloc: Global,
+    linked: &Linked<'_, 'a>,
+    groups: &Groups<'a>,
+    target: &str,
+) -> Result<List<Linkbase>, NoMemory>
+    requires linked { IsLinked linked.now }
+    requires groups { AreGroups groups.now (all_of linked.now) }
+    ensures { IfOk result (λ l. l ≡ map (spec.linkbase_at (base_in (bases_of linked.now))) (filter (spec.is_linkbase_for target.now) (all_of linked.now))) }
+{
+    let spots = at(alloc, &groups.linkbases, target)?;
+    linkbases_at(alloc, linked.bases, spots.as_slice())
+}
+
+/// The contexts that the items of a target name.
+fn contexts_for<'a>(
+    alloc: Global,
+    linked: &Linked<'_, 'a>,
+    groups: &Groups<'a>,
+    target: &str,
+) -> Result<List<Context>, NoMemory>
+    requires linked { IsLinked linked.now }
+    requires groups { AreGroups groups.now (all_of linked.now) }
+    ensures { IfOk result (λ l. l ≡ spec.contexts_of (all_of linked.now) target.now) }
+{
+    let facts = at(alloc, &groups.facts, target)?;
+    let ids = ids_named(alloc, Ref::Context, facts.as_slice())?;
+    contexts_of(alloc, linked.index, ids.as_slice())
+}
+
+/// The units that the items of a target name.
+fn units_for<'a>(
+    alloc: Global,
+    linked: &Linked<'_, 'a>,
+    groups: &Groups<'a>,
+    target: &str,
+) -> Result<List<Unit>, NoMemory>
+    requires linked { IsLinked linked.now }
+    requires groups { AreGroups groups.now (all_of linked.now) }
+    ensures { IfOk result (λ l. l ≡ spec.units_of (all_of linked.now) target.now) }
+{
+    let facts = at(alloc, &groups.facts, target)?;
+    let ids = ids_named(alloc, Ref::Unit, facts.as_slice())?;
+    units_of(alloc, linked.index, ids.as_slice())
+}
+
+/// The facts of a target, members within their tuples.
+fn facts_for<'a>(
+    alloc: Global,
+    linked: &Linked<'_, 'a>,
+    groups: &Groups<'a>,
+    target: &str,
+) -> Result<List<Fact>, NoMemory>
+    requires linked { IsLinked linked.now }
+    requires valued { IsValued linked.now }
+    requires groups { AreGroups groups.now (all_of linked.now) }
+    ensures { IfOk result (λ l. AreFacts (SaysIn linked.now) (all_of linked.now) deepest
+        (filter (spec.is_outer (asks (all_of linked.now)) target.now) (all_of linked.now)) (facts_of l)) }
+{
+    let facts = at(alloc, &groups.facts, target)?;
+    let outer = outer_of(alloc, linked, facts.as_slice())?;
+    facts_at(alloc, linked, outer.as_slice(), DEEPEST)
+}
+
+/// What the elements of a set say of a target, each list as they come.
+fn gathered<'a>(
+    alloc: Global,
+    linked: &Linked<'_, 'a>,
+    groups: &Groups<'a>,
+    target: &str,
+) -> Result<Content, NoMemory>
+    requires linked { IsLinked linked.now }
+    requires valued { IsValued linked.now }
+    requires groups { AreGroups groups.now (all_of linked.now) }
+    ensures { IfOk result (IsGathered (base_in (bases_of linked.now)) (all_of linked.now) target.now) }
+{
+    let schemas = schemas_for(alloc, linked, groups, target)?;
+    let linkbases = linkbases_for(alloc, linked, groups, target)?;
+    let contexts = contexts_for(alloc, linked, groups, target)?;
+    let units = units_for(alloc, linked, groups, target)?;
+    let facts = facts_for(alloc, linked, groups, target)?;
+    Ok(Content {
+        schemas,
+        linkbases,
+        roles: List::new(alloc),
+        arcroles: List::new(alloc),
+        contexts,
+        units,
+        facts,
+        notes: List::new(alloc),
+    })
+}
+
+/// The content of a target.
+fn content_of<'a>(
+    alloc: Global,
+    linked: &Linked<'_, 'a>,
+    groups: &Groups<'a>,
+    target: &str,
+) -> Result<Content, NoMemory>
+    requires linked { IsLinked linked.now }
+    requires valued { IsValued linked.now }
+    requires shallow { IsShallow linked.now }
+    requires groups { AreGroups groups.now (all_of linked.now) }
+    ensures content { IfOk result (IsContent (base_in (bases_of linked.now)) (all_of linked.now) target.now) }
+    ensures written { IfOk result IsWritable }
+{
+    let content = gathered(alloc, linked, groups, target)?;
+    arrange(alloc, content)
+}
+
+/// Whether an element has a target of its own.
+fn has_target(spot: &Spot<'_>) -> bool
+    ensures { result ≡ spec.has_target (located spot.now) }
+{
+    is_fact(spot) || kind_of(spot) == Kind::References
+}
+
+/// The targets that elements have, as often as they do.
+fn each_target<'a>(alloc: Global, spots: &[&'a Spot<'a>]) -> Result<Vec<&'a str>, NoMemory>
+    ensures { IfOk result (λ v. values_of v.items ≡ flat_map spec.targets_at (all_located spots.now)) }
+{
+    let mut names = Vec::new(alloc);
+    for spot in spots {
+        if has_target(spot) {
+            names.push(target_of(spot.element))?;
+        }
+    }
+    Ok(names)
+}
+
+/// The targets of a set, in byte order, each once.
+fn names_of<'a>(alloc: Global, index: &Index<'a>) -> Result<Vec<&'a str>, NoMemory>
+    ensures { IfOk result (λ v. values_of v.items ≡ target_names index.now.spots) }
+{
+    let mut names = each_target(alloc, index.spots())?;
+    each_once(&mut names);
+    Ok(names)
+}
+
+/// A target with its content.
+fn target_named<'a>(
+    alloc: Global,
+    linked: &Linked<'_, 'a>,
+    groups: &Groups<'a>,
+    name: &str,
+) -> Result<Target, NoMemory>
+    requires linked { IsLinked linked.now }
+    requires valued { IsValued linked.now }
+    requires shallow { IsShallow linked.now }
+    requires groups { AreGroups groups.now (all_of linked.now) }
+    ensures name { IfOk result (λ t. t.name ≡ name.now) }
+    ensures content { IfOk result (λ t. IsContent (base_in (bases_of linked.now)) (all_of linked.now) t.name t.content) }
+    ensures written { IfOk result (λ t. IsWritable t.content) }
+{
+    Ok(Target {
+        name: Text::of(alloc, name)?,
+        content: content_of(alloc, linked, groups, name)?,
+    })
+}
+
+/// The targets of a set, each with its content.
+pub(crate) fn targets_of(alloc: Global, linked: &Linked<'_, '_>) -> Result<List<Target>, NoMemory>
+    requires linked { IsLinked linked.now }
+    requires valued { IsValued linked.now }
+    requires shallow { IsShallow linked.now }
+    ensures targets { IfOk result (AreTargets (base_in (bases_of linked.now)) (all_of linked.now) (target_names (all_of linked.now))) }
+    ensures written { IfOk result (All (λ t. IsWritable t.content)) }
+{
+    let groups = groups_of(alloc, linked.index)?;
+    let names = names_of(alloc, linked.index)?;
+    let mut targets = List::new(alloc);
+    for name in names.as_slice() {
+        let target = target_named(alloc, linked, &groups, *name)?;
+        targets.push(target)?;
+    }
+    Ok(targets)
+}

@@ -1,0 +1,130 @@
+//! The facts of a target, tuples with their members within.
+ghost use Rattle.std.specs.Prelude.{◌≡◌, ℕ, All, Contains, true, IfOk, option_map};
+ghost use Rattle.ix_base.specs.Facts.{Facts, before, facts_of, tuple};
+ghost use Rattle.ix_base.specs.Ids.{id_of};
+ghost use Rattle.ix_base.specs.Located as kinds;
+ghost use Rattle.ix_base.specs.Located.{located};
+ghost use Rattle.ix_base.specs.Membership as spec;
+ghost use Rattle.ix_base.specs.OwnNames.{own};
+ghost use Rattle.ix_base.specs.Trees.{named};
+ghost use Rattle.id_table.specs.Tables.{all_located};
+ghost use Rattle.targets.specs.Linked.{IsLinked, IsValued, SaysIn, all_of};
+ghost use Rattle.targets.specs.Seen.{AreAmong};
+ghost use Rattle.targets.specs.TargetFacts.{AreFacts, IsFactOf, members_read, one_less};
+
+use crate::links::Linked;
+use crate::values::item_at;
+use fact_view::fact_name;
+use facts::ItemFault;
+use id_table::id_at;
+use ix_base::{Fact, Kind, List, Name, NoMemory, OwnName, Spot, Text, Tuple, kind_of};
+use std::alloc::Global;
+use value_forms::is_nil;
+
+/// An item as a fact.
+fn item_fact<'a>(alloc: Global, linked: &Linked<'_, 'a>, spot: &Spot<'a>) -> Result<Fact, NoMemory>
+    requires linked { IsLinked linked.now }
+    requires valued { IsValued linked.now }
+    requires among { Contains (all_of linked.now) (located spot.now) }
+    requires item { kinds.is_item (located spot.now) ≡ true }
+    ensures { IfOk result (λ f. (n : ℕ) → IsFactOf (SaysIn linked.now) (all_of linked.now) n (located spot.now) f) }
+{
+    match item_at(alloc, linked, spot) {
+        Ok(item) => Ok(Fact::Item(item)),
+        Err(ItemFault::Breach(_)) => unreachable!(),
+        Err(ItemFault::NoMemory) => Err(NoMemory),
+    }
+}
+
+/// A name that is owned.
+fn own_name(alloc: Global, name: Name<'_>) -> Result<OwnName, NoMemory>
+    ensures { IfOk result (λ n. n ≡ own (named name.entry)) }
+{
+    Ok(OwnName {
+        ns: Text::of(alloc, name.ns)?,
+        local: Text::of(alloc, name.local)?,
+    })
+}
+
+/// A text that is owned, where there is one.
+fn own_if(alloc: Global, text: Option<&str>) -> Result<Option<Text>, NoMemory>
+    ensures { IfOk result (λ o. o ≡ option_map (λ t. t.now) text.entry) }
+{
+    match text {
+        Some(text) => Ok(Some(Text::of(alloc, text)?)),
+        None => Ok(None),
+    }
+}
+
+/// A tuple with these facts within.
+fn tuple_of(alloc: Global, spot: &Spot<'_>, members: List<Fact>) -> Result<Tuple, NoMemory>
+    ensures name { IfOk result (λ t. t.name ≡ spec.fact_name (located spot.now)) }
+    ensures id { IfOk result (λ t. t.id ≡ id_of (located spot.now)) }
+    ensures nil { IfOk result (λ t. t.nil ≡ kinds.is_nil (located spot.now)) }
+    ensures members { IfOk result (λ t. t.members ≡ members) }
+{
+    let name = own_name(alloc, fact_name(spot.element))?;
+    let id = own_if(alloc, id_at(spot))?;
+    Ok(Tuple {
+        name,
+        id,
+        nil: is_nil(spot.element),
+        members,
+    })
+}
+
+/// The same as a fact.
+fn tuple_fact(alloc: Global, spot: &Spot<'_>, members: List<Fact>) -> Result<Fact, NoMemory>
+    ensures { IfOk result (λ f. (rest : Facts) → before f rest
+        ≡ tuple (spec.fact_name (located spot.now)) (id_of (located spot.now)) (kinds.is_nil (located spot.now)) (facts_of members) rest) }
+{
+    let tuple = tuple_of(alloc, spot, members)?;
+    Ok(Fact::Tuple(tuple))
+}
+
+/// The facts within a tuple, where tuples are read so deep.
+#[cycle(facts)]
+fn members_in<'a>(
+    alloc: Global,
+    linked: &Linked<'_, 'a>,
+    tuple: &Spot<'a>,
+    depth: u32,
+) -> Result<List<Fact>, NoMemory>
+    requires linked { IsLinked linked.now }
+    requires valued { IsValued linked.now }
+    ensures { IfOk result (λ l. AreFacts (SaysIn linked.now) (all_of linked.now) (one_less depth)
+        (members_read depth (all_of linked.now) (located tuple.now)) (facts_of l)) }
+{
+    if depth == 0 {
+        return Ok(List::new(alloc));
+    }
+    facts_at(alloc, linked, linked.members.of(tuple), depth - 1)
+}
+
+/// The facts that these elements are, with those within tuples, read to so many tuples deep.
+#[cycle(facts)]
+pub(crate) fn facts_at<'a>(
+    alloc: Global,
+    linked: &Linked<'_, 'a>,
+    spots: &[&'a Spot<'a>],
+    depth: u32,
+) -> Result<List<Fact>, NoMemory>
+    requires linked { IsLinked linked.now }
+    requires valued { IsValued linked.now }
+    requires among { AreAmong (all_of linked.now) spots.now }
+    requires facts { All (λ s. kinds.is_fact (located s.now) ≡ true) spots.now }
+    ensures { IfOk result (λ l. AreFacts (SaysIn linked.now) (all_of linked.now) depth (all_located spots.now) (facts_of l)) }
+{
+    let mut facts = List::new(alloc);
+    for spot in spots {
+        if kind_of(spot) != Kind::Tuple {
+            let item = item_fact(alloc, linked, spot)?;
+            facts.push(item)?;
+            continue;
+        }
+        let members = members_in(alloc, linked, spot, depth)?;
+        let tuple = tuple_fact(alloc, spot, members)?;
+        facts.push(tuple)?;
+    }
+    Ok(facts)
+}

@@ -1,0 +1,82 @@
+//! The elements of a set by the target for which they stand.
+ghost use Rattle.std.specs.Prelude.{◌≡◌, IfOk, option_map};
+ghost use Rattle.ix_base.specs.Located as kinds;
+ghost use Rattle.ix_base.specs.LinkRules as rules;
+ghost use Rattle.ix_base.specs.Located.{located};
+ghost use Rattle.id_table.specs.Tables.{HasEach, spots_at};
+ghost use Rattle.targets.specs.Groups.{key_by};
+
+use fact_view::target_of;
+use id_table::{Holders, enter};
+use indexmap::IndexMap;
+use ix_base::{Kind, NoMemory, Spot, kind_of};
+use std::alloc::Global;
+
+/// What elements are put together by their targets.
+#[derive(Clone, Copy, PartialEq, Eq)]
+pub(crate) enum Group {
+    Facts,
+    Schemas,
+    Linkbases,
+}
+
+pub(crate) fn is_fact(spot: &Spot<'_>) -> bool
+    ensures { result ≡ kinds.is_fact (located spot.now) }
+{
+    matches!(
+        kind_of(spot),
+        Kind::NonFraction | Kind::NonNumeric | Kind::Fraction | Kind::Tuple
+    )
+}
+
+/// The target of the element right above.
+fn target_above<'a>(spot: &Spot<'a>) -> &'a str
+    ensures { result.now ≡ rules.target_above (located spot.now).placed.above }
+{
+    match spot.up {
+        Some(up) => target_of(up.element),
+        None => "",
+    }
+}
+
+/// The target for which an element stands in a group.
+fn key_of<'a>(group: Group, spot: &Spot<'a>) -> Option<&'a str>
+    ensures { option_map (λ s. s.now) result ≡ key_by group (located spot.now) }
+{
+    match group {
+        Group::Facts if is_fact(spot) => Some(target_of(spot.element)),
+        Group::Schemas if kind_of(spot) == Kind::SchemaRef => Some(target_above(spot)),
+        Group::Linkbases if kind_of(spot) == Kind::LinkbaseRef => Some(target_above(spot)),
+        _ => None,
+    }
+}
+
+/// The elements of a group, by their targets.
+pub(crate) fn grouped<'a>(
+    alloc: Global,
+    group: Group,
+    spots: &[&'a Spot<'a>],
+) -> Result<Holders<'a>, NoMemory>
+    ensures { IfOk result (λ m. HasEach (key_by group) m spots.now) }
+{
+    let mut holders = IndexMap::new(alloc);
+    for spot in spots {
+        enter(alloc, &mut holders, key_of(group, spot), *spot)?;
+    }
+    Ok(holders)
+}
+
+/// The elements that stand for a target.
+pub(crate) fn at<'a>(
+    alloc: Global,
+    holders: &Holders<'a>,
+    target: &str,
+) -> Result<Vec<&'a Spot<'a>>, NoMemory>
+    ensures { IfOk result (λ v. v.items ≡ spots_at holders.now target.now) }
+{
+    let mut spots = Vec::new(alloc);
+    if let Some(found) = holders.get(target) {
+        spots.extend_from_slice(found.as_slice())?;
+    }
+    Ok(spots)
+}

@@ -1,0 +1,21 @@
+//! What a set of pages comes to: the rules that it breaks, or its targets, each with its content.
+//!
+//! `Set::add_page` enters a page's elements into an index and keeps the page's base. `Set::close` looks for the rules class by
+//! class: of elements, what isn't built yet, on links, of values; where none is broken it makes the contents. Facts,
+//! references and what items name are put together by their targets once, so that a target costs what it has; the value of
+//! an item is made twice, once for the rules of values and once for the content. Beside the sorting of names, ids and lines
+//! the work grows with the pages, and with the depth of the elements where a base or a path is followed.
+#![tactic(auto)]
+
+mod addresses;
+mod closing;
+mod contents;
+mod facts_in;
+mod groups;
+mod links;
+mod outcome;
+mod set;
+mod values;
+
+pub use outcome::{Outcome, Target};
+pub use set::Set;

@@ -1,0 +1,133 @@
+//! The rules on links that a set breaks.
+ghost use Rattle.std.specs.Prelude.{◌≡◌, ◌++◌, [], ◌<◌, ℕ, true, List, length, filter, All, IfOk, OnOk};
+ghost use Rattle.std.specs.List.{flat_map};
+ghost use Rattle.ix_base.specs.declared.rule.Rule.TheVariants as rule;
+ghost use Rattle.ix_base.specs.Located.{base_in, located};
+ghost use Rattle.ix_base.specs.LinkRules as rules;
+ghost use Rattle.ix_base.specs.LinkRules.{breaking, broken};
+ghost use Rattle.ix_base.specs.Once.{SameMembers};
+ghost use Rattle.continuations.specs.Kept.{AreChainsOf};
+ghost use Rattle.id_table.specs.Held.{asked};
+ghost use Rattle.id_table.specs.Tables.{all_located, spots_at};
+ghost use Rattle.tuples.specs.Fits.{fits};
+ghost use Rattle.tuples.specs.Kept.{AreMembersOf};
+ghost use Rattle.targets.specs.Faults.{refs_at, unbuilt_at};
+
+use crate::addresses::add_redirected;
+use crate::groups::{Group, grouped, is_fact};
+use bumpalo::Bump;
+use continuations::{Chains, link};
+use fact_view::target_of;
+use facts::refs_of;
+use id_table::{Holders, Index, count_in};
+use ix_base::{Breaches, Kind, NoMemory, Rule, Spot, kind_of};
+use scopes::Bases;
+use std::alloc::Global;
+use tuples::{Members, membership};
+
+/// A set with what was made of its links.
+#[derive(Drop)]
+pub(crate) struct Linked<'s, 'a> {
+    pub(crate) index: &'s Index<'a>,
+    pub(crate) bases: &'s Bases,
+    pub(crate) chains: Chains<'a>,
+    pub(crate) members: Members<'a>,
+}
+
+/// Adds a relationship, which isn't built yet.
+fn add_if_unbuilt(spot: &Spot<'_>, found: &mut Breaches) -> Result<(), NoMemory>
+    ensures { OnOk result (found.new ≡ found.old ++ unbuilt_at (located spot.now)) }
+{
+    found.add_if(
+        spot.element.place,
+        Rule::U2,
+        kind_of(spot) == Kind::Relationship,
+    )
+}
+
+/// What isn't built yet.
+pub(crate) fn unbuilt_in(alloc: Global, index: &Index<'_>) -> Result<Breaches, NoMemory>
+    ensures { IfOk result (λ b. b ≡ flat_map unbuilt_at index.now.spots) }
+{
+    let mut found = Breaches::new(alloc);
+    for spot in index.spots() {
+        add_if_unbuilt(spot, &mut found)?;
+    }
+    Ok(found)
+}
+
+/// Adds the items whose context isn't there, and the numbers whose unit isn't there.
+fn add_refs(index: &Index<'_>, found: &mut Breaches) -> Result<(), NoMemory>
+    ensures { OnOk result (found.new ≡ found.old ++ flat_map (refs_at (asked index.now)) index.now.spots) }
+{
+    for spot in index.spots() {
+        refs_of(spot, index, found)?;
+    }
+    Ok(())
+}
+
+/// Whether a fact's target has no schema.
+fn lacks_schema(index: &Index<'_>, schemas: &Holders<'_>, spot: &Spot<'_>) -> bool
+    requires { (target : List ℕ) → all_located (spots_at schemas.now target) ≡ filter (rules.is_schema_for target) index.now.spots }
+    ensures { result ≡ rules.lacks_schema (asked index.now) (located spot.now) }
+{
+    is_fact(spot) && count_in(schemas, target_of(spot.element)) == 0
+}
+
+/// The schemas by their targets.
+fn schemas_of<'a>(alloc: Global, index: &Index<'a>) -> Result<Holders<'a>, NoMemory>
+    ensures { IfOk result (λ m. (target : List ℕ) → all_located (spots_at m target) ≡ filter (rules.is_schema_for target) index.now.spots) }
+{
+    grouped(alloc, Group::Schemas, index.spots())
+}
+
+/// Adds the facts whose targets have no schema.
+fn add_lacking_schema(
+    alloc: Global,
+    index: &Index<'_>,
+    found: &mut Breaches,
+) -> Result<(), NoMemory>
+    ensures { OnOk result (found.new ≡ found.old ++ breaking rule.L14 index.now.spots) }
+{
+    let schemas = schemas_of(alloc, index)?;
+    for spot in index.spots() {
+        found.add_if(
+            spot.element.place,
+            Rule::L14,
+            lacks_schema(index, &schemas, spot),
+        )?;
+    }
+    Ok(())
+}
+
+/// Adds the rules on links that the elements of a set break that have no relationships, and gives what was made of the links.
+pub(crate) fn link_all<'s, 'a>(
+    alloc: Global,
+    arena: &'a Bump,
+    index: &'s Index<'a>,
+    bases: &'s Bases,
+    found: &mut Breaches,
+) -> Result<Linked<'s, 'a>, NoMemory>
+    requires none { found.old ≡ [] }
+    requires fits { All (λ e. fits e ≡ true) index.now.spots }
+    requires built { flat_map unbuilt_at index.now.spots ≡ [] }
+    requires pages { All (λ e. e.page < length bases.now.pages) index.now.spots }
+    ensures faults { OnOk result (SameMembers found.new (broken (base_in bases.now.pages) index.now.spots)) }
+    ensures chains { IfOk result (λ l. found.new ≡ [] → AreChainsOf l.chains index.now.spots) }
+    ensures members { IfOk result (λ l. AreMembersOf l.members index.now.spots) }
+    ensures index { IfOk result (λ l. l.index ≡ index.entry) }
+    ensures bases { IfOk result (λ l. l.bases ≡ bases.entry) }
+{
+    index.doubled(found)?;
+    add_refs(index, found)?;
+    let chains = link(alloc, arena, index, found)?;
+    let members = membership(alloc, arena, index, found)?;
+    add_lacking_schema(alloc, index, found)?;
+    add_redirected(alloc, index, bases, found)?;
+    Ok(Linked {
+        index,
+        bases,
+        chains,
+        members,
+    })
+}

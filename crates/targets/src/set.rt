@@ -1,0 +1,100 @@
+//! A set of pages.
+ghost use Rattle.std.specs.Prelude.{◌≡◌, ◌++◌, ◌∷◌, [], length, true, false, IfOk, OnOk, OnErr, IsErr};
+ghost use Rattle.ix_base.specs.Sound.{IsSoundRoot};
+ghost use Rattle.ix_base.specs.Trees.{tree_of};
+ghost use Rattle.targets.specs.Outcomes.{CanBeWritten, ComesTo};
+
+use crate::closing::{Page, Pages, closed};
+use crate::outcome::Outcome;
+use bumpalo::Bump;
+use id_table::Index;
+use ix_base::{Element, NoMemory, Text};
+use scopes::Bases;
+use std::alloc::Global;
+use std::marker::Model;
+
+/// A set of pages, to which they are added one by one.
+///
+/// Contracts see the pages under their base, and whether memory was wanting. Once it was, each call answers so.
+#[derive(Drop)]
+pub struct Set<'a> {
+    alloc: Global,
+    arena: &'a Bump,
+    base: Text,
+    pages: Vec<Page<'a>>,
+    index: Index<'a>,
+    bases: Bases,
+    is_spent: bool,
+}
+
+impl<'a> Model for Set<'a> {
+    ghost use Rattle.std.specs.Prelude.{◌≡◌, false, map};
+    ghost use Rattle.targets.specs.Holding.{HeldSet, Keeps, held_code, paged};
+
+    ghost Value = { HeldSet };
+
+    ghost coded = { held_code };
+
+    ghost view = { λ s. record { held = record { base = s.base; pages = map paged s.pages.items }; is_spent = s.is_spent } };
+
+    ghost invariant = { λ s. s.is_spent ≡ false → Keeps s.base s.pages.items s.index s.bases };
+}
+
+impl<'a> Set<'a> {
+    /// A set of no pages under this base.
+    pub fn new(alloc: Global, arena: &'a Bump, base: &str) -> Result<Set<'a>, NoMemory>
+        ensures { IfOk result (λ s. s ≡ record { held = record { base = base.now; pages = [] }; is_spent = false }) }
+    {
+        Ok(Set {
+            alloc,
+            arena,
+            base: Text::of(alloc, base)?,
+            pages: Vec::new(alloc),
+            index: Index::new(alloc),
+            bases: Bases::new(alloc),
+            is_spent: false,
+        })
+    }
+
+    /// Adds a page, whose number is the number of pages before it. Where memory is wanting, the set is spent: each call
+    /// answers so from then on.
+    pub fn add_page(&mut self, name: &str, root: &'a Element<'a>) -> Result<(), NoMemory>
+        requires { IsSoundRoot root.now (length self.old.held.pages) 256 }
+        ensures ok { OnOk result (self.new ≡ record {
+          held = record self.old.held { pages = self.old.held.pages ++ record { name = name.now; tree = tree_of root.now } ∷ [] };
+          is_spent = false;
+        }) }
+        ensures err { OnErr result (self.new ≡ record { held = self.old.held; is_spent = true }) }
+        ensures spent { self.old.is_spent ≡ true → IsErr result }
+    {
+        if self.is_spent {
+            return Err(NoMemory);
+        }
+        self.is_spent = true;
+        let own = Text::of(self.alloc, name)?;
+        self.index.add_page(self.arena, root)?;
+        self.bases.add_page(self.base.as_str(), name, root)?;
+        self.pages.push(Page { name: own, root })?;
+        self.is_spent = false;
+        Ok(())
+    }
+
+    /// What the pages come to: the rules that they break, of the first class that has any, or the targets, each with its
+    /// content.
+    pub fn close(self) -> Result<Outcome, NoMemory>
+        ensures comes { IfOk result (ComesTo self.entry.held) }
+        ensures written { IfOk result CanBeWritten }
+        ensures spent { self.entry.is_spent ≡ true → IsErr result }
+    {
+        if self.is_spent {
+            return Err(NoMemory);
+        }
+        let pages = Pages {
+            base: self.base.as_str(),
+            pages: self.pages.as_slice(),
+            index: &self.index,
+            bases: &self.bases,
+        };
+        closed(self.alloc, self.arena, &pages)
+    }
+}

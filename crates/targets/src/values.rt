@@ -1,0 +1,144 @@
+//! The items of a set, and the rules of values that they break.
+ghost use Rattle.std.specs.Prelude.{◌≡◌, ◌<◌, ◌++◌, ◌∷◌, List, [], All, Contains, length, map, option_map, true, filter, Some, IfOk, IfSome, OnOk};
+ghost use Rattle.ix_base.specs.Asks.{asks};
+ghost use Rattle.ix_base.specs.Chain as spec;
+ghost use Rattle.ix_base.specs.Elements.{place_of};
+ghost use Rattle.ix_base.specs.Located as kinds;
+ghost use Rattle.ix_base.specs.Located.{base_in, is_kind, located};
+ghost use Rattle.ix_base.specs.declared.kind.Kind.TheVariants as kind;
+ghost use Rattle.ix_base.specs.declared.content.Item.{Item as ItemOf};
+ghost use Rattle.ix_base.specs.declared.rule.Rule.{Rule as RuleOf};
+ghost use Rattle.std.specs.Prelude.{Result as ResultOf};
+ghost use Rattle.ix_base.specs.declared.breach.Found.{Found};
+ghost use Rattle.facts.specs.ItemValue.{IsItem};
+ghost use Rattle.facts.specs.Said.{said};
+ghost use Rattle.id_table.specs.Tables.{all_located};
+ghost use Rattle.targets.specs.Faults.{AreOfItems, fault_by, rule_said, value_fault};
+ghost use Rattle.targets.specs.Linked.{IsLinked, IsValued, all_of, bases_of};
+ghost use Rattle.targets.specs.Seen.{AreAmong};
+
+use crate::links::Linked;
+use facts::{ItemFault, item_of};
+use ix_base::{Breaches, Item, Kind, NoMemory, Rule, Spot, kind_of};
+use std::alloc::Global;
+
+pub(crate) fn is_item(spot: &Spot<'_>) -> bool
+    ensures { result ≡ kinds.is_item (located spot.now) }
+{
+    matches!(
+        kind_of(spot),
+        Kind::NonFraction | Kind::NonNumeric | Kind::Fraction
+    )
+}
+
+/// The chain of a nonNumeric; for another item nothing.
+fn chain_of<'a>(linked: &Linked<'_, 'a>, spot: &Spot<'a>) -> &'a [&'a Spot<'a>]
+    requires linked { IsLinked linked.now }
+    requires among { Contains (all_of linked.now) (located spot.now) }
+    ensures chain { is_kind kind.NonNumeric (located spot.now) ≡ true
+        → all_located result.now ≡ spec.chain (asks (all_of linked.now)) (located spot.now) }
+    ensures pages { All (λ s. (place_of s.now).page < length (bases_of linked.now)) result.now }
+{
+    if kind_of(spot) == Kind::NonNumeric {
+        linked.chains.of(spot)
+    } else {
+        &[]
+    }
+}
+
+/// What an item says, or the lowest rule of values that it breaks.
+pub(crate) fn item_at<'a>(
+    alloc: Global,
+    linked: &Linked<'_, 'a>,
+    spot: &Spot<'a>,
+) -> Result<Item, ItemFault>
+    requires linked { IsLinked linked.now }
+    requires among { Contains (all_of linked.now) (located spot.now) }
+    ensures { IfSome (said result) (IsItem (base_in (bases_of linked.now)) (asks (all_of linked.now)) (located spot.now)) }
+{
+    item_of(alloc, spot, chain_of(linked, spot), linked.bases)
+}
+
+/// The rule that an item was said to break.
+fn rule_in(said_of: Result<Item, ItemFault>) -> Result<Option<Rule>, NoMemory>
+    ensures { IfOk result (λ o. option_map rule_said (said said_of) ≡ Some o) }
+{
+    match said_of {
+        Ok(_) => Ok(None),
+        Err(ItemFault::Breach(rule)) => Ok(Some(rule)),
+        Err(ItemFault::NoMemory) => Err(NoMemory),
+    }
+}
+
+/// Adds a rule of values that an item breaks.
+fn add_at(spot: &Spot<'_>, rule: Rule, found: &mut Breaches) -> Result<(), NoMemory>
+    ensures { OnOk result (found.new ≡ found.old ++ fault_by (located spot.now) (Some rule)) }
+{
+    found.add(spot.element.place, rule)
+}
+
+/// Adds the rule of values that an item breaks, if it breaks one.
+fn add_value<'a>(
+    alloc: Global,
+    linked: &Linked<'_, 'a>,
+    spot: &Spot<'a>,
+    found: &mut Breaches,
+) -> Result<(), NoMemory>
+    requires linked { IsLinked linked.now }
+    requires among { Contains (all_of linked.now) (located spot.now) }
+    ensures { OnOk result ((r : ResultOf ItemOf RuleOf)
+        × IsItem (base_in (bases_of linked.now)) (asks (all_of linked.now)) (located spot.now) r
+        × (found.new ≡ found.old ++ value_fault (located spot.now) r)) }
+{
+    let rule = rule_in(item_at(alloc, linked, spot))?;
+    match rule {
+        Some(rule) => add_at(spot, rule, found),
+        None => Ok(()),
+    }
+}
+
+/// The same of an element, where it is an item.
+fn add_if_item<'a>(
+    alloc: Global,
+    linked: &Linked<'_, 'a>,
+    spot: &Spot<'a>,
+    found: &mut Breaches,
+) -> Result<(), NoMemory>
+    requires linked { IsLinked linked.now }
+    requires among { Contains (all_of linked.now) (located spot.now) }
+    ensures { OnOk result ((more : List Found)
+        × AreOfItems (IsItem (base_in (bases_of linked.now)) (asks (all_of linked.now))) (filter kinds.is_item (located spot.now ∷ [])) more
+        × (found.new ≡ found.old ++ more)) }
+{
+    if is_item(spot) {
+        return add_value(alloc, linked, spot, found);
+    }
+    Ok(())
+}
+
+/// The rules of values that these elements break.
+fn faults_among<'a>(
+    alloc: Global,
+    linked: &Linked<'_, 'a>,
+    spots: &[&'a Spot<'a>],
+) -> Result<Breaches, NoMemory>
+    requires linked { IsLinked linked.now }
+    requires among { AreAmong (all_of linked.now) spots.now }
+    ensures { IfOk result (AreOfItems (IsItem (base_in (bases_of linked.now)) (asks (all_of linked.now)))
+        (filter kinds.is_item (all_located spots.now))) }
+{
+    let mut found = Breaches::new(alloc);
+    for spot in spots {
+        add_if_item(alloc, linked, spot, &mut found)?;
+    }
+    Ok(found)
+}
+
+/// The rules of values that the items of a set break.
+pub(crate) fn value_faults(alloc: Global, linked: &Linked<'_, '_>) -> Result<Breaches, NoMemory>
+    requires linked { IsLinked linked.now }
+    ensures { IfOk result (AreOfItems (IsItem (base_in (bases_of linked.now)) (asks (all_of linked.now)))
+        (filter kinds.is_item (all_of linked.now))) }
+{
+    faults_among(alloc, linked, linked.index.spots())
+}
