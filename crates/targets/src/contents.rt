@@ -179,7 +179,8 @@ fn push_context(
     id: &str,
     contexts: &mut List<Context>,
 ) -> Result<(), NoMemory>
-    ensures { OnOk result (contexts.new ≡ contexts.old ++ filter_map spec.context_at (spec.of_ids (asked index.now) kind.Context (id.now ∷ []))) }
+    ensures { OnOk result (contexts.new
+        ≡ contexts.old ++ filter_map spec.context_at (spec.of_ids (asked index.now) kind.Context (id.now ∷ []))) }
 {
     let Some(entry) = index.one(id) else {
         return Ok(());
@@ -261,7 +262,8 @@ fn outer_of<'a>(
     spots: &[&'a Spot<'a>],
 ) -> Result<Vec<&'a Spot<'a>>, NoMemory>
     requires { IsLinked linked.now }
-    ensures { IfOk result (λ v. all_located v.items ≡ filter (λ e. not (is_some (owner (asks (all_of linked.now)) e))) (all_located spots.now)) }
+    ensures { IfOk result (λ v. all_located v.items
+        ≡ filter (λ e. not (is_some (owner (asks (all_of linked.now)) e))) (all_located spots.now)) }
 {
     let mut outer = Vec::new(alloc);
     for spot in spots {
@@ -279,7 +281,8 @@ fn schemas_for<'a>(
 ) -> Result<List<Text>, NoMemory>
     requires linked { IsLinked linked.now }
     requires groups { AreGroups groups.now (all_of linked.now) }
-    ensures { IfOk result (λ l. l ≡ map (rules.address_of (base_in (bases_of linked.now))) (filter (rules.is_schema_for target.now) (all_of linked.now))) }
+    ensures { IfOk result (λ l. l
+        ≡ map (rules.address_of (base_in (bases_of linked.now))) (filter (rules.is_schema_for target.now) (all_of linked.now))) }
 {
     let spots = at(alloc, &groups.schemas, target)?;
     addresses_at(alloc, linked.bases, spots.as_slice())
@@ -294,7 +297,8 @@ fn linkbases_for<'a>(
 ) -> Result<List<Linkbase>, NoMemory>
     requires linked { IsLinked linked.now }
     requires groups { AreGroups groups.now (all_of linked.now) }
-    ensures { IfOk result (λ l. l ≡ map (spec.linkbase_at (base_in (bases_of linked.now))) (filter (spec.is_linkbase_for target.now) (all_of linked.now))) }
+    ensures { IfOk result (λ l. l
+        ≡ map (spec.linkbase_at (base_in (bases_of linked.now))) (filter (spec.is_linkbase_for target.now) (all_of linked.now))) }
 {
     let spots = at(alloc, &groups.linkbases, target)?;
     linkbases_at(alloc, linked.bases, spots.as_slice())
