@@ -112,7 +112,8 @@ fn ids_of<'a>(alloc: Global, spots: &[&'a Spot<'a>]) -> Result<Vec<&'a str>, NoM
 
 /// Keeps an element for an id, in the place of another.
 fn call<'a>(called: &mut Called<'a>, id: &'a str, spot: &'a Spot<'a>) -> Result<(), NoMemory>
-    ensures { OnOk result ((q : Items ℕ) → kept_at called.new q ≡ (if bytes_eq q id.entry.now then Some spot.entry else kept_at called.old q)) }
+    ensures { OnOk result ((q : Items ℕ) → kept_at called.new q
+        ≡ (if bytes_eq q id.entry.now then Some spot.entry else kept_at called.old q)) }
 {
     called.insert(id, spot)?;
     Ok(())
@@ -120,7 +121,8 @@ fn call<'a>(called: &mut Called<'a>, id: &'a str, spot: &'a Spot<'a>) -> Result<
 
 /// Some elements by their ids.
 fn called_of<'a>(alloc: Global, spots: &[&'a Spot<'a>]) -> Result<Called<'a>, NoMemory>
-    ensures { IfOk result (λ m. (id : Items ℕ) → option_map (λ s. located s.now) (kept_at m id) ≡ last_called id (all_located spots.now) None) }
+    ensures { IfOk result (λ m. (id : Items ℕ) → option_map (λ s. located s.now) (kept_at m id)
+        ≡ last_called id (all_located spots.now) None) }
 {
     let mut called = IndexMap::new(alloc);
     for spot in spots {

@@ -58,7 +58,8 @@ fn link_at<'a>(
     bases: &Bases,
 ) -> Result<NoteLink, NoMemory>
     requires { AreOnPages chains.now (length bases.now.pages) }
-    ensures { IfOk result (λ l. l ≡ link_by (note_in (base_in bases.now.pages) chains.now) role.now (arcs_along (fans_at groups.now role.now))) }
+    ensures { IfOk result (λ l. l
+        ≡ link_by (note_in (base_in bases.now.pages) chains.now) role.now (arcs_along (fans_at groups.now role.now))) }
 {
     match groups.get(role) {
         Some(group) => link_of(alloc, role, group.as_slice(), chains, bases),
@@ -75,7 +76,8 @@ fn links_in<'a>(
     bases: &Bases,
 ) -> Result<List<NoteLink>, NoMemory>
     requires { AreOnPages chains.now (length bases.now.pages) }
-    ensures { IfOk result (λ l. l ≡ map (λ role. link_by (note_in (base_in bases.now.pages) chains.now) role (arcs_along (fans_at groups.now role)))
+    ensures { IfOk result (λ l. l
+        ≡ map (λ role. link_by (note_in (base_in bases.now.pages) chains.now) role (arcs_along (fans_at groups.now role)))
         (texts_of roles.now)) }
 {
     let mut links = List::new(alloc);

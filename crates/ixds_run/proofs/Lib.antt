@@ -1,19 +1,14 @@
 pub mod AnswerLaws
 pub mod DueLaws
-pub mod ElementLaws
 pub mod ForestLaws
 pub mod GivenLaws
 pub mod JudgeLaws
 mod Literals
+pub mod MadeLaws
 pub mod Named
-pub mod NodeLaws
 pub mod OutcomeLaws
-pub mod PartLaws
 pub mod ReadLaws
 pub mod ReportLaws
-pub mod ShapeLaws
-pub mod ShapeRows
+pub mod SummaryLaws
 pub mod Taken
 pub mod TargetLaws
-pub mod TimelyLaws
-pub mod WritableLaws

@@ -1,42 +1,89 @@
 -- Pages have one outcome.
-use Rattle.std.proofs.Common.{◌≡◌, ◌∙◌, ap, sym, subst, ℕ, suc, List, [], ◌∷◌, ◌++◌, Option, Some, None, inl, inr, refl}
+use Rattle.std.proofs.Common.{◌≡◌, ◌∙◌, ap, sym, subst, ℕ, suc, true, false, List, [], ◌∷◌, ◌++◌, All, map, filter, Option, Some, None, Result, Ok, inl, inr, refl}
 use Rattle.std.specs.List.{flat_map}
+use Rattle.std.proofs.lemmas.List.Elements.{All-head, All-tail}
+use Rattle.ix_base.specs.Asks.{Asks, asks}
+use Rattle.ix_base.specs.Facts.{Facts, none, item, tuple}
+use Rattle.ix_base.specs.Located.{Located, is_item}
 use Rattle.ix_base.specs.Trees.{Tree}
 use Rattle.ix_base.specs.declared.breach.Breach.{Breach}
 use Rattle.ix_base.specs.declared.breach.Found.{Found}
 use Rattle.ix_base.specs.declared.content.Content.{Content}
+use Rattle.ix_base.specs.declared.content.Item.{Item}
 use Rattle.ix_base.specs.declared.rule.Rule.{Rule}
+use Rattle.ix_base.proofs.SaidLaws.{same-facts}
+use Rattle.facts.specs.ItemValue.{IsItem}
+use Rattle.instance_out.specs.Arranged.{arranged}
 use Rattle.page_tree.specs.Break.{Fault, w}
 use Rattle.page_tree.specs.Page.{page}
+use Rattle.targets.specs.Contents.{IsContent, IsGathered, SaysItem}
+use Rattle.targets.specs.Faults.{AreOfItems, element_faults, link_faults, value_fault}
+use Rattle.targets.specs.Outcomes.{ComesOfValues, ComesTo, FirstOf, IsReport, IsWhole}
+use Rattle.targets.specs.PageSet.{PageSet, asked, base_at, elements, names as names_of}
+use Rattle.targets.specs.TargetFacts.{AreFacts, members_read, one_less}
+use Rattle.targets.specs.declared.outcome.Outcome.{Outcome}
+use Rattle.targets.specs.declared.outcome.Outcome.TheVariants.{Broken, Whole}
+use Rattle.targets.specs.declared.outcome.Target.{Target}
 use Rattle.ixds_run.specs.Commands.{base_of, dir_of, pages_of}
-use Rattle.ixds_run.specs.FirstShape.{FirstShape}
-use Rattle.ixds_run.specs.Made.{IsDefault, IsReport, IsServed, Made, Serves, element_faults, unbuilt}
-use Rattle.ixds_run.specs.Outcomes.{AreTrees, Outcome, IsOutcome, Says, due_of, summary_of, targets_under}
+use Rattle.ixds_run.specs.Made.{Made, paged}
+use Rattle.ixds_run.specs.Outcomes.{AreTrees, DueOutcome, IsOutcome, Says, due_of, targets_under}
+use Rattle.ixds_run.specs.Summary.{summary_of}
 use Rattle.ixds_run.specs.Texts.{breach_line}
 use Rattle.ixds_run.specs.Told.{fault_row, on_page, text_faults}
 use Rattle.ixds_run.specs.declared.command.Command.{Command}
-use Rattle.ixds_run.specs.declared.made.Target.{Target}
-use Rattle.ixds_run.specs.declared.made.Verdict.{Verdict}
-use Rattle.ixds_run.specs.declared.made.Verdict.TheVariants.{Broken, Whole}
 use Rattle.ixds_run.specs.declared.status.Status.TheVariants as status
 
--- what is due of a report is due of its lines, and what is due of targets of them
-same_report : (dir : Option (List ℕ)) (names : List (List ℕ)) (found : List Found) (v u : Verdict) → IsReport names found v → IsReport names found u → due_of dir v ≡ due_of dir u
+-- what is due of a report is due of its lines
+same_report : (dir : Option (List ℕ)) (names : List (List ℕ)) (found : List Found) (o p : Outcome) → IsReport names found o → IsReport names found p → due_of dir o ≡ due_of dir p
 same_report dir names found (Broken r) (Broken s) h k =
     ap (λ (ls : List Breach). record { status = status.Broken; text = flat_map breach_line ls; targets = [] }) (h ∙ sym k)
 same_report dir names found (Broken r) (Whole ts) h k = absurd k
-same_report dir names found (Whole ts) u h k = absurd h
+same_report dir names found (Whole ts) p h k = absurd h
 
-same_default : (dir : Option (List ℕ)) (content : Content) (v u : Verdict) → IsDefault content v → IsDefault content u → due_of dir v ≡ due_of dir u
-same_default dir content (Broken r) u h k = absurd h
-same_default dir content (Whole ts) (Broken r) h k = absurd k
-same_default dir content (Whole ts) (Whole us) h k =
-    ap (λ (xs : List Target). record { status = status.Done; text = summary_of xs; targets = targets_under dir xs }) (h ∙ sym k)
+-- what is due of the first of some reports is due of it, or of what follows where there is nothing to report
+same_first : (dir : Option (List ℕ)) (names : List (List ℕ)) (found : List Found) (Else : Outcome → Type 0)
+    → ((o p : Outcome) → Else o → Else p → due_of dir o ≡ due_of dir p)
+    → (o p : Outcome) → FirstOf names found Else o → FirstOf names found Else p → due_of dir o ≡ due_of dir p
+same_first dir names found Else same o p (inl (some, report)) (inl (some', report')) = same_report dir names found o p report report'
+same_first dir names found Else same o p (inl (some, report)) (inr (empty, more)) = absurd (some empty)
+same_first dir names found Else same o p (inr (empty, more)) (inl (some, report)) = absurd (some empty)
+same_first dir names found Else same o p (inr (empty, more)) (inr (empty', more')) = same o p more more'
+
+-- the facts of some elements are the same, where each element says one item
+same_tree : (Says : Located → Item → Type 0) → ((e : Located) (i j : Item) → Says e i → Says e j → i ≡ j) → (all : List Located) (n : ℕ) (es : List Located) (f g : Facts)
+    → AreFacts Says all n es f → AreFacts Says all n es g → f ≡ g
+same_tree Says one all n [] none none h k = refl
+same_tree Says one all n [] none (item j s) h k = absurd k
+same_tree Says one all n [] none (tuple b y z v s) h k = absurd k
+same_tree Says one all n [] (item i r) g h k = absurd h
+same_tree Says one all n [] (tuple a y z v r) g h k = absurd h
+same_tree Says one all n (e ∷ es) none g h k = absurd h
+same_tree Says one all n (e ∷ es) (item i r) none h k = absurd k
+same_tree Says one all n (e ∷ es) (item i r) (item j s) h k =
+    let first = one e i j h.1 k.1 in
+    let rest = same_tree Says one all n es r s h.2 k.2 in
+    λ t. item (first t) (rest t)
+same_tree Says one all n (e ∷ es) (item i r) (tuple b y z v s) h k = absurd (let x : false ≡ true = sym h.0 ∙ k.0 in cc)
+same_tree Says one all n (e ∷ es) (tuple a w x u r) none h k = absurd k
+same_tree Says one all n (e ∷ es) (tuple a w x u r) (item j s) h k = absurd (let q : false ≡ true = sym k.0 ∙ h.0 in cc)
+same_tree Says one all n (e ∷ es) (tuple a w x u r) (tuple b y z v s) h k =
+    let within = same_tree Says one all (one_less n) (members_read n all e) u v h.4 k.4 in
+    let rest = same_tree Says one all n es r s h.5 k.5 in
+    λ t. tuple ((h.1 ∙ sym k.1) t) ((h.2 ∙ sym k.2) t) ((h.3 ∙ sym k.3) t) (within t) (rest t)
+
+-- the rules that items break are the same, where each element says one item or breaks one rule
+same_broken : (Says : Located → Result Item Rule → Type 0) → ((e : Located) (r s : Result Item Rule) → Says e r → Says e s → r ≡ s) → (es : List Located) (found more : List Found)
+    → AreOfItems Says es found → AreOfItems Says es more → found ≡ more
+same_broken Says one [] found more h k = h ∙ sym k
+same_broken Says one (e ∷ es) found more h k =
+    let first = one e h.0 k.0 h.1 k.1 in
+    let rest = same_broken Says one es h.2.0 k.2.0 h.2.1 k.2.1 in
+    h.2.2 ∙ (λ t. value_fault e (first t) ++ rest t) ∙ sym k.2.2
 
 module _
     (one : (b : List ℕ) (n : ℕ) (t u : Tree) → page b n t → page b n u → t ≡ u)
     (none : (b : List ℕ) (n : ℕ) (f : Fault) (t : Tree) → w b n ≡ Some f → page b n t → ⊥)
-    (same : (t : Tree) (c d : Content) → FirstShape t c → FirstShape t d → c ≡ d)
+    (says : (bases : Located → List ℕ) (a : Asks Located) (e : Located) (r s : Result Item Rule) → IsItem bases a e r → IsItem bases a e s → r ≡ s)
   where
     one_trees : (bs : List (List ℕ)) (ts us : List Tree) → AreTrees bs ts → AreTrees bs us → ts ≡ us
     one_trees [] [] [] h k = refl
@@ -59,36 +106,72 @@ module _
     no_faults n (b ∷ bs) (t ∷ ts) h =
         ap (λ (r : List Found). r ++ text_faults (suc n) bs) (no_row n b t (w b 256) refl h.0) ∙ no_faults (suc n) bs ts h.1
 
-    same_served : (ts : List Tree) (c d : Content) → IsServed ts c → IsServed ts d → c ≡ d
-    same_served [] c d h k = absurd h
-    same_served (t ∷ []) c d h k = same t c d h k
-    same_served (t ∷ u ∷ ts) c d h k = absurd h
+    one_said : (bases : Located → List ℕ) (es : List Located) (e : Located) (i j : Item) → SaysItem bases es e i → SaysItem bases es e j → i ≡ j
+    one_said bases es e i j h k =
+        let both : Ok i ≡ Ok j = says bases (asks es) e (Ok i) (Ok j) h k in
+        cc
 
-    same_serving : (dir : Option (List ℕ)) (names : List (List ℕ)) (ts : List Tree) (v u : Verdict) → Serves names ts v → Serves names ts u → due_of dir v ≡ due_of dir u
-    same_serving dir names ts v u (inl (c, served, default)) (inl (d, served', default')) =
-        same_default dir c v u default (subst (λ (x : Content). IsDefault x u) (sym (same_served ts c d served served')) default')
-    same_serving dir names ts v u (inl (c, served, default)) (inr (not, report)) = absurd (not c served)
-    same_serving dir names ts v u (inr (not, report)) (inl (c, served, default)) = absurd (not c served)
-    same_serving dir names ts v u (inr (not, report)) (inr (not', report')) = same_report dir names (unbuilt 0 ts) v u report report'
+    one_gathered : (bases : Located → List ℕ) (es : List Located) (target : List ℕ) (c d : Content) → IsGathered bases es target c → IsGathered bases es target d → c ≡ d
+    one_gathered bases es target c d h k =
+        let facts = same-facts c.facts d.facts (same_tree (SaysItem bases es) (one_said bases es) es _ _ _ _ h.facts k.facts) in
+        λ t. record {
+          schemas = (h.schemas ∙ sym k.schemas) t;
+          linkbases = (h.linkbases ∙ sym k.linkbases) t;
+          roles = (h.roles ∙ sym k.roles) t;
+          arcroles = (h.arcroles ∙ sym k.arcroles) t;
+          contexts = (h.contexts ∙ sym k.contexts) t;
+          units = (h.units ∙ sym k.units) t;
+          facts = facts t;
+          notes = (h.notes ∙ sym k.notes) t;
+        }
 
-    same_made : (dir : Option (List ℕ)) (base : List ℕ) (names : List (List ℕ)) (ts : List Tree) (v u : Verdict) → Made base names ts v → Made base names ts u → due_of dir v ≡ due_of dir u
-    same_made dir base names ts v u (inl (some, report)) (inl (some', report')) = same_report dir names (element_faults 0 ts) v u report report'
-    same_made dir base names ts v u (inl (some, report)) (inr (empty, serves)) = absurd (some empty)
-    same_made dir base names ts v u (inr (empty, serves)) (inl (some, report)) = absurd (some empty)
-    same_made dir base names ts v u (inr (empty, serves)) (inr (empty', serves')) = same_serving dir names ts v u serves serves'
+    one_content : (bases : Located → List ℕ) (es : List Located) (target : List ℕ) (c d : Content) → IsContent bases es target c → IsContent bases es target d → c ≡ d
+    one_content bases es target c d h k = h.2 ∙ ap arranged (one_gathered bases es target h.0 k.0 h.1 k.1) ∙ sym k.2
 
-    same_saying : (dir : Option (List ℕ)) (base : List ℕ) (names bs : List (List ℕ)) (v u : Verdict) → Says base names bs v → Says base names bs u → due_of dir v ≡ due_of dir u
-    same_saying dir base names bs v u (inl (rule, set, report)) (inl (other, set', report')) =
+    same_targets : (bases : Located → List ℕ) (es : List Located) (ts us : List Target) → map (λ t. t.name) ts ≡ map (λ t. t.name) us
+        → All (λ t. IsContent bases es t.name t.content) ts → All (λ t. IsContent bases es t.name t.content) us → ts ≡ us
+    same_targets bases es [] [] e h k = refl
+    same_targets bases es [] (u ∷ us) e h k = absurd (let z = e in cc)
+    same_targets bases es (t ∷ ts) [] e h k = absurd (let z = e in cc)
+    same_targets bases es (t ∷ ts) (u ∷ us) e h k =
+        let P : Target → Type 0 = λ x. IsContent bases es x.name x.content in
+        let name : t.name ≡ u.name = let z : t.name ∷ map (λ x. x.name) ts ≡ u.name ∷ map (λ x. x.name) us = e in cc in
+        let names : map (λ x. x.name) ts ≡ map (λ x. x.name) us = let z : t.name ∷ map (λ x. x.name) ts ≡ u.name ∷ map (λ x. x.name) us = e in cc in
+        let other : IsContent bases es t.name u.content = subst (λ (n : List ℕ). IsContent bases es n u.content) (sym name) (All-head P u us k) in
+        let content = one_content bases es t.name t.content u.content (All-head P t ts h) other in
+        let rest = same_targets bases es ts us names (All-tail P t ts h) (All-tail P u us k) in
+        λ i. record { name = name i; content = content i } ∷ rest i
+
+    same_whole : (dir : Option (List ℕ)) (s : PageSet) (o p : Outcome) → IsWhole s o → IsWhole s p → due_of dir o ≡ due_of dir p
+    same_whole dir s (Broken r) p h k = absurd h
+    same_whole dir s (Whole ts) (Broken r) h k = absurd k
+    same_whole dir s (Whole ts) (Whole us) h k =
+        ap (λ (xs : List Target). record { status = status.Done; text = summary_of xs; targets = targets_under dir xs })
+        (same_targets (base_at s) (elements s) ts us (h.names ∙ sym k.names) h.contents k.contents)
+
+    same_valued : (dir : Option (List ℕ)) (s : PageSet) (o p : Outcome) → ComesOfValues s o → ComesOfValues s p → due_of dir o ≡ due_of dir p
+    same_valued dir s o p (found, are, first) (more, are', first') =
+        let e : more ≡ found = same_broken (IsItem (base_at s) (asked s)) (says (base_at s) (asked s)) (filter is_item (elements s)) more found are' are in
+        same_first dir (names_of s) found (IsWhole s) (same_whole dir s) o p first (subst (λ (xs : List Found). FirstOf (names_of s) xs (IsWhole s) p) e first')
+
+    same_set : (dir : Option (List ℕ)) (s : PageSet) (o p : Outcome) → ComesTo s o → ComesTo s p → due_of dir o ≡ due_of dir p
+    same_set dir s =
+        same_first dir (names_of s) (element_faults s) (FirstOf (names_of s) (link_faults s) (ComesOfValues s))
+        (same_first dir (names_of s) (link_faults s) (ComesOfValues s) (same_valued dir s))
+
+    same_saying : (dir : Option (List ℕ)) (base : List ℕ) (names bs : List (List ℕ)) (o p : Outcome) → Says base names bs o → Says base names bs p → due_of dir o ≡ due_of dir p
+    same_saying dir base names bs o p (inl (rule, set, report)) (inl (other, set', report')) =
         let z : other ≡ rule = cc in
-        same_report dir names (on_page 0 0 rule ∷ []) v u report (subst (λ (r : Rule). IsReport names (on_page 0 0 r ∷ []) u) z report')
-    same_saying dir base names bs v u (inl (rule, set, report)) (inr (kept, more)) = absurd (let z = kept in cc)
-    same_saying dir base names bs v u (inr (kept, more)) (inl (rule, set, report)) = absurd (let z = kept in cc)
-    same_saying dir base names bs v u (inr (kept, inl (some, report))) (inr (kept', inl (some', report'))) = same_report dir names (text_faults 0 bs) v u report report'
-    same_saying dir base names bs v u (inr (kept, inl (some, report))) (inr (kept', inr (ts, trees, made))) = absurd (some (no_faults 0 bs ts trees))
-    same_saying dir base names bs v u (inr (kept, inr (ts, trees, made))) (inr (kept', inl (some, report))) = absurd (some (no_faults 0 bs ts trees))
-    same_saying dir base names bs v u (inr (kept, inr (ts, trees, made))) (inr (kept', inr (us, trees', made'))) =
-        same_made dir base names ts v u made (subst (λ (xs : List Tree). Made base names xs u) (one_trees bs us ts trees' trees) made')
+        same_report dir names (on_page 0 0 rule ∷ []) o p report (subst (λ (r : Rule). IsReport names (on_page 0 0 r ∷ []) p) z report')
+    same_saying dir base names bs o p (inl (rule, set, report)) (inr (kept, more)) = absurd (let z = kept in cc)
+    same_saying dir base names bs o p (inr (kept, more)) (inl (rule, set, report)) = absurd (let z = kept in cc)
+    same_saying dir base names bs o p (inr (kept, inl (some, report))) (inr (kept', inl (some', report'))) = same_report dir names (text_faults 0 bs) o p report report'
+    same_saying dir base names bs o p (inr (kept, inl (some, report))) (inr (kept', inr (ts, trees, made))) = absurd (some (no_faults 0 bs ts trees))
+    same_saying dir base names bs o p (inr (kept, inr (ts, trees, made))) (inr (kept', inl (some, report))) = absurd (some (no_faults 0 bs ts trees))
+    same_saying dir base names bs o p (inr (kept, inr (ts, trees, made))) (inr (kept', inr (us, trees', made'))) =
+        same_set dir (record { base = base; pages = paged names ts }) o p made
+        (subst (λ (xs : List Tree). Made base names xs p) (one_trees bs us ts trees' trees) made')
 
-    pub outcome_one : (c : Command) (bs : List (List ℕ)) (due other : Outcome) → IsOutcome c bs due → IsOutcome c bs other → due ≡ other
-    outcome_one c bs due other (v, says, is) (u, says', is') =
-        is ∙ same_saying (dir_of c) (base_of c) (pages_of c) bs v u says says' ∙ sym is'
+    pub outcome_one : (c : Command) (bs : List (List ℕ)) (due other : DueOutcome) → IsOutcome c bs due → IsOutcome c bs other → due ≡ other
+    outcome_one c bs due other (o, says, is) (p, says', is') =
+        is ∙ same_saying (dir_of c) (base_of c) (pages_of c) bs o p says says' ∙ sym is'

@@ -8,17 +8,19 @@ use Rattle.instance_out.specs.Canonical.{canon_lines}
 use Rattle.page_tree.specs.Page.{page}
 use Rattle.ixds_run.specs.Commands.{base_of, dir_of, pages_of}
 use Rattle.ixds_run.specs.Gains.{GainsAll, GainsPart, GainsText}
-use Rattle.ixds_run.specs.Made.{IsReport, Made}
-use Rattle.ixds_run.specs.Texts.{breach_line, summary_line}
+use Rattle.ixds_run.specs.Made.{Made}
+use Rattle.ixds_run.specs.Summary.{summary_of}
+use Rattle.ixds_run.specs.Texts.{breach_line}
 use Rattle.ixds_run.specs.Told.{on_page, set_rule, text_faults, told}
 use Rattle.ixds_run.specs.declared.command.Command.{Command}
 use Rattle.ixds_run.specs.declared.due.Due.{Due}
 use Rattle.ixds_run.specs.declared.due.DueTarget.{DueTarget}
-use Rattle.ixds_run.specs.declared.made.Target.{Target}
-use Rattle.ixds_run.specs.declared.made.Verdict.{Verdict}
-use Rattle.ixds_run.specs.declared.made.Verdict.TheVariants.{Broken, Whole}
 use Rattle.ixds_run.specs.declared.status.Status.{Status}
 use Rattle.ixds_run.specs.declared.status.Status.TheVariants as status
+use Rattle.targets.specs.Outcomes.{IsReport}
+use Rattle.targets.specs.declared.outcome.Outcome.{Outcome}
+use Rattle.targets.specs.declared.outcome.Outcome.TheVariants.{Broken, Whole}
+use Rattle.targets.specs.declared.outcome.Target.{Target}
 
 abbrev pub code_of : Status → ℕ
 code_of status.Done = 0
@@ -29,7 +31,7 @@ code_of status.WriteFault = 4
 code_of status.NoMemory = 5
 
 -- what a command has due: a status, a text, and targets, each as it stands when it is finished
-pub record Outcome : Type 0 where
+pub record DueOutcome : Type 0 where
   pub status : Status
   pub text : List ℕ
   pub targets : List Begun
@@ -42,12 +44,12 @@ AreTrees bs ts = ⊥
 
 -- What pages with these names and bytes say: the size rule that they break; else the breaks of their texts; else what is
 -- made of their trees.
-abbrev pub Says : List ℕ → List (List ℕ) → List (List ℕ) → Verdict → Type 0
-Says base names bs v =
-    ((rule : Rule) × (set_rule bs ≡ Some rule) × IsReport names (on_page 0 0 rule ∷ []) v)
+abbrev pub Says : List ℕ → List (List ℕ) → List (List ℕ) → Outcome → Type 0
+Says base names bs o =
+    ((rule : Rule) × (set_rule bs ≡ Some rule) × IsReport names (on_page 0 0 rule ∷ []) o)
     ⊎ ((set_rule bs ≡ None)
-    × (((text_faults 0 bs ≢ []) × IsReport names (text_faults 0 bs) v)
-    ⊎ ((trees : List Tree) × AreTrees bs trees × Made base names trees v)))
+    × (((text_faults 0 bs ≢ []) × IsReport names (text_faults 0 bs) o)
+    ⊎ ((trees : List Tree) × AreTrees bs trees × Made base names trees o)))
 
 -- a target under a directory word, with its instance, finished
 abbrev pub whole_target : List ℕ → Target → Begun
@@ -58,18 +60,14 @@ abbrev pub targets_under : Option (List ℕ) → List Target → List Begun
 targets_under None ts = []
 targets_under (Some dir) ts = map (whole_target dir) ts
 
--- the lines of the summary
-unfoldable pub summary_of : List Target → List ℕ
-summary_of ts = summary_line
-
--- what is due of a verdict
-abbrev pub due_of : Option (List ℕ) → Verdict → Outcome
+-- what is due of what pages come to
+abbrev pub due_of : Option (List ℕ) → Outcome → DueOutcome
 due_of dir (Broken report) = record { status = status.Broken; text = flat_map breach_line report.lines; targets = [] }
 due_of dir (Whole ts) = record { status = status.Done; text = summary_of ts; targets = targets_under dir ts }
 
 -- what is due from a command whose pages have these bytes
-abbrev pub IsOutcome : Command → List (List ℕ) → Outcome → Type 0
-IsOutcome c bs due = (v : Verdict) × Says (base_of c) (pages_of c) bs v × (due ≡ due_of (dir_of c) v)
+abbrev pub IsOutcome : Command → List (List ℕ) → DueOutcome → Type 0
+IsOutcome c bs due = (o : Outcome) × Says (base_of c) (pages_of c) bs o × (due ≡ due_of (dir_of c) o)
 
 -- pages with these bytes break a rule, so that nothing of them is written
 abbrev pub SaysNothing : Command → List (List ℕ) → Type 0
@@ -92,19 +90,19 @@ OfBytes command page fact = IfSome command (λ c. AreSome (told page (pages_of c
 abbrev pub Gives : Status → (targets targets' : Option (List Begun)) → (taken taken' : Option (List ℕ))
     → Command → List (List ℕ) → Type 0
 Gives status targets targets' taken taken' c bs =
-    (due : Outcome) × IsOutcome c bs due × (due.status ≡ status)
+    (due : DueOutcome) × IsOutcome c bs due × (due.status ≡ status)
     × GainsAll due.targets targets targets' × GainsText due.text taken taken'
 
 -- of the targets that are due a part was given
 abbrev pub GivesPart : (targets targets' : Option (List Begun)) → (asked : Option (List ℕ × List ℕ)) → Command → List (List ℕ) → Type 0
 GivesPart targets targets' asked c bs =
-    (due : Outcome) × IsOutcome c bs due × GainsPart due.targets targets targets' asked
+    (due : DueOutcome) × IsOutcome c bs due × GainsPart due.targets targets targets' asked
 
 -- the targets that are due were given, all of them, and of the text a front
 abbrev pub GivesFront : (targets targets' : Option (List Begun)) → (taken taken' : Option (List ℕ))
     → Command → List (List ℕ) → Type 0
 GivesFront targets targets' taken taken' c bs =
-    (due : Outcome) × IsOutcome c bs due
+    (due : DueOutcome) × IsOutcome c bs due
     × GainsAll due.targets targets targets' × TextGainsFront due.text taken taken'
 
 -- a target that is ready to be written, as it stands when it is finished
@@ -124,7 +122,7 @@ abbrev pub targets_due : Option (List ℕ) → Due → List Begun
 targets_due dir due = ready_under dir due.targets.items
 
 -- what is ready to be given
-abbrev pub outcome_of : Option (List ℕ) → Due → Outcome
+abbrev pub outcome_of : Option (List ℕ) → Due → DueOutcome
 outcome_of dir due = record { status = status_of due.is_broken; text = due.text.items; targets = targets_due dir due }
 
 -- a target by its name and the lines of its instance

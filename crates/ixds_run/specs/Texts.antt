@@ -11,9 +11,6 @@ use Rattle.ix_base.specs.declared.breach.Class.TheVariants as class
 unfoldable pub usage_text : List ℕ
 usage_text = codes "usage: ixds extract --base URL --out DIR PAGE...\n       ixds check --base URL PAGE...\n"
 
-unfoldable pub summary_line : List ℕ
-summary_line = codes "(default): 1 facts, 0 tuples, 1 contexts, 0 units, 0 footnotes\n"
-
 unfoldable pub cannot_read_line : List ℕ → List ℕ
 cannot_read_line page = codes "ixds: cannot read " ++ (page ++ 10 ∷ [])
 

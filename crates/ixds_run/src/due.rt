@@ -1,17 +1,17 @@
 //! What is due, ready to be given.
 ghost use Rattle.std.specs.Prelude.{◌≡◌, ◌<◌, [], List, ℕ, Option, All, IfOk, map, true, false};
 ghost use Rattle.instance_out.specs.Writable.{IsWritable};
-ghost use Rattle.ixds_run.specs.Made.{CanBeWritten};
-ghost use Rattle.ixds_run.specs.declared.made.Verdict.TheVariants.{Broken, Whole};
+ghost use Rattle.targets.specs.Outcomes.{CanBeWritten};
+ghost use Rattle.targets.specs.declared.outcome.Outcome.TheVariants.{Broken, Whole};
 ghost use Rattle.ixds_run.specs.Outcomes.{bare, bare_ready, status_of, due_of, outcome_of};
 
 use crate::Status;
-use crate::lines::summary;
-use crate::made::{Target, Verdict};
 use crate::report::lines_of;
+use crate::summary::summary;
 use instance_out::{Prepared, prepare};
 use ix_base::{NoMemory, Report, Text};
 use std::alloc::Global;
+use targets::{Outcome, Target};
 
 /// A target that is ready to be written.
 #[derive(Drop)]
@@ -83,14 +83,14 @@ fn due_of_report(alloc: Global, report: &Report) -> Result<Due, NoMemory>
     })
 }
 
-/// What is due of a verdict.
-pub fn ready(alloc: Global, verdict: &Verdict) -> Result<Due, NoMemory>
-    requires { CanBeWritten verdict.now }
-    ensures due { IfOk result (λ due. (dir : Option (List ℕ)) → outcome_of dir due ≡ due_of dir verdict.now) }
+/// What is due of what pages come to.
+pub fn ready(alloc: Global, outcome: &Outcome) -> Result<Due, NoMemory>
+    requires { CanBeWritten outcome.now }
+    ensures due { IfOk result (λ due. (dir : Option (List ℕ)) → outcome_of dir due ≡ due_of dir outcome.now) }
     ensures none { IfOk result (λ due. due.is_broken ≡ true → due.targets.items ≡ []) }
 {
-    match verdict {
-        Verdict::Broken(report) => due_of_report(alloc, report),
-        Verdict::Whole(targets) => due_of_targets(alloc, targets.as_slice()),
+    match outcome {
+        Outcome::Broken(report) => due_of_report(alloc, report),
+        Outcome::Whole(targets) => due_of_targets(alloc, targets.as_slice()),
     }
 }

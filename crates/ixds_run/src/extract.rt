@@ -18,7 +18,12 @@ use ix_base::{NoMemory, PageSource, TargetSink, TextSink};
 use std::alloc::Global;
 
 /// What is due from a command whose pages were read.
-fn due_from(alloc: Global, command: &Command, forest: Forest) -> Result<Due, NoMemory>
+fn due_from<'a>(
+    alloc: Global,
+    arena: &'a Bump,
+    command: &Command,
+    forest: Forest<'a>,
+) -> Result<Due, NoMemory>
     requires given { IsGiven command.now }
     requires sound { IsSound (pages_of command.now) forest }
     ensures due { IfOk result (λ due. (bs : List (List ℕ)) → IsRead bs forest.entry
@@ -27,15 +32,16 @@ fn due_from(alloc: Global, command: &Command, forest: Forest) -> Result<Due, NoM
     ensures nothing { IfOk result (λ due. (bs : List (List ℕ)) → IsRead bs forest.entry → SaysNothing command.now bs
         → due.targets.items ≡ []) }
 {
-    let verdict = judge(alloc, command.base(), command.pages(), forest)?;
-    ready(alloc, &verdict)
+    let outcome = judge(alloc, arena, command.base(), command.pages(), forest)?;
+    ready(alloc, &outcome)
 }
 
 /// Answers a command whose pages were read.
-pub fn answer<S: TargetSink, T: TextSink>(
+pub fn answer<'a, S: TargetSink, T: TextSink>(
     alloc: Global,
+    arena: &'a Bump,
     command: &Command,
-    forest: Forest,
+    forest: Forest<'a>,
     sink: &mut S,
     out: &mut T,
 ) -> Status
@@ -64,7 +70,7 @@ pub fn answer<S: TargetSink, T: TextSink>(
         → (bs : List (List ℕ)) → IsRead bs forest.entry
         → GivesFront (S.targets sink.old) (S.targets sink.new) (T.taken out.old) (T.taken out.new) command.now bs }
 {
-    match due_from(alloc, command, forest) {
+    match due_from(alloc, arena, command, forest) {
         Err(_) => Status::NoMemory,
         Ok(due) => deliver(&due, command.dir(), sink, out),
     }
@@ -91,7 +97,7 @@ pub fn extract<P: PageSource, S: TargetSink, T: TextSink>(
     match read_all(alloc, &arena, pages, command.pages()) {
         Err(Stopped::NoMemory) => Status::NoMemory,
         Err(Stopped::Failed(line)) => put_read_fault(line.as_slice(), out),
-        Ok(forest) => answer(alloc, command, forest, sink, out),
+        Ok(forest) => answer(alloc, &arena, command, forest, sink, out),
     }
 }
 

@@ -3,16 +3,20 @@ ghost use Rattle.std.specs.Prelude.{◌≡◌, ◌∷◌, [], ◌<◌, ◌≤◌
 ghost use Rattle.std.specs.Borrow.{Bor};
 ghost use Rattle.ix_base.specs.Trees.{Tree, tree_of};
 ghost use Rattle.ixds_run.specs.Sizes.{size_rule};
-ghost use Rattle.ixds_run.specs.Made.{CanBeWritten, IsReport, Made};
+ghost use Rattle.ixds_run.specs.Made.{Made};
 ghost use Rattle.ixds_run.specs.Outcomes.{AreTrees, Says};
 ghost use Rattle.ixds_run.specs.Reading.{HasRead, IsRead, IsSound};
 ghost use Rattle.ixds_run.specs.Told.{on_page, text_faults};
+ghost use Rattle.targets.specs.Outcomes.{CanBeWritten, IsReport};
 
 use crate::forest::Forest;
-use crate::made::{Verdict, made, reported};
+use crate::made::{made, reported};
 use crate::reading::{MOST_BYTES, Sums};
+use bumpalo::Bump;
 use ix_base::{Breaches, NoMemory, Place, Rule, Text};
+use page_tree::laws::sound_tree;
 use std::alloc::Global;
+use targets::Outcome;
 
 /// The most bytes `<` of the pages together.
 const MOST_TAGS: u64 = 8_388_608;
@@ -31,7 +35,7 @@ fn size_rule_of(sums: Sums) -> Option<Rule>
 }
 
 /// The report of a size rule.
-fn too_large(alloc: Global, names: &[Text], rule: Rule) -> Result<Verdict, NoMemory>
+fn too_large(alloc: Global, names: &[Text], rule: Rule) -> Result<Outcome, NoMemory>
     requires some { 0 < length names.now }
     ensures report { IfOk result (IsReport names.now (on_page 0 0 rule ∷ [])) }
     ensures written { IfOk result CanBeWritten }
@@ -42,37 +46,45 @@ fn too_large(alloc: Global, names: &[Text], rule: Rule) -> Result<Verdict, NoMem
 }
 
 /// What pages say that break no size rule.
-fn judge_kept(
+fn judge_kept<'a>(
     alloc: Global,
+    arena: &'a Bump,
     base: &str,
     names: &[Text],
-    forest: Forest,
-) -> Result<Verdict, NoMemory>
+    forest: Forest<'a>,
+) -> Result<Outcome, NoMemory>
     requires some { 0 < length names.now }
     requires most { length names.now ≤ 64 }
     requires read { (bs : List (List ℕ)) × HasRead bs forest × (length bs ≤ length names.now) }
     ensures broken { (bs : List (List ℕ)) → HasRead bs forest.entry → text_faults 0 bs ≢ []
         → IfOk result (IsReport names.now (text_faults 0 bs)) }
     ensures made { (bs : List (List ℕ)) → HasRead bs forest.entry → text_faults 0 bs ≡ []
-        → IfOk result (λ v. (trees : List Tree) × AreTrees bs trees × Made base.now names.now trees v) }
+        → IfOk result (λ o. (trees : List Tree) × AreTrees bs trees × Made base.now names.now trees o) }
     ensures written { IfOk result CanBeWritten }
 {
     if forest.found.is_empty() {
-        return made(alloc, base, names, forest.roots.as_slice());
+        sound_tree();
+        return made(alloc, arena, base, names, forest.roots.as_slice());
     }
     reported(forest.found, names)
 }
 
 /// What pages say that were read.
-pub fn judge(alloc: Global, base: &str, names: &[Text], forest: Forest) -> Result<Verdict, NoMemory>
+pub fn judge<'a>(
+    alloc: Global,
+    arena: &'a Bump,
+    base: &str,
+    names: &[Text],
+    forest: Forest<'a>,
+) -> Result<Outcome, NoMemory>
     requires some { 0 < length names.now }
     requires most { length names.now ≤ 64 }
     requires sound { IsSound names.now forest }
-    ensures says { IfOk result (λ v. (bs : List (List ℕ)) → IsRead bs forest.entry → Says base.now names.now bs v) }
+    ensures says { IfOk result (λ o. (bs : List (List ℕ)) → IsRead bs forest.entry → Says base.now names.now bs o) }
     ensures written { IfOk result CanBeWritten }
 {
     match size_rule_of(forest.sums) {
         Some(rule) => too_large(alloc, names, rule),
-        None => judge_kept(alloc, base, names, forest),
+        None => judge_kept(alloc, arena, base, names, forest),
     }
 }

@@ -4,11 +4,11 @@ ghost use Rattle.std.specs.List.{flat_map};
 ghost use Rattle.ix_base.specs.Breaches.{report_of};
 ghost use Rattle.ix_base.specs.declared.breach.Breach.{Breach};
 ghost use Rattle.ixds_run.specs.Commands.{command_of, IsGiven};
-ghost use Rattle.ixds_run.specs.Outcomes.{Outcome, IsOutcome};
+ghost use Rattle.ixds_run.specs.Outcomes.{DueOutcome, IsOutcome};
 ghost use Rattle.ixds_run.specs.Texts.{breach_line};
 ghost use Rattle.ixds_run.specs.declared.command.Command.{Command};
 
-use crate::shape::one_shape;
+use facts::laws::one_item;
 use page_tree::laws::{no_tree, one_tree};
 
 /// A command that words give has a base, a directory and pages that it may have.
@@ -23,9 +23,9 @@ pub fn one_line()
 
 /// For the pages of a command at most one outcome is due.
 pub fn one_outcome()
-    ensures { (c : Command) (bs : List (List ℕ)) (due other : Outcome) → IsOutcome c bs due → IsOutcome c bs other → due ≡ other }
+    ensures { (c : Command) (bs : List (List ℕ)) (due other : DueOutcome) → IsOutcome c bs due → IsOutcome c bs other → due ≡ other }
 {
     one_tree();
     no_tree();
-    one_shape();
+    one_item();
 }

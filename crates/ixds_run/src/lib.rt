@@ -14,18 +14,15 @@ mod judge;
 pub mod laws;
 mod lines;
 mod made;
-mod nodes;
-mod parts;
 mod reading;
 mod report;
-mod shape;
 mod status;
+mod summary;
 
 pub use command::{Command, command_of};
 use extract::extract;
 use ix_base::{PageSource, TargetSink, Text, TextSink};
 use lines::put_usage;
-pub use shape::{first_shape, one_shape, shape_rows};
 pub use status::Status;
 use std::alloc::Global;
 

@@ -2,12 +2,9 @@
 ghost use Rattle.std.specs.Prelude.{◌≡◌, ◌⊎◌, ◌+◌, ◌^◌, ◌<◌, ◌++◌, IfOk};
 ghost use Rattle.ix_base.specs.Outside.{TextGainsFront};
 ghost use Rattle.ixds_run.specs.Gains.{GainsText};
-ghost use Rattle.ixds_run.specs.Texts.{cannot_read_line};
-ghost use Rattle.ixds_run.specs.Outcomes.{summary_of};
-ghost use Rattle.ixds_run.specs.Texts.{usage_text};
+ghost use Rattle.ixds_run.specs.Texts.{cannot_read_line, usage_text};
 
 use crate::Status;
-use crate::made::Target;
 use ix_base::TextSink;
 use std::alloc::{AllocError, Global};
 
@@ -27,14 +24,6 @@ fn joined(alloc: Global, a: &[u8], b: &[u8], c: &[u8]) -> Result<Vec<u8>, AllocE
     v.extend_from_slice(b)?;
     v.extend_from_slice(c)?;
     Ok(v)
-}
-
-/// The lines of the summary.
-#[tactic(auto, unfolding(crate::specs::Texts::summary_line, crate::specs::Outcomes::summary_of))]
-pub fn summary(alloc: Global, _targets: &[Target]) -> Result<Vec<u8>, AllocError>
-    ensures { IfOk result (λ v. v.items ≡ summary_of _targets.now) }
-{
-    b"(default): 1 facts, 0 tuples, 1 contexts, 0 units, 0 footnotes\n".to_vec(alloc)
 }
 
 /// How the program is used.

@@ -7,11 +7,11 @@ use ix_base::{List, MemPage, MemPages, MemTargets, MemText, Text};
 use std::alloc::Global;
 use std::test::Fail;
 
-mod broken;
 mod counted;
 mod elements;
 mod made;
 mod memory;
+mod pages;
 mod set;
 
 const SUMMARY: &[u8] = b"(default): 1 facts, 0 tuples, 1 contexts, 0 units, 0 footnotes\n";
@@ -20,8 +20,6 @@ const USAGE: &[u8] =
     b"usage: ixds extract --base URL --out DIR PAGE...\n       ixds check --base URL PAGE...\n";
 
 const CANNOT_READ: &[u8] = b"ixds: cannot read a.html\n";
-
-const NOT_BUILT: &[u8] = b"a.html:0: U2 not built yet\n";
 
 /// The report of the page's context, which stands at this offset.
 const BAD_CONTEXT: &[u8] = b"a.html:568: N20 bad context\n";
@@ -233,7 +231,7 @@ fn real_days_and_texts_are_taken(rt: HostRuntime) -> Result<(), Fail> {
         (b"2023-02-29", b"x", Err(BAD_CONTEXT)),
         (b"0000-12-31", b"x", Err(BAD_CONTEXT)),
         (b"2023-1-31", b"x", Err(BAD_CONTEXT)),
-        (b"2023-12-31", b"<b/>", Err(NOT_BUILT)),
+        (b"2023-12-31", b"<b/>", Ok(b"")),
         (b"", b"x", Err(BAD_CONTEXT)),
     ];
     for (day, value, text) in rows {

@@ -1,25 +1,23 @@
 -- What is found in a set is found on its pages.
-use Rattle.std.proofs.Common.{◌≡◌, ◌∙◌, ap, sym, subst, refl, ℕ, suc, ◌+◌, ◌<◌, ◌≤◌, Bool, true, false, List, [], ◌∷◌, ◌++◌, length, map, arith}
-use Rattle.std.specs.List.{All, Contains, filter, flat_map}
+use Rattle.std.proofs.Common.{sym, subst, ℕ, suc, ◌+◌, ◌<◌, ◌≤◌, Bool, true, false, List, [], ◌∷◌, ◌++◌, length, arith}
+use Rattle.std.specs.List.{All, Contains, flat_map}
 use Rattle.std.specs.Prelude.{Result, Ok, Err}
-use Rattle.std.proofs.lemmas.List.{length-map}
 use Rattle.std.proofs.lemmas.List.Concat.{flat_map-cons}
-use Rattle.std.proofs.lemmas.List.Elements.{All-append, All-contains, All-contains_itself, All-cons, All-filter, All-head, All-nil, All-same, All-tail, All-weaker}
+use Rattle.std.proofs.lemmas.List.Elements.{All-append, All-contains, All-contains_itself, All-cons, All-head, All-nil, All-same, All-tail, All-weaker}
 use Rattle.ix_base.specs.declared.breach.Found.{Found}
 use Rattle.ix_base.specs.declared.content.Item.{Item}
 use Rattle.ix_base.specs.declared.place.Place.{Place}
 use Rattle.ix_base.specs.declared.rule.Rule.{Rule}
-use Rattle.ix_base.specs.declared.rule.Rule.TheVariants.{U2}
 use Rattle.ix_base.specs.Asks.{asks}
 use Rattle.ix_base.specs.ElementRules.{breaks, element_rules, found, found_on}
 use Rattle.ix_base.specs.Elements.{Placed, elements_of}
 use Rattle.ix_base.specs.LinkRules as rules
-use Rattle.ix_base.specs.LinkRules.{broken, found_at, is_relationship, link_rules}
-use Rattle.ix_base.specs.Located.{Located, Paged, is_item}
+use Rattle.ix_base.specs.LinkRules.{broken, found_at, link_rules}
+use Rattle.ix_base.specs.Located.{Located, Paged}
 use Rattle.ix_base.specs.Once.{SameMembers}
 use Rattle.ix_base.specs.Rows.{row}
 use Rattle.ix_base.specs.Trees.{Tree}
-use Rattle.targets.specs.Faults.{AreOfItems, faults_from, unbuilt_at, value_fault}
+use Rattle.targets.specs.Faults.{AreOfItems, faults_from, value_fault}
 
 pub all-flat : {X Y : Type 0} (P : X → Type 0) (Q : Y → Type 0) (f : X → List Y) → ((x : X) → P x → All Q (f x)) → (xs : List X) → All P xs → All Q (flat_map f xs)
 all-flat P Q f h [] all = All-nil Q
@@ -58,9 +56,6 @@ module _ (m : ℕ) where
 
   abbrev On : Located → Type 0
   On e = e.page < m
-
-  pub unbuilt-below : (es : List Located) → All (λ (e : Located). e.page < m) es → All (λ (f : Found). f.place.page < m) (flat_map unbuilt_at es)
-  unbuilt-below es h = all-flat On IsBelow unbuilt_at (λ e p. row-below (is_relationship e) (found_at e U2) p) es h
 
   pub broken-below : (bases : Located → List ℕ) (es : List Located) → All (λ (e : Located). e.page < m) es
       → All (λ (f : Found). f.place.page < m) (broken bases es)

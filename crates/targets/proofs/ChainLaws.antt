@@ -1,5 +1,5 @@
 -- What is true of all elements is true of a chain.
-use Rattle.std.proofs.Common.{◌≡◌, ℕ, zero, suc, Bool, true, false, List, [], ◌∷◌, sym, Option, Some, None}
+use Rattle.std.proofs.Common.{ℕ, zero, suc, Bool, true, false, List, [], ◌∷◌, sym, Option, Some, None}
 use Rattle.std.specs.List.{All, Contains, filter}
 use Rattle.std.specs.Option.{IfSome, option_map_or}
 use Rattle.std.specs.Prelude.{option_and_then, if◌then◌else◌}
@@ -7,9 +7,8 @@ use Rattle.std.proofs.lemmas.List.Elements.{All-nil, All-cons, All-filter, All-h
 use Rattle.ix_base.specs.Asks.{asks, if_such, only}
 use Rattle.ix_base.specs.Chain.{chain, chain_of, continuation, continued_at, next}
 use Rattle.ix_base.specs.Ids.{holds_id}
-use Rattle.ix_base.specs.Located.{Located, is_continuation, offset_of}
+use Rattle.ix_base.specs.Located.{Located, is_continuation}
 use Rattle.continuations.specs.Kept.{StartsAlone}
-use Rattle.continuations.specs.Slices.{starts_at}
 use Rattle.targets.specs.Linked.{AreApart}
 use Rattle.targets.proofs.AmongLaws.{&&-right}
 

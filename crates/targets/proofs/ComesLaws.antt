@@ -1,7 +1,7 @@
 -- From what was found and made to what a set comes to.
-use Rattle.std.proofs.Common.{◌≡◌, ◌≢◌, ◌∙◌, ◌<◌, ◌≤◌, ◌+◌, ℕ, Bool, true, false, List, [], ◌∷◌, ap, arith, length, map, refl, subst, suc, sym, ⊎_elim}
+use Rattle.std.proofs.Common.{◌≡◌, ◌≢◌, ◌∙◌, ◌<◌, ℕ, Bool, true, false, List, [], ◌∷◌, ap, arith, length, map, refl, subst, suc, sym, ⊎_elim}
 use Rattle.std.specs.List.{All, Contains, filter, flat_map}
-use Rattle.std.specs.Prelude.{◌==◌, Result, Ok, Err}
+use Rattle.std.specs.Prelude.{◌==◌, Ok, Err}
 use Rattle.std.proofs.lemmas.Bool.{both_ways, eq-eqb, eqb-true}
 use Rattle.std.proofs.lemmas.List.{length-map}
 use Rattle.ix_base.proofs.OnceLemmas.{Contains-cases, Contains-filter, Contains-first, Contains-later, Contains-nil, Contains-same}
@@ -11,14 +11,15 @@ use Rattle.ix_base.specs.declared.content.Item.{Item}
 use Rattle.ix_base.specs.declared.rule.Rule.{Rule}
 use Rattle.ix_base.specs.declared.rule.Rule.TheVariants as rule
 use Rattle.ix_base.specs.Asks.{asks}
-use Rattle.ix_base.specs.Breaches.{named, report_of}
+use Rattle.ix_base.specs.Breaches.{named}
 use Rattle.ix_base.specs.LinkRules.{breaking, breaks, broken, found_at, link_rules}
-use Rattle.ix_base.specs.Located.{Located, Paged, base_in, is_item, marked}
+use Rattle.ix_base.specs.Located.{Located, base_in, is_item, marked}
 use Rattle.ix_base.specs.Once.{SameMembers}
 use Rattle.ix_base.specs.Rows.{row}
 use Rattle.continuations.specs.Kept.{AreChainsOf}
 use Rattle.facts.proofs.OneItem.{one_item}
 use Rattle.facts.specs.ItemValue.{IsItem, item_text}
+use Rattle.footnotes.specs.Kept.{AreRelationsOf}
 use Rattle.id_table.specs.Held.{Held}
 use Rattle.scopes.specs.Kept.{Kept}
 use Rattle.tuples.specs.Kept.{AreMembersOf}
@@ -28,9 +29,10 @@ use Rattle.targets.specs.declared.outcome.Outcome.{Outcome}
 use Rattle.targets.specs.declared.outcome.Outcome.TheVariants.{Broken, Whole}
 use Rattle.targets.specs.Faults.{AreOfItems, link_faults}
 use Rattle.targets.specs.Holding.{Keeps, paged}
-use Rattle.targets.specs.Linked.{AreApart, AreOwned, IsLinked, all_of, bases_of}
+use Rattle.targets.specs.Linked.{AreApart, AreOwned, IsLinked, bases_of}
 use Rattle.targets.specs.Outcomes.{IsReport}
 use Rattle.targets.specs.PageSet.{PageSet, names, page_bases}
+use Rattle.targets.specs.Redirects.{SeesAll}
 use Rattle.targets.proofs.AboveLaws.{owner_marked}
 use Rattle.targets.proofs.ClosingLaws.{sound-trees}
 use Rattle.targets.proofs.FitLaws.{flat-none}
@@ -74,10 +76,14 @@ keeps-on base pages index bases k =
 
 -- what was made of the links of a set
 pub is-linked : (l : Linked) (base : List ℕ) (pages : List Page) (index : Held) (bases : Kept) → Keeps base pages index bases → l.index.now ≡ index
-    → l.bases.now ≡ bases → AreChainsOf l.chains index.spots → AreMembersOf l.members index.spots → IsLinked l
-is-linked l base pages index bases k i b chains members = record {
+    → l.bases.now ≡ bases → AreChainsOf l.chains index.spots → AreMembersOf l.members index.spots → AreRelationsOf l.relations index.spots
+    → SeesAll (base_in bases.pages) index.spots l.redirects → IsLinked l
+is-linked l base pages index bases k i b chains members relations redirects = record {
   chains = subst (λ (h : Held). AreChainsOf l.chains h.spots) (sym i) chains;
   members = subst (λ (h : Held). AreMembersOf l.members h.spots) (sym i) members;
+  relations = subst (λ (h : Held). AreRelationsOf l.relations h.spots) (sym i) relations;
+  redirects = subst (λ (h : Held). SeesAll (base_in (bases_of l)) h.spots l.redirects) (sym i)
+      (subst (λ (x : Kept). SeesAll (base_in x.pages) index.spots l.redirects) (sym b) redirects);
   apart = subst (λ (h : Held). AreApart h.spots) (sym (i ∙ k.index)) (apart (map paged pages) (sound-trees 0 pages k.sound));
   owned = subst (λ (h : Held). AreOwned h.spots) (sym (i ∙ k.index)) (owner_marked (map paged pages));
   pages = subst (λ (h : Held). All (λ e. e.page < length (bases_of l)) h.spots) (sym i)

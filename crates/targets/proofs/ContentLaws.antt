@@ -1,5 +1,5 @@
 -- What stands of the contents of targets.
-use Rattle.std.proofs.Common.{◌≡◌, ◌∙◌, ◌≤◌, ap, refl, Bool, true, false, cond, not, List, [], ◌∷◌, Option, Some, None}
+use Rattle.std.proofs.Common.{◌≡◌, ◌∙◌, ap, refl, Bool, true, false, cond, not, List, [], ◌∷◌, Option, Some, None}
 use Rattle.std.specs.List.{All, Contains, cons_option, filter, filter_map}
 use Rattle.std.specs.Prelude.{ℕ, ◌&&◌, ◌||◌, bytes_eq, is_some}
 use Rattle.std.proofs.lemmas.List.Elements.{All-cons, All-contains_itself, All-filter, All-nil, All-same, filter_agree}
@@ -7,14 +7,13 @@ use Rattle.ix_base.specs.declared.content.Content.{Content}
 use Rattle.ix_base.specs.declared.content.Context.{Context}
 use Rattle.ix_base.specs.declared.rule.Rule.TheVariants.{L9}
 use Rattle.ix_base.specs.Asks.{asks}
-use Rattle.ix_base.specs.ContextForm.{context}
 use Rattle.ix_base.specs.Facts.{facts_of}
 use Rattle.ix_base.specs.Kinds as kinds
 use Rattle.ix_base.specs.Kinds.{kind_of, same_kind}
 use Rattle.ix_base.specs.declared.kind.Kind.{Kind}
 use Rattle.ix_base.specs.declared.kind.Kind.TheVariants as kind
 use Rattle.ix_base.specs.LinkRules.{breaking, target_of}
-use Rattle.ix_base.specs.Located.{Located, is_fact, is_item}
+use Rattle.ix_base.specs.Located.{Located, is_item}
 use Rattle.ix_base.specs.Membership.{owner}
 use Rattle.instance_out.specs.Writable.{IsTimely, IsWritable}
 use Rattle.targets.specs.Contents.{IsGathered, SaysItem, context_at, is_item_of, is_outer}

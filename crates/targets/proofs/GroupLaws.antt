@@ -1,5 +1,5 @@
 -- Elements by the targets for which they stand.
-use Rattle.std.proofs.Common.{◌≡◌, ◌∙◌, ap, refl, ℕ, Bool, true, false, List, Option, Some, None, map}
+use Rattle.std.proofs.Common.{◌≡◌, ◌∙◌, ap, refl, ℕ, Bool, true, false, List, Option, Some, None}
 use Rattle.std.specs.Borrow.{Bor}
 use Rattle.std.specs.Global.{Global}
 use Rattle.std.specs.List.{filter}
@@ -12,7 +12,6 @@ use Rattle.ix_base.specs.LinkRules.{is_schema_for, target_above, target_of}
 use Rattle.ix_base.specs.Located.{Located, is_fact, is_kind, is_text, located}
 use Rattle.id_table.proofs.Asking.{map-filter}
 use Rattle.id_table.specs.Tables.{HasEach, all_located, spots_at}
-use Rattle.targets.specs.declared.groups.Group.{Group}
 use Rattle.targets.specs.declared.groups.Group.TheVariants as group
 use Rattle.targets.specs.Contents.{is_linkbase_for}
 use Rattle.targets.specs.Groups.{is_fact_of, key_by}

@@ -10,6 +10,7 @@ mod FactsLaws
 mod FitLaws
 mod GroupLaws
 mod LinkLaws
+mod NoteLaws
 mod PlaceLaws
 mod RedirectLaws
 mod TimelyLaws

@@ -1,7 +1,7 @@
 -- The rules on links that are found are those that are broken, in another order.
-use Rattle.std.proofs.Common.{◌≡◌, ◌∙◌, Bool, true, false, List, [], ◌∷◌, ◌++◌, sym, subst, ap, refl, ⊎_elim, arith}
+use Rattle.std.proofs.Common.{◌≡◌, List, [], ◌∷◌, ◌++◌, sym, subst, refl, ⊎_elim, arith}
 use Rattle.std.specs.List.{Contains, flat_map}
-use Rattle.std.specs.Prelude.{ℕ, ◌&&◌}
+use Rattle.std.specs.Prelude.{ℕ}
 use Rattle.std.proofs.lemmas.List.Concat.{flat_map-cons}
 use Rattle.std.proofs.lemmas.List.Elements.{Contains-append_cases, Contains-append_left, Contains-append_right}
 use Rattle.ix_base.proofs.OnceLemmas.{Contains-cases, Contains-first, Contains-later, Contains-nil}
@@ -9,12 +9,11 @@ use Rattle.ix_base.specs.declared.breach.Found.{Found}
 use Rattle.ix_base.specs.declared.rule.Rule.{Rule}
 use Rattle.ix_base.specs.declared.rule.Rule.TheVariants as rule
 use Rattle.ix_base.specs.Asks.{asks}
-use Rattle.ix_base.specs.LinkRules.{are_any, breaking, breaks, broken, broken_at, found_at, is_relationship, link_rules, named_by, to_ids}
-use Rattle.ix_base.specs.Located.{Located, is_fact}
+use Rattle.ix_base.specs.LinkRules.{breaking, breaks, broken, broken_at, found_at, link_rules}
+use Rattle.ix_base.specs.Located.{Located}
 use Rattle.ix_base.specs.Once.{SameMembers}
 use Rattle.ix_base.specs.Rows.{row}
-use Rattle.targets.specs.Faults.{redirected_at, refs_at, unbuilt_at}
-use Rattle.targets.proofs.FitLaws.{flat-none, row-none}
+use Rattle.targets.specs.Faults.{redirected_at, refs_at}
 
 flat-contains : {X Y : Type 0} (f : X → List Y) (xs : List X) (x : X) (y : Y) → Contains xs x → Contains (f x) y → Contains (flat_map f xs) y
 flat-contains f [] x y h k = absurd (Contains-nil x h)
@@ -31,14 +30,6 @@ flat-from f (z ∷ xs) y h =
 
 nothing : (es : List Located) (f : Found) → Contains (flat_map (λ (e : Located). []) es) f → ⊥
 nothing es f h = Contains-nil f (flat-from (λ (e : Located). []) es f h).2
-
-none-of : (b c : Bool) (x f : Found) → b ≡ false → Contains (row (b && c) x) f → ⊥
-none-of true c x f e h = absurd (cc)
-none-of false c x f e h = Contains-nil f h
-
-none-three : (b c d : Bool) (x f : Found) → b ≡ false → Contains (row (b && c && d) x) f → ⊥
-none-three true c d x f e h = absurd (cc)
-none-three false c d x f e h = Contains-nil f h
 
 module _ (bases : Located → List ℕ) (es : List Located) where
   abbrev of : Rule → List Found
@@ -81,8 +72,17 @@ module _ (bases : Located → List ℕ) (es : List Located) where
   abbrev to-L13 : List Found
   to-L13 = to-L12 ++ breaking rule.L13 es
 
+  abbrev to-L11 : List Found
+  to-L11 = to-L13 ++ breaking rule.L11 es
+
+  abbrev to-L15 : List Found
+  to-L15 = to-L11 ++ breaking rule.L15 es
+
+  abbrev to-L16 : List Found
+  to-L16 = to-L15 ++ breaking rule.L16 es
+
   abbrev to-L14 : List Found
-  to-L14 = to-L13 ++ breaking rule.L14 es
+  to-L14 = to-L16 ++ breaking rule.L14 es
 
   abbrev pub to-roles : List Found
   to-roles = to-L14 ++ flat_map (redirected_at bases (asks es)) es
@@ -127,8 +127,17 @@ module _ (bases : Located → List ℕ) (es : List Located) where
   there-L13 : (f : Found) → Contains to-L13 f → Contains (broken bases es) f
   there-L13 f h = ⊎_elim (there-L12 f) (into rule.L13 f (12, omega arith, refl)) (Contains-append_cases to-L12 (breaking rule.L13 es) f h)
 
+  there-L11 : (f : Found) → Contains to-L11 f → Contains (broken bases es) f
+  there-L11 f h = ⊎_elim (there-L13 f) (into rule.L11 f (10, omega arith, refl)) (Contains-append_cases to-L13 (breaking rule.L11 es) f h)
+
+  there-L15 : (f : Found) → Contains to-L15 f → Contains (broken bases es) f
+  there-L15 f h = ⊎_elim (there-L11 f) (into rule.L15 f (14, omega arith, refl)) (Contains-append_cases to-L11 (breaking rule.L15 es) f h)
+
+  there-L16 : (f : Found) → Contains to-L16 f → Contains (broken bases es) f
+  there-L16 f h = ⊎_elim (there-L15 f) (into rule.L16 f (15, omega arith, refl)) (Contains-append_cases to-L15 (breaking rule.L16 es) f h)
+
   there-L14 : (f : Found) → Contains to-L14 f → Contains (broken bases es) f
-  there-L14 f h = ⊎_elim (there-L13 f) (into rule.L14 f (13, omega arith, refl)) (Contains-append_cases to-L13 (breaking rule.L14 es) f h)
+  there-L14 f h = ⊎_elim (there-L16 f) (into rule.L14 f (13, omega arith, refl)) (Contains-append_cases to-L16 (breaking rule.L14 es) f h)
 
   there-roles : (f : Found) → Contains to-roles f → Contains (broken bases es) f
   there-roles f h = ⊎_elim (there-L14 f) (into rule.L17 f (16, omega arith, refl)) (Contains-append_cases to-L14 (flat_map (redirected_at bases (asks es)) es) f h)
@@ -139,8 +148,17 @@ module _ (bases : Located → List ℕ) (es : List Located) where
   kept-L14 : (f : Found) → Contains to-L14 f → Contains to-roles f
   kept-L14 f h = kept-roles f (Contains-append_left to-L14 (flat_map (redirected_at bases (asks es)) es) f h)
 
+  kept-L16 : (f : Found) → Contains to-L16 f → Contains to-roles f
+  kept-L16 f h = kept-L14 f (Contains-append_left to-L16 (breaking rule.L14 es) f h)
+
+  kept-L15 : (f : Found) → Contains to-L15 f → Contains to-roles f
+  kept-L15 f h = kept-L16 f (Contains-append_left to-L15 (breaking rule.L16 es) f h)
+
+  kept-L11 : (f : Found) → Contains to-L11 f → Contains to-roles f
+  kept-L11 f h = kept-L15 f (Contains-append_left to-L11 (breaking rule.L15 es) f h)
+
   kept-L13 : (f : Found) → Contains to-L13 f → Contains to-roles f
-  kept-L13 f h = kept-L14 f (Contains-append_left to-L13 (breaking rule.L14 es) f h)
+  kept-L13 f h = kept-L11 f (Contains-append_left to-L13 (breaking rule.L11 es) f h)
 
   kept-L12 : (f : Found) → Contains to-L12 f → Contains to-roles f
   kept-L12 f h = kept-L13 f (Contains-append_left to-L12 (breaking rule.L13 es) f h)
@@ -206,7 +224,16 @@ module _ (bases : Located → List ℕ) (es : List Located) where
   in-L13 f h = kept-L13 f (Contains-append_right to-L12 (breaking rule.L13 es) f h)
 
   in-L14 : (f : Found) → Contains (breaking rule.L14 es) f → Contains to-roles f
-  in-L14 f h = kept-L14 f (Contains-append_right to-L13 (breaking rule.L14 es) f h)
+  in-L14 f h = kept-L14 f (Contains-append_right to-L16 (breaking rule.L14 es) f h)
+
+  in-L11 : (f : Found) → Contains (breaking rule.L11 es) f → Contains to-roles f
+  in-L11 f h = kept-L11 f (Contains-append_right to-L13 (breaking rule.L11 es) f h)
+
+  in-L15 : (f : Found) → Contains (breaking rule.L15 es) f → Contains to-roles f
+  in-L15 f h = kept-L15 f (Contains-append_right to-L11 (breaking rule.L15 es) f h)
+
+  in-L16 : (f : Found) → Contains (breaking rule.L16 es) f → Contains to-roles f
+  in-L16 f h = kept-L16 f (Contains-append_right to-L15 (breaking rule.L16 es) f h)
 
   in-roles : (f : Found) → Contains (flat_map (redirected_at bases (asks es)) es) f → Contains to-roles f
   in-roles f h = kept-roles f (Contains-append_right to-L14 (flat_map (redirected_at bases (asks es)) es) f h)
@@ -216,42 +243,28 @@ module _ (bases : Located → List ℕ) (es : List Located) where
       let at = flat-from (broken_at (asks es) r) es f h in
       in-refs f (flat-contains (refs_at (asks es)) es at.0 f at.1 (g at.0 at.2))
 
-  -- without relationships no rule of relationships is broken
-  no-ends : flat_map unbuilt_at es ≡ [] → (r : Rule) (c : Located → Bool) (f : Found)
-      → Contains (flat_map (λ (e : Located). row (is_relationship e && c e) (found_at e r)) es) f → ⊥
-  no-ends none r c f h =
-      let at = flat-from (λ (e : Located). row (is_relationship e && c e) (found_at e r)) es f h in
-      none-of (is_relationship at.0) (c at.0) (found_at at.0 r) f
-      (row-none (is_relationship at.0) (found_at at.0 rule.U2) (flat-none unbuilt_at es none at.0 at.1)) at.2
+  back-of : (r : Rule) (f : Found) → Contains (of r) f → Contains to-roles f
+  back-of rule.L1 f h = in-ids f h
+  back-of rule.L2 f h = in-ref rule.L2 f (λ e k. Contains-append_left (broken_at (asks es) rule.L2 e) (broken_at (asks es) rule.L3 e) f k) h
+  back-of rule.L3 f h = in-ref rule.L3 f (λ e k. Contains-append_right (broken_at (asks es) rule.L2 e) (broken_at (asks es) rule.L3 e) f k) h
+  back-of rule.L4 f h = in-L4 f h
+  back-of rule.L5 f h = in-L5 f h
+  back-of rule.L6 f h = in-L6 f h
+  back-of rule.L7 f h = in-L7 f h
+  back-of rule.L8 f h = in-L8 f h
+  back-of rule.L9 f h = in-L9 f h
+  back-of rule.L10 f h = in-L10 f h
+  back-of rule.L12 f h = in-L12 f h
+  back-of rule.L13 f h = in-L13 f h
+  back-of rule.L14 f h = in-L14 f h
+  back-of rule.L11 f h = in-L11 f h
+  back-of rule.L15 f h = in-L15 f h
+  back-of rule.L16 f h = in-L16 f h
+  back-of rule.L17 f h = in-roles f h
+  back-of r f h = absurd (nothing es f h)
 
-  no-crossing : flat_map unbuilt_at es ≡ [] → (f : Found) → Contains (of rule.L16) f → ⊥
-  no-crossing none f h =
-      let at = flat-from (λ (e : Located). row (breaks bases (asks es) e rule.L16) (found_at e rule.L16)) es f h in
-      none-three (is_relationship at.0) (are_any (named_by is_fact (asks es) (to_ids at.0))) _ (found_at at.0 rule.L16) f
-      (row-none (is_relationship at.0) (found_at at.0 rule.U2) (flat-none unbuilt_at es none at.0 at.1)) at.2
-
-  back-of : flat_map unbuilt_at es ≡ [] → (r : Rule) (f : Found) → Contains (of r) f → Contains to-roles f
-  back-of none rule.L1 f h = in-ids f h
-  back-of none rule.L2 f h = in-ref rule.L2 f (λ e k. Contains-append_left (broken_at (asks es) rule.L2 e) (broken_at (asks es) rule.L3 e) f k) h
-  back-of none rule.L3 f h = in-ref rule.L3 f (λ e k. Contains-append_right (broken_at (asks es) rule.L2 e) (broken_at (asks es) rule.L3 e) f k) h
-  back-of none rule.L4 f h = in-L4 f h
-  back-of none rule.L5 f h = in-L5 f h
-  back-of none rule.L6 f h = in-L6 f h
-  back-of none rule.L7 f h = in-L7 f h
-  back-of none rule.L8 f h = in-L8 f h
-  back-of none rule.L9 f h = in-L9 f h
-  back-of none rule.L10 f h = in-L10 f h
-  back-of none rule.L12 f h = in-L12 f h
-  back-of none rule.L13 f h = in-L13 f h
-  back-of none rule.L14 f h = in-L14 f h
-  back-of none rule.L11 f h = absurd (no-ends none rule.L11 _ f h)
-  back-of none rule.L15 f h = absurd (no-ends none rule.L15 _ f h)
-  back-of none rule.L16 f h = absurd (no-crossing none f h)
-  back-of none rule.L17 f h = in-roles f h
-  back-of none r f h = absurd (nothing es f h)
-
-  pub same-broken : flat_map unbuilt_at es ≡ [] → SameMembers to-roles (broken bases es)
-  same-broken none = record {
+  pub same-broken : SameMembers to-roles (broken bases es)
+  same-broken = record {
     there = there-roles;
-    back = λ f h. let at = flat-from of link_rules f h in back-of none at.0 f at.2;
+    back = λ f h. let at = flat-from of link_rules f h in back-of at.0 f at.2;
   }

@@ -1,5 +1,5 @@
 -- Roles that have two addresses.
-use Rattle.std.proofs.Common.{◌≡◌, ◌∙◌, ap, sym, subst, refl, arith, ℕ, Bool, true, false, not, cond, List, [], ◌∷◌, ◌++◌, length, map, Option, Some, None, ⊎_elim}
+use Rattle.std.proofs.Common.{◌≡◌, ◌∙◌, ap, sym, refl, arith, ℕ, Bool, true, false, not, cond, List, [], ◌∷◌, ◌++◌, length, map, Option, Some, None, ⊎_elim}
 use Rattle.std.specs.List.{Contains, filter, list_any}
 use Rattle.std.specs.Option.{option_map_or}
 use Rattle.std.specs.Prelude.{◌&&◌, ◌||◌, nat_lt, bytes_eq, is_some}
@@ -39,7 +39,7 @@ abbrev differs : List ℕ → List ℕ → Bool
 differs a b = not (bytes_eq a b)
 
 -- what is seen with further addresses: the first one's, and whether one differs from it
-seen-some : (s : Seen) (xs : List (List ℕ)) → seen_from (Some s) xs ≡ Some (record { address = s.address; differs = s.differs || list_any (differs s.address) xs })
+pub seen-some : (s : Seen) (xs : List (List ℕ)) → seen_from (Some s) xs ≡ Some (record { address = s.address; differs = s.differs || list_any (differs s.address) xs })
 seen-some s [] = ap (λ b. Some (record { address = s.address; differs = b })) (or-false s.differs)
 seen-some s (x ∷ xs) =
     seen-some (seen_with (Some s) x) xs

@@ -1,10 +1,12 @@
 -- What the pages of a set say of a target.
-use Rattle.std.specs.Prelude.{◌≡◌, ◌&&◌, ◌||◌, not, ℕ, Bool, List, [], map, flat_map, filter, Option, None, Some, Ok, is_some, unwrap_or, if◌then◌else◌, bytes_eq, codes}
+use Rattle.std.specs.Prelude.{◌≡◌, ◌&&◌, ◌||◌, not, ℕ, Bool, List, [], ◌∷◌, map, flat_map, filter, Option, None, Some, Ok, is_some, option_map, unwrap_or, if◌then◌else◌, bytes_eq, codes}
 use Rattle.std.specs.List.{filter_map}
 use Rattle.ix_base.specs.declared.content.Content.{Content}
 use Rattle.ix_base.specs.declared.content.Context.{Context}
 use Rattle.ix_base.specs.declared.content.Item.{Item}
 use Rattle.ix_base.specs.declared.content.Linkbase.{Linkbase}
+use Rattle.ix_base.specs.declared.content.NoteLink.{NoteLink}
+use Rattle.ix_base.specs.declared.content.RoleRef.{RoleRef}
 use Rattle.ix_base.specs.declared.content.Unit.{Unit as UnitContent}
 use Rattle.ix_base.specs.declared.kind.Kind.{Kind}
 use Rattle.ix_base.specs.declared.kind.Kind.TheVariants as kind
@@ -25,7 +27,9 @@ use Rattle.ix_base.specs.Sorted.{text_cmp}
 use Rattle.ix_base.specs.Token.{token_of}
 use Rattle.ix_base.specs.UnitForm.{unit}
 use Rattle.facts.specs.ItemValue.{IsItem, unit_of}
+use Rattle.footnotes.specs.FootnoteLinks.{notes}
 use Rattle.instance_out.specs.Arranged.{arranged}
+use Rattle.targets.specs.Redirects.{refers_to}
 use Rattle.targets.specs.TargetFacts.{AreFacts}
 
 -- an element that has a target of its own
@@ -87,6 +91,34 @@ contexts_of es target = filter_map context_at (of_ids (asks es) kind.Context (id
 abbrev pub units_of : List Located → List ℕ → List UnitContent
 units_of es target = filter_map unit_at (of_ids (asks es) kind.Unit (ids_named unit_named target es))
 
+-- Roles and arcroles: those that the footnote links of a target use.
+
+-- the role of a link, and those of its footnotes
+abbrev pub roles_in : NoteLink → List (List ℕ)
+roles_in link = link.role ∷ map (λ n. n.role) link.footnotes
+
+-- the arcroles of its arcs
+abbrev pub arcroles_in : NoteLink → List (List ℕ)
+arcroles_in link = map (λ a. a.arcrole) link.arcs
+
+-- what links use, in order, each once
+abbrev pub uris_in : (NoteLink → List (List ℕ)) → List NoteLink → List (List ℕ)
+uris_in uris links = in_order text_cmp (flat_map uris links)
+
+abbrev pub first_of : {X : Type 0} → List X → Option X
+first_of [] = None
+first_of (x ∷ xs) = Some x
+
+abbrev pub role_to : List ℕ → List ℕ → RoleRef
+role_to uri href = record { uri = uri; href = href }
+
+-- the reference of this kind for a URI, where there is one: where no rule on links is broken, all of them have one address
+abbrev pub role_at : (Located → List ℕ) → List Located → Kind → List ℕ → Option RoleRef
+role_at bases es k uri = option_map (role_to uri) (first_of (map (address_of bases) (filter (refers_to k uri) es)))
+
+abbrev pub roles_for : (Located → List ℕ) → List Located → Kind → List (List ℕ) → List RoleRef
+roles_for bases es k uris = filter_map (role_at bases es k) uris
+
 -- a fact of a target without an owner
 abbrev pub is_outer : Asks Located → List ℕ → Located → Bool
 is_outer a target e = is_fact e && bytes_eq target (target_of e) && not (is_some (owner a e))
@@ -102,9 +134,9 @@ pub record IsGathered (bases : Located → List ℕ) (es : List Located) (target
   pub contexts : c.contexts ≡ contexts_of es target
   pub units : c.units ≡ units_of es target
   pub facts : AreFacts (SaysItem bases es) es deepest (filter (is_outer (asks es) target) es) (facts_of c.facts)
-  pub roles : c.roles ≡ []
-  pub arcroles : c.arcroles ≡ []
-  pub notes : c.notes ≡ []
+  pub roles : c.roles ≡ roles_for bases es kind.RoleRef (uris_in roles_in (notes bases es target))
+  pub arcroles : c.arcroles ≡ roles_for bases es kind.ArcroleRef (uris_in arcroles_in (notes bases es target))
+  pub notes : c.notes ≡ notes bases es target
 
 -- the content of a target: what the elements say of it, each list in the order of an instance
 abbrev pub IsContent : (Located → List ℕ) → List Located → List ℕ → Content → Type 0

@@ -1,12 +1,12 @@
 -- The rules that a set breaks, class by class.
-use Rattle.std.specs.Prelude.{◌≡◌, ℕ, suc, List, [], ◌∷◌, ◌++◌, flat_map, filter, Option, None, Some, Result, Ok, Err}
+use Rattle.std.specs.Prelude.{◌≡◌, ℕ, suc, List, [], ◌∷◌, ◌++◌, filter, Option, None, Some, Result, Ok, Err}
 use Rattle.ix_base.specs.declared.breach.Found.{Found}
 use Rattle.ix_base.specs.declared.content.Item.{Item}
 use Rattle.ix_base.specs.declared.rule.Rule.{Rule}
 use Rattle.ix_base.specs.declared.rule.Rule.TheVariants as rule
 use Rattle.ix_base.specs.Asks.{Asks}
 use Rattle.ix_base.specs.ElementRules.{found_on}
-use Rattle.ix_base.specs.LinkRules.{broken, broken_at, found_at, has_two_addresses, is_relationship}
+use Rattle.ix_base.specs.LinkRules.{broken, broken_at, found_at, has_two_addresses}
 use Rattle.ix_base.specs.Located.{Located, Paged, is_item}
 use Rattle.ix_base.specs.Rows.{row}
 use Rattle.facts.specs.ItemValue.{IsItem}
@@ -19,13 +19,6 @@ faults_from n (p ∷ pages) = found_on n p.tree ++ faults_from (suc n) pages
 
 abbrev pub element_faults : PageSet → List Found
 element_faults s = faults_from 0 s.pages
-
--- a relationship, which isn't built yet
-abbrev pub unbuilt_at : Located → List Found
-unbuilt_at e = row (is_relationship e) (found_at e rule.U2)
-
-abbrev pub unbuilt : PageSet → List Found
-unbuilt s = flat_map unbuilt_at (elements s)
 
 -- what an element misses of contexts and units
 abbrev pub refs_at : Asks Located → Located → List Found

@@ -1,7 +1,6 @@
 -- What is to be known of a set that takes pages.
 use Rattle.std.specs.Coded.{Coded, code_by, coded×, coded_ℕ, coded_list, coded_bool}
 use Rattle.std.specs.Prelude.{refl, ◌≡◌, ℕ, suc, Bool, false, List, [], ◌∷◌, map}
-use Rattle.ix_base.specs.declared.tree.Element.{Element}
 use Rattle.ix_base.specs.Located.{Paged, marked}
 use Rattle.ix_base.specs.Sound.{IsSoundRoot}
 use Rattle.ix_base.specs.TreeCodes.{tree_code}

@@ -9,9 +9,11 @@ use Rattle.ix_base.specs.LinkRules.{breaking}
 use Rattle.ix_base.specs.Membership.{owner}
 use Rattle.continuations.specs.Kept.{AreChainsOf}
 use Rattle.facts.specs.ItemValue.{IsItem}
+use Rattle.footnotes.specs.Kept.{AreRelationsOf}
 use Rattle.tuples.specs.Kept.{AreMembersOf}
 use Rattle.targets.specs.Contents.{SaysItem}
 use Rattle.targets.specs.declared.links.Linked.{Linked}
+use Rattle.targets.specs.Redirects.{SeesAll}
 
 abbrev pub all_of : Linked → List Located
 all_of l = l.index.now.spots
@@ -27,10 +29,12 @@ AreApart es = (x y : Located) → Contains es x → Contains es y → same_place
 abbrev pub AreOwned : List Located → Type 0
 AreOwned es = (e o : Located) → Contains es e → owner (asks es) e ≡ Some o → Contains es o
 
--- the chains and the members are those of the elements, which are apart, and of pages that have bases
+-- the chains, the members and the relations are those of the elements, which are apart, and of pages that have bases
 pub record IsLinked (l : Linked) : Type 0 where
   pub chains : AreChainsOf l.chains (all_of l)
   pub members : AreMembersOf l.members (all_of l)
+  pub relations : AreRelationsOf l.relations (all_of l)
+  pub redirects : SeesAll (base_in (bases_of l)) (all_of l) l.redirects
   pub apart : AreApart (all_of l)
   pub owned : AreOwned (all_of l)
   pub pages : All (λ e. e.page < length (bases_of l)) (all_of l)

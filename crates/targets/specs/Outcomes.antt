@@ -8,7 +8,7 @@ use Rattle.targets.specs.declared.outcome.Outcome.{Outcome}
 use Rattle.targets.specs.declared.outcome.Outcome.TheVariants.{Broken, Whole}
 use Rattle.targets.specs.declared.outcome.Target.{Target}
 use Rattle.targets.specs.Contents.{IsContent, target_names}
-use Rattle.targets.specs.Faults.{AreValueFaults, element_faults, link_faults, unbuilt}
+use Rattle.targets.specs.Faults.{AreValueFaults, element_faults, link_faults}
 use Rattle.targets.specs.PageSet.{PageSet, base_at, elements, names}
 
 -- it is the report of these breaches, which were found on pages of these names
@@ -37,10 +37,10 @@ FirstOf names found Else o = ((found ≢ []) × IsReport names found o) ⊎ ((fo
 abbrev pub ComesOfValues : PageSet → Outcome → Type 0
 ComesOfValues s o = (found : List Found) × AreValueFaults s found × FirstOf (names s) found (IsWhole s) o
 
--- What a set comes to: the report of the rules of elements that it breaks; where it breaks none, of what isn't built yet; where
--- there is no such thing, of the rules on links; where it breaks none, of the rules of values; and else its targets.
+-- What a set comes to: the report of the rules of elements that it breaks; where it breaks none, of the rules on links; where it
+-- breaks none, of the rules of values; and else its targets.
 abbrev pub ComesTo : PageSet → Outcome → Type 0
-ComesTo s = FirstOf (names s) (element_faults s) (FirstOf (names s) (unbuilt s) (FirstOf (names s) (link_faults s) (ComesOfValues s)))
+ComesTo s = FirstOf (names s) (element_faults s) (FirstOf (names s) (link_faults s) (ComesOfValues s))
 
 -- each content can be written
 abbrev pub CanBeWritten : Outcome → Type 0

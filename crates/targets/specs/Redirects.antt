@@ -1,6 +1,7 @@
 -- Roles that have two addresses, told by what was seen of each as the references to it came.
-use Rattle.std.specs.Prelude.{◌≡◌, ◌||◌, ◌&&◌, not, ℕ, Bool, false, List, [], ◌∷◌, map, filter, Option, Some, None, bytes_eq}
+use Rattle.std.specs.Prelude.{◌≡◌, ◌||◌, ◌&&◌, not, ℕ, Bool, false, List, [], ◌∷◌, map, filter, Option, Some, None, bytes_eq, option_map}
 use Rattle.indexmap.specs.IndexMap.{IndexMap, get_by}
+use Rattle.ix_base.specs.declared.content.RoleRef.{RoleRef}
 use Rattle.ix_base.specs.declared.kind.Kind.{Kind}
 use Rattle.ix_base.specs.declared.kind.Kind.TheVariants as kind
 use Rattle.ix_base.specs.LinkRules.{address_of, uri_of}
@@ -35,3 +36,7 @@ AreSeen k bases es m = (q : List ℕ) → seen_at m q ≡ seen_from None (map (a
 pub record SeesAll (bases : Located → List ℕ) (es : List Located) (r : Redirects) : Type 0 where
   pub roles : AreSeen kind.RoleRef bases es r.roles
   pub arcroles : AreSeen kind.ArcroleRef bases es r.arcroles
+
+-- the reference for the role with this URI, by what was seen of it
+abbrev pub role_seen : {S : Type 0} → IndexMap (Bor (List ℕ)) Seen S → List ℕ → Option RoleRef
+role_seen m q = option_map (λ s. record { uri = q; href = s.address }) (seen_at m q)

@@ -64,13 +64,13 @@ pub(crate) fn address_of(alloc: Global, bases: &Bases, spot: &Spot<'_>) -> Resul
 
 /// The address of the first reference to a role, and whether another one has another address.
 #[derive(Drop)]
-struct Seen {
-    address: Text,
+pub(crate) struct Seen {
+    pub(crate) address: Text,
     differs: bool,
 }
 
 /// What was seen of each role, or of each arcrole, by its URI.
-type Roles<'a> = IndexMap<&'a str, Seen>;
+pub(crate) type Roles<'a> = IndexMap<&'a str, Seen>;
 
 /// Takes out what was seen of a role.
 fn taken<'a>(roles: &mut Roles<'a>, uri: &str) -> Option<Seen>
@@ -181,9 +181,9 @@ fn has_two<'a>(roles: &Roles<'a>, kind: Kind, spot: &Spot<'a>) -> bool
 
 /// What is seen of the roles and of the arcroles of a set.
 #[derive(Drop)]
-struct Redirects<'a> {
-    roles: Roles<'a>,
-    arcroles: Roles<'a>,
+pub(crate) struct Redirects<'a> {
+    pub(crate) roles: Roles<'a>,
+    pub(crate) arcroles: Roles<'a>,
 }
 
 fn redirects_of<'a>(
@@ -220,19 +220,21 @@ fn add_if_redirected(
     found.add_if(spot.element.place, Rule::L17, is_redirected)
 }
 
-/// Adds the references to roles, and to arcroles, that have two addresses.
-pub(crate) fn add_redirected(
+/// Adds the references to roles, and to arcroles, that have two addresses, and gives what is seen of all of them.
+pub(crate) fn add_redirected<'a>(
     alloc: Global,
-    index: &Index<'_>,
+    index: &Index<'a>,
     bases: &Bases,
     found: &mut Breaches,
-) -> Result<(), NoMemory>
+) -> Result<Redirects<'a>, NoMemory>
     requires { All (λ e. e.page < length bases.now.pages) index.now.spots }
-    ensures { OnOk result (found.new ≡ found.old ++ flat_map (redirected_at (base_in bases.now.pages) (asked index.now)) index.now.spots) }
+    ensures seen { IfOk result (SeesAll (base_in bases.now.pages) index.now.spots) }
+    ensures faults { OnOk result (found.new
+        ≡ found.old ++ flat_map (redirected_at (base_in bases.now.pages) (asked index.now)) index.now.spots) }
 {
     let redirects = redirects_of(alloc, bases, index.spots())?;
     for spot in index.spots() {
         add_if_redirected(spot, is_redirected(&redirects, spot), found)?;
     }
-    Ok(())
+    Ok(redirects)
 }

@@ -1,6 +1,6 @@
 //! What the pages of a set come to, class by class.
 ghost use Rattle.std.specs.Prelude.{◌≡◌, ◌<◌, [], All, length, map, IfOk};
-ghost use Rattle.targets.specs.Faults.{element_faults, link_faults, unbuilt};
+ghost use Rattle.targets.specs.Faults.{element_faults, link_faults};
 ghost use Rattle.targets.specs.Holding.{KeepsAll, set_of};
 ghost use Rattle.targets.specs.Linked.{IsLinked, IsShallow, IsValued, all_of, bases_of};
 ghost use Rattle.ix_base.specs.Located.{base_in};
@@ -9,7 +9,7 @@ ghost use Rattle.targets.specs.PageSet as spec;
 ghost use Rattle.targets.specs.PageSet.{elements, page_bases};
 
 use crate::contents::targets_of;
-use crate::links::{Linked, link_all, unbuilt_in};
+use crate::links::{Linked, link_all};
 use crate::outcome::Outcome;
 use crate::values::value_faults;
 use bumpalo::Bump;
@@ -92,7 +92,7 @@ fn comes_of_values(
     reported(found, names)
 }
 
-/// What pages come to that break no rule of elements, where all of them is built.
+/// What pages come to that break no rule of elements.
 fn comes_of_links<'a>(
     alloc: Global,
     arena: &'a Bump,
@@ -101,7 +101,6 @@ fn comes_of_links<'a>(
 ) -> Result<Outcome, NoMemory>
     requires keeps { KeepsAll pages.now }
     requires sound { element_faults (set_of pages.now) ≡ [] }
-    requires built { unbuilt (set_of pages.now) ≡ [] }
     requires names { names.now ≡ spec.names (set_of pages.now) }
     ensures comes { IfOk result (FirstOf names.now (link_faults (set_of pages.now)) (ComesOfValues (set_of pages.now))) }
     ensures written { IfOk result CanBeWritten }
@@ -110,27 +109,6 @@ fn comes_of_links<'a>(
     let linked = link_all(alloc, arena, pages.index, pages.bases, &mut found)?;
     if found.is_empty() {
         return comes_of_values(alloc, pages, &linked, names);
-    }
-    reported(found, names)
-}
-
-/// What pages come to that break no rule of elements.
-fn comes_of_elements<'a>(
-    alloc: Global,
-    arena: &'a Bump,
-    pages: &Pages<'_, 'a>,
-    names: &[Text],
-) -> Result<Outcome, NoMemory>
-    requires keeps { KeepsAll pages.now }
-    requires sound { element_faults (set_of pages.now) ≡ [] }
-    requires names { names.now ≡ spec.names (set_of pages.now) }
-    ensures comes { IfOk result (FirstOf names.now (unbuilt (set_of pages.now))
-        (FirstOf names.now (link_faults (set_of pages.now)) (ComesOfValues (set_of pages.now)))) }
-    ensures written { IfOk result CanBeWritten }
-{
-    let found = unbuilt_in(alloc, pages.index)?;
-    if found.is_empty() {
-        return comes_of_links(alloc, arena, pages, names);
     }
     reported(found, names)
 }
@@ -159,7 +137,7 @@ pub(crate) fn closed<'a>(
     let names = names_of(alloc, pages.pages)?;
     let found = element_faults_of(alloc, pages)?;
     if found.is_empty() {
-        return comes_of_elements(alloc, arena, pages, names.as_slice());
+        return comes_of_links(alloc, arena, pages, names.as_slice());
     }
     reported(found, names.as_slice())
 }

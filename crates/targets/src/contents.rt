@@ -25,6 +25,7 @@ use crate::addresses::{address_of, link_token};
 use crate::facts_in::facts_at;
 use crate::groups::{Group, at, grouped, is_fact};
 use crate::links::Linked;
+use crate::notes::{arcroles_for, notes_for, roles_for};
 use crate::outcome::Target;
 use crate::values::is_item;
 use fact_view::target_of;
@@ -155,7 +156,7 @@ fn each_named<'a>(alloc: Global, by: Ref, spots: &[&'a Spot<'a>]) -> Result<Vec<
 }
 
 /// Puts texts in order by their bytes, each once.
-fn each_once(texts: &mut Vec<&str>)
+pub(crate) fn each_once(texts: &mut Vec<&str>)
     ensures { values_of texts.new.items ≡ in_order text_cmp (values_of texts.old.items) }
 {
     texts.sort_unstable();
@@ -371,15 +372,18 @@ fn gathered<'a>(
     let contexts = contexts_for(alloc, linked, groups, target)?;
     let units = units_for(alloc, linked, groups, target)?;
     let facts = facts_for(alloc, linked, groups, target)?;
+    let notes = notes_for(alloc, linked, target)?;
+    let roles = roles_for(alloc, linked, notes.as_slice())?;
+    let arcroles = arcroles_for(alloc, linked, notes.as_slice())?;
     Ok(Content {
         schemas,
         linkbases,
-        roles: List::new(alloc),
-        arcroles: List::new(alloc),
+        roles,
+        arcroles,
         contexts,
         units,
         facts,
-        notes: List::new(alloc),
+        notes,
     })
 }
 

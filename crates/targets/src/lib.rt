@@ -1,10 +1,11 @@
 //! What a set of pages comes to: the rules that it breaks, or its targets, each with its content.
 //!
 //! `Set::add_page` enters a page's elements into an index and keeps the page's base. `Set::close` looks for the rules class by
-//! class: of elements, what isn't built yet, on links, of values; where none is broken it makes the contents. Facts,
-//! references and what items name are put together by their targets once, so that a target costs what it has; the value of
-//! an item is made twice, once for the rules of values and once for the content. Beside the sorting of names, ids and lines
-//! the work grows with the pages, and with the depth of the elements where a base or a path is followed.
+//! class: of elements, on links, of values; where none is broken it makes the contents. Facts, references and what items
+//! name are put together by their targets once, and so are the arcs of relationships, so that a target costs what it has; the
+//! value of an item is made twice, once for the rules of values and once for the content. References to roles are kept by
+//! their URIs, and a target looks up those that it uses. Beside the sorting of names, ids and lines the work grows with the
+//! pages and with what is written, and with the depth of the elements where a base or a path is followed.
 #![tactic(auto)]
 
 mod addresses;
@@ -13,6 +14,7 @@ mod contents;
 mod facts_in;
 mod groups;
 mod links;
+mod notes;
 mod outcome;
 mod set;
 mod values;

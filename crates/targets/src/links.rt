@@ -7,20 +7,23 @@ ghost use Rattle.ix_base.specs.LinkRules as rules;
 ghost use Rattle.ix_base.specs.LinkRules.{breaking, broken};
 ghost use Rattle.ix_base.specs.Once.{SameMembers};
 ghost use Rattle.continuations.specs.Kept.{AreChainsOf};
+ghost use Rattle.footnotes.specs.Kept.{AreRelationsOf};
 ghost use Rattle.id_table.specs.Held.{asked};
 ghost use Rattle.id_table.specs.Tables.{all_located, spots_at};
 ghost use Rattle.tuples.specs.Fits.{fits};
 ghost use Rattle.tuples.specs.Kept.{AreMembersOf};
-ghost use Rattle.targets.specs.Faults.{refs_at, unbuilt_at};
+ghost use Rattle.targets.specs.Faults.{refs_at};
+ghost use Rattle.targets.specs.Redirects.{SeesAll};
 
-use crate::addresses::add_redirected;
+use crate::addresses::{Redirects, add_redirected};
 use crate::groups::{Group, grouped, is_fact};
 use bumpalo::Bump;
 use continuations::{Chains, link};
 use fact_view::target_of;
 use facts::refs_of;
+use footnotes::{Relations, relate};
 use id_table::{Holders, Index, count_in};
-use ix_base::{Breaches, Kind, NoMemory, Rule, Spot, kind_of};
+use ix_base::{Breaches, NoMemory, Rule, Spot};
 use scopes::Bases;
 use std::alloc::Global;
 use tuples::{Members, membership};
@@ -32,28 +35,8 @@ pub(crate) struct Linked<'s, 'a> {
     pub(crate) bases: &'s Bases,
     pub(crate) chains: Chains<'a>,
     pub(crate) members: Members<'a>,
-}
-
-/// Adds a relationship, which isn't built yet.
-fn add_if_unbuilt(spot: &Spot<'_>, found: &mut Breaches) -> Result<(), NoMemory>
-    ensures { OnOk result (found.new ≡ found.old ++ unbuilt_at (located spot.now)) }
-{
-    found.add_if(
-        spot.element.place,
-        Rule::U2,
-        kind_of(spot) == Kind::Relationship,
-    )
-}
-
-/// What isn't built yet.
-pub(crate) fn unbuilt_in(alloc: Global, index: &Index<'_>) -> Result<Breaches, NoMemory>
-    ensures { IfOk result (λ b. b ≡ flat_map unbuilt_at index.now.spots) }
-{
-    let mut found = Breaches::new(alloc);
-    for spot in index.spots() {
-        add_if_unbuilt(spot, &mut found)?;
-    }
-    Ok(found)
+    pub(crate) relations: Relations<'a>,
+    pub(crate) redirects: Redirects<'a>,
 }
 
 /// Adds the items whose context isn't there, and the numbers whose unit isn't there.
@@ -100,7 +83,7 @@ fn add_lacking_schema(
     Ok(())
 }
 
-/// Adds the rules on links that the elements of a set break that have no relationships, and gives what was made of the links.
+/// Adds the rules on links that the elements of a set break, and gives what was made of the links.
 pub(crate) fn link_all<'s, 'a>(
     alloc: Global,
     arena: &'a Bump,
@@ -110,11 +93,12 @@ pub(crate) fn link_all<'s, 'a>(
 ) -> Result<Linked<'s, 'a>, NoMemory>
     requires none { found.old ≡ [] }
     requires fits { All (λ e. fits e ≡ true) index.now.spots }
-    requires built { flat_map unbuilt_at index.now.spots ≡ [] }
     requires pages { All (λ e. e.page < length bases.now.pages) index.now.spots }
     ensures faults { OnOk result (SameMembers found.new (broken (base_in bases.now.pages) index.now.spots)) }
     ensures chains { IfOk result (λ l. found.new ≡ [] → AreChainsOf l.chains index.now.spots) }
     ensures members { IfOk result (λ l. AreMembersOf l.members index.now.spots) }
+    ensures relations { IfOk result (λ l. AreRelationsOf l.relations index.now.spots) }
+    ensures redirects { IfOk result (λ l. SeesAll (base_in bases.now.pages) index.now.spots l.redirects) }
     ensures index { IfOk result (λ l. l.index ≡ index.entry) }
     ensures bases { IfOk result (λ l. l.bases ≡ bases.entry) }
 {
@@ -122,12 +106,15 @@ pub(crate) fn link_all<'s, 'a>(
     add_refs(index, found)?;
     let chains = link(alloc, arena, index, found)?;
     let members = membership(alloc, arena, index, found)?;
+    let relations = relate(alloc, arena, index, found)?;
     add_lacking_schema(alloc, index, found)?;
-    add_redirected(alloc, index, bases, found)?;
+    let redirects = add_redirected(alloc, index, bases, found)?;
     Ok(Linked {
         index,
         bases,
         chains,
         members,
+        relations,
+        redirects,
     })
 }

@@ -1,5 +1,5 @@
 //! Runs over several pages.
-use super::{Faults, NONE, NOT_BUILT, PLAIN, SUMMARY, page, run_set};
+use super::{Faults, NONE, SUMMARY, page, run_set};
 use crate::Status;
 use std::test::Fail;
 
@@ -7,6 +7,10 @@ const FOO: &[u8] = b"<p xmlns:ix=\"http://www.xbrl.org/2013/inlineXBRL\"><ix:foo
 
 const EXCLUDE: &[u8] =
     b"<p xmlns:ix=\"http://www.xbrl.org/2013/inlineXBRL\"><ix:exclude>x</ix:exclude></p>";
+
+const RELATED: &[u8] =
+    b"<p xmlns:ix=\"http://www.xbrl.org/2013/inlineXBRL\"><ix:header><ix:resources>\
+<ix:relationship fromRefs=\"f\" toRefs=\"n\"/></ix:resources></ix:header></p>";
 
 /// What stands in `a.html`, `b.html` and `c.html`, and the report of the three, whose words are c, a, b.
 #[test]
@@ -36,8 +40,9 @@ fn one_class_of_rules_is_reported_by_page(rt: HostRuntime) -> Result<(), Fail> {
             b"a.html:4: W6 page ends with open elements\nc.html:6: W5 end tag doesn't match\n",
         ),
         (
-            [b" <a/>", b"<!---->\n<a/>", plain.as_slice()],
-            b"a.html:1: U2 not built yet\nb.html:8: U2 not built yet\nc.html:0: U2 not built yet\n",
+            [RELATED, plain.as_slice(), RELATED],
+            b"a.html:75: L11 relationship from no fact\na.html:75: L15 relationship to nothing\n\
+c.html:75: L11 relationship from no fact\nc.html:75: L15 relationship to nothing\n",
         ),
         (
             [b"<a/>", b"", b"<x:a/>"],
@@ -54,6 +59,13 @@ fn one_class_of_rules_is_reported_by_page(rt: HostRuntime) -> Result<(), Fail> {
             "{report:?}"
         );
     }
+    let pages: [(&str, &[u8]); 3] = [
+        ("a.html", b"<a/>"),
+        ("b.html", plain.as_slice()),
+        ("c.html", b"<p/>"),
+    ];
+    let end = run_set(alloc, &words, &pages, 65_536, NONE)?;
+    assert!(rt; end.status == Status::Done && end.out.object.taken() == SUMMARY);
     Ok(())
 }
 
@@ -101,36 +113,5 @@ fn each_call_over_three_pages_fails_in_turn(rt: HostRuntime) -> Result<(), Fail>
     let missing = run_set(alloc, &THREE, &pages[..2], 65_536, NONE)?;
     assert!(rt; missing.status == Status::ReadFault && missing.pages.calls == 4);
     assert!(rt; missing.out.object.taken() == lines[1]);
-    Ok(())
-}
-
-/// To check tells what extracting would, and writes nothing.
-#[test]
-fn a_check_tells_and_writes_nothing(rt: HostRuntime) -> Result<(), Fail> {
-    let alloc = rt.alloc();
-    let check = ["check", "a.html", "--base", "http://example.com/r/"];
-    let plain = page(alloc, b"2023-12-31", b"x")?;
-    let rows: [(&[u8], Status, &[u8]); 3] = [
-        (plain.as_slice(), Status::Done, SUMMARY),
-        (
-            b"<p>a<b",
-            Status::Broken,
-            b"a.html:4: W3 construct is cut off\n",
-        ),
-        (b"<a/>", Status::Broken, NOT_BUILT),
-    ];
-    for (bytes, status, text) in rows {
-        let told = run_set(alloc, &check, &[("a.html", bytes)], 65_536, NONE)?;
-        assert!(rt;
-            told.status == status && told.out.object.taken() == text,
-            "{bytes:?}"
-        );
-        assert!(rt; told.sink.calls == 0, "{bytes:?}");
-        let done = run_set(alloc, &PLAIN, &[("a.html", bytes)], 65_536, NONE)?;
-        assert!(rt;
-            done.status == status && done.out.object.taken() == text,
-            "{bytes:?}"
-        );
-    }
     Ok(())
 }

@@ -3,10 +3,10 @@ use Rattle.ixds_run.proofs.extract.due_from.Goals as goal
 
 pub returns-clause-due : goal.returns-clause-due
 returns-clause-due c =
-    due_is c.ready.result c.args.command.now c.base.result.now c.pages.result.now c.in_ok-verdict.verdict c.args.forest c.base.ensures c.pages.ensures
-    c.in_ok-verdict.ensures.says c.ready.ensures.due
+    due_is c.ready.result c.args.command.now c.base.result.now c.pages.result.now c.in_ok-outcome.outcome c.args.forest c.base.ensures c.pages.ensures
+    c.in_ok-outcome.ensures.says c.ready.ensures.due
 
 pub returns-clause-nothing : goal.returns-clause-nothing
 returns-clause-nothing c =
-    nothing_due c.ready.result c.args.command.now c.base.result.now c.pages.result.now c.in_ok-verdict.verdict c.args.forest c.base.ensures c.pages.ensures
-    c.in_ok-verdict.ensures.says c.ready.ensures.due c.ready.ensures.none
+    nothing_due c.ready.result c.args.command.now c.base.result.now c.pages.result.now c.in_ok-outcome.outcome c.args.forest c.base.ensures c.pages.ensures
+    c.in_ok-outcome.ensures.says c.ready.ensures.due c.ready.ensures.none

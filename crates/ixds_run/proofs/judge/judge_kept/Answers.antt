@@ -1,13 +1,12 @@
 use Rattle.std.proofs.Common.{◌≡◌, ◌∙◌, ◌==◌, true, length, sym}
-use Rattle.ixds_run.proofs.JudgeLaws.{few_roots, numbered_roots, trees_made, found_below}
+use Rattle.ixds_run.proofs.JudgeLaws.{found_below, sound_roots, trees_made}
 use Rattle.ixds_run.proofs.judge.judge_kept.Goals as goal
 
-pub made-requires-clause-few : goal.made-requires-clause-few
-made-requires-clause-few c =
+pub made-requires : goal.made-requires
+made-requires c =
     let read = c.requires.read in
     let empty : (length c.args.forest.found == 0) ≡ true = sym c.is_empty.ensures ∙ c.if-is_empty.true in
-    let few = few_roots read.0 c.args.forest (length c.args.names.now) read.1 read.2 empty in
-    rw (c.as_slice.ensures.value) few
+    rw (c.as_slice.ensures.value) (sound_roots c.sound_tree.ensures.root read.0 c.args.forest read.1 empty)
 
 pub returns-then-is_empty-clause-made : goal.returns-then-is_empty-clause-made
 returns-then-is_empty-clause-made c bs read none =
@@ -17,9 +16,3 @@ pub reported-requires : goal.reported-requires
 reported-requires c =
     let read = c.requires.read in
     found_below read.0 c.args.forest (length c.args.names.now) read.1 read.2
-
-pub made-requires-clause-numbered : goal.made-requires-clause-numbered
-made-requires-clause-numbered c =
-    let read = c.requires.read in
-    let empty : (length c.args.forest.found == 0) ≡ true = sym c.is_empty.ensures ∙ c.if-is_empty.true in
-    rw (c.as_slice.ensures.value) (numbered_roots read.0 c.args.forest read.1 empty)

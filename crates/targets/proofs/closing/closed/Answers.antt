@@ -1,28 +1,28 @@
-use Rattle.std.proofs.Common.{◌∙◌, ◌<◌, ◌≤◌, ◌+◌, ◌≡◌, ℕ, List, ap, arith, inl, inr, length, map, subst, sym}
+use Rattle.std.proofs.Common.{◌∙◌, ◌<◌, ◌≡◌, ℕ, List, ap, arith, inl, inr, length, subst, sym}
 use Rattle.std.proofs.lemmas.List.{length-map}
 use Rattle.std.proofs.lemmas.List.Elements.{All-same}
 use Rattle.std.proofs.lemmas.Result.{IfOk-weaker}
 use Rattle.ix_base.specs.declared.breach.Found.{Found}
-use Rattle.targets.specs.Faults.{element_faults, link_faults, unbuilt}
-use Rattle.targets.specs.Holding.{paged, set_of}
+use Rattle.targets.specs.Faults.{element_faults, link_faults}
+use Rattle.targets.specs.Holding.{set_of}
 use Rattle.targets.specs.Outcomes.{ComesOfValues, FirstOf, IsReport}
 use Rattle.targets.specs.PageSet.{names}
 use Rattle.targets.proofs.BelowLaws.{faults-below}
 use Rattle.targets.proofs.ComesLaws.{names-are, none-is, some-is}
 use Rattle.targets.proofs.closing.closed.Goals as goal
 
-pub comes_of_elements-requires-clause-names : goal.comes_of_elements-requires-clause-names
-comes_of_elements-requires-clause-names c = c.as_slice.ensures.value ∙ c.in_ok-names.ensures ∙ names-are c.args.pages.now.pages.now
+pub comes_of_links-requires-clause-names : goal.comes_of_links-requires-clause-names
+comes_of_links-requires-clause-names c = c.as_slice.ensures.value ∙ c.in_ok-names.ensures ∙ names-are c.args.pages.now.pages.now
 
 pub returns-then-is_empty-clause-comes : goal.returns-then-is_empty-clause-comes
 returns-then-is_empty-clause-comes c =
     let s = set_of c.args.pages.now in
     let same = c.as_slice.ensures.value ∙ c.in_ok-names.ensures ∙ names-are c.args.pages.now.pages.now in
     let none = sym c.in_ok-found.ensures ∙ none-is c.in_ok-found.found c.is_empty.result c.is_empty.ensures c.if-is_empty.true in
-    IfOk-weaker c.comes_of_elements.result _ _ (λ o h. inr (
+    IfOk-weaker c.comes_of_links.result _ _ (λ o h. inr (
       none,
-      subst (λ (ns : List (List ℕ)). FirstOf ns (unbuilt s) (FirstOf ns (link_faults s) (ComesOfValues s)) o) same h,
-    )) c.comes_of_elements.ensures.comes
+      subst (λ (ns : List (List ℕ)). FirstOf ns (link_faults s) (ComesOfValues s) o) same h,
+    )) c.comes_of_links.ensures.comes
 
 pub reported-requires : goal.reported-requires
 reported-requires c =

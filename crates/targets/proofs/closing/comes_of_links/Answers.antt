@@ -1,4 +1,4 @@
-use Rattle.std.proofs.Common.{◌≡◌, ◌∙◌, ◌<◌, All, [], ap, inl, inr, length, map, subst, sym, true}
+use Rattle.std.proofs.Common.{◌≡◌, ◌<◌, All, [], ap, inl, inr, length, map, subst, sym, true}
 use Rattle.std.specs.Borrow.{Bor}
 use Rattle.std.proofs.lemmas.Result.{IfOk-weaker}
 use Rattle.ix_base.specs.declared.rule.Rule.TheVariants as rule
@@ -27,7 +27,7 @@ comes_of_values-requires-clause-linked c =
     is-linked c.in_ok-linked.linked _ _ _ _ c.requires.keeps (ap (λ (b : Bor Held). b.now) c.in_ok-linked.ensures.index)
     (ap (λ (b : Bor Kept). b.now) c.in_ok-linked.ensures.bases)
     (c.in_ok-linked.ensures.chains (none-is c.link_all.new.found c.is_empty.result c.is_empty.ensures c.if-is_empty.true))
-    c.in_ok-linked.ensures.members
+    c.in_ok-linked.ensures.members c.in_ok-linked.ensures.relations c.in_ok-linked.ensures.redirects
 
 pub comes_of_values-requires-clause-shallow : goal.comes_of_values-requires-clause-shallow
 comes_of_values-requires-clause-shallow c =

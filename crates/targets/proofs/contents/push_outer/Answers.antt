@@ -1,7 +1,7 @@
-use Rattle.std.proofs.Common.{◌∙◌, ◌≡◌, ap, sym, true, false}
+use Rattle.std.proofs.Common.{◌∙◌, ap, sym}
 use Rattle.std.specs.Prelude.{is_some}
 use Rattle.ix_base.specs.Asks.{asks}
-use Rattle.ix_base.specs.Elements.{Placed, placed}
+use Rattle.ix_base.specs.Elements.{placed}
 use Rattle.std.specs.Borrow.{Bor}
 use Rattle.ix_base.specs.declared.tree.Spot.{Spot}
 use Rattle.ix_base.specs.Located.{Located, located}

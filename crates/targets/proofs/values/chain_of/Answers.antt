@@ -1,14 +1,13 @@
-use Rattle.std.proofs.Common.{◌∙◌, ◌≡◌, ◌<◌, ap, length, sym, true, Some}
+use Rattle.std.proofs.Common.{◌∙◌, ◌≡◌, ◌<◌, ap, length, sym, true}
 use Rattle.std.specs.Prelude.{is_some, ◌||◌}
 use Rattle.std.proofs.lemmas.List.Elements.{All-contains}
 use Rattle.ix_base.specs.Asks.{asks}
 use Rattle.ix_base.specs.Chain.{chain}
 use Rattle.ix_base.specs.Kinds.{same_kind}
-use Rattle.ix_base.specs.Located.{Located, is_kind, is_start, located, offset_of}
+use Rattle.ix_base.specs.Located.{Located, is_kind, is_start, located}
 use Rattle.ix_base.specs.declared.kind.Kind.TheVariants as kind
 use Rattle.continuations.proofs.HeadLaws.{chain_at-start}
 use Rattle.continuations.proofs.Walking.{some-inj}
-use Rattle.continuations.specs.Kept.{chain_at}
 use Rattle.targets.specs.Linked.{all_of, bases_of}
 use Rattle.targets.proofs.AmongLaws.{spots-are}
 use Rattle.targets.proofs.ChainLaws.{all-chain, starts-alone}

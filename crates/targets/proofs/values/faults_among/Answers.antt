@@ -1,4 +1,4 @@
-use Rattle.std.proofs.Common.{◌∙◌, ◌++◌, ◌∷◌, [], List, ap, subst, sym, take}
+use Rattle.std.proofs.Common.{◌++◌, ◌∷◌, [], List, subst, sym, take}
 use Rattle.std.specs.List.{Contains, filter}
 use Rattle.std.proofs.lemmas.List.Elements.{filter-append}
 use Rattle.ix_base.specs.Asks.{asks}

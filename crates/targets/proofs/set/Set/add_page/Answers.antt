@@ -2,10 +2,7 @@ use Rattle.std.proofs.Common.{◌∙◌, ◌∷◌, [], ◌++◌, ap, length, su
 use Rattle.ix_base.specs.Address.{page_base}
 use Rattle.ix_base.specs.Sound.{IsSoundRoot}
 use Rattle.ix_base.specs.Trees.{tree_of}
-use Rattle.targets.specs.declared.closing.Page.{Page}
-use Rattle.scopes.specs.Kept.{Kept}
 use Rattle.targets.specs.Holding.{HeldSet}
-use Rattle.std.proofs.Common.{List}
 use Rattle.targets.proofs.ClosingLaws.{keeps-more}
 use Rattle.targets.proofs.set.Set.add_page.Goals as goal
 
