@@ -10,7 +10,7 @@ ghost use Rattle.ixds_cli.specs.Words.{words_in, command_in};
 mod complaint;
 mod folder;
 mod pages;
-mod targets;
+mod target_files;
 #[cfg(test)]
 mod tests;
 mod text;
@@ -27,7 +27,7 @@ use std::env::Args;
 use std::io::Write;
 use std::process::ExitCode;
 use std::{env, io};
-use targets::FileTargets;
+use target_files::FileTargets;
 use text::StdoutText;
 use words::words_of;
 

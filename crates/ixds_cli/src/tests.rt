@@ -5,7 +5,7 @@ use crate::complaint::{Blamed, complain};
 use crate::folder::{Folder, SystemFolder};
 use crate::pages::{FilePages, read_some};
 use crate::run_words;
-use crate::targets::FileTargets;
+use crate::target_files::FileTargets;
 use crate::text::StdoutText;
 use crate::words::words_of;
 use ix_base::{
