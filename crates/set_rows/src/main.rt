@@ -1,0 +1,97 @@
+//! Runs rows of pages through the top call, and tells of each row what was seen, or what isn't as it is due.
+//!
+//! The arguments are the names of rows. A row is a folder, in the one where the program runs, with these files:
+//!
+//! | File | Has |
+//! |---|---|
+//! | `words` | the words of the command, one a line; those that end in `.html` are its pages, each a file of that name |
+//! | `due_status`, `due_out` | the exit status, and the text that `out` takes |
+//! | `due_default.xbrl`, `due_x.xbrl` | the whole instance of the target without a name, and of the target x; a target that has no such file isn't to be written |
+//! | `orders`, may be missing | the names of the pages in other orders, one order a line, which are to give the same |
+//! | `faults`, may be missing | numbers of calls of the sink, one a line, each with what stands in the targets where that call fails |
+//!
+//! A row runs with reads of 1, of 7 and of 65,536 bytes. Where all rows are as due the program ends with status 0, else with 1.
+#![tactic(auto)]
+
+mod compare;
+mod due;
+mod faults;
+mod files;
+mod outcome;
+mod row;
+
+use anyhow::Result;
+use due::Due;
+use outcome::STEPS;
+use row::Row;
+use std::alloc::Global;
+use std::env;
+use std::process::ExitCode;
+use std::rt::Files;
+
+/// The first difference of a row: the row as it stands, its other orders, its faults.
+fn difference(alloc: Global, row: &Row) -> Result<Option<String>> {
+    if let Some(text) = outcome::difference(alloc, row, &row.words)? {
+        return Ok(Some(text));
+    }
+    for words in &row.orders {
+        if let Some(text) = outcome::difference(alloc, row, words)? {
+            return Ok(Some(text));
+        }
+    }
+    for fault in &row.faults {
+        if let Some(text) = faults::difference(alloc, row, fault)? {
+            return Ok(Some(text));
+        }
+    }
+    Ok(None)
+}
+
+/// What was seen of a row in which all is as due.
+fn seen(alloc: Global, row: &Row) -> Result<String> {
+    let orders = row.orders.len().saturating_add(1);
+    let runs = orders.saturating_mul(STEPS.len());
+    let mut text = format!(in alloc; "{}, {runs} runs", row.due)?;
+    if !row.faults.is_empty() {
+        write!(text, ", {} faults", row.faults.len())?;
+    }
+    Ok(text)
+}
+
+/// What is told of the row of a name, and whether all of it is as due.
+fn told<R: Files + AllocGlobal>(rt: &R, name: &str) -> Result<(bool, String)> {
+    let alloc = rt.alloc();
+    let row = Row::read(rt, name)?;
+    match difference(alloc, &row)? {
+        Some(text) => Ok((false, text)),
+        None => Ok((true, seen(alloc, &row)?)),
+    }
+}
+
+/// Runs the row of a name and prints its line. It tells whether all is as due.
+fn shown<R: Files + AllocGlobal + Print>(rt: &R, name: &str) -> Result<bool> {
+    match told(rt, name) {
+        Ok((true, text)) => {
+            println!(rt; "{name}: {text}")?;
+            Ok(true)
+        }
+        Ok((false, text)) => {
+            println!(rt; "{name}: NOT AS DUE: {text}")?;
+            Ok(false)
+        }
+        Err(error) => {
+            println!(rt; "{name}: NOT AS DUE: {error:#}")?;
+            Ok(false)
+        }
+    }
+}
+
+fn main(rt: HostRuntime) -> Result<ExitCode> {
+    let mut end = ExitCode::SUCCESS;
+    for name in env::args(&rt)?.skip(1) {
+        if !shown(&rt, name.as_str())? {
+            end = ExitCode::FAILURE;
+        }
+    }
+    Ok(end)
+}
