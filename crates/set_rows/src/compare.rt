@@ -14,7 +14,12 @@ fn line_at(text: &[u8], number: usize) -> &str {
 }
 
 /// The first line in which two texts differ, where they do, as it is due and as it was seen.
-pub fn differing_line(alloc: Global, what: &str, due: &[u8], seen: &[u8]) -> Result<Option<String>>
+pub(crate) fn differing_line(
+    alloc: Global,
+    what: &str,
+    due: &[u8],
+    seen: &[u8],
+) -> Result<Option<String>>
     ensures { IfOk result (λ told. told ≡ None → seen.now ≡ due.now) }
 {
     if due == seen {

@@ -17,7 +17,7 @@ pub struct Target {
 
 impl Target {
     /// The name by which a text tells of it.
-    pub fn told_name(&self) -> &str {
+    pub(crate) fn told_name(&self) -> &str {
         if self.name.is_empty() {
             DEFAULT
         } else {
@@ -62,7 +62,7 @@ fn targets_of<R: Files + AllocGlobal>(rt: &R, row: &str, text: &str) -> Result<V
 
 impl Due {
     /// Reads what is due of a row.
-    pub fn read<R: Files + AllocGlobal>(rt: &R, row: &str) -> Result<Due> {
+    pub(crate) fn read<R: Files + AllocGlobal>(rt: &R, row: &str) -> Result<Due> {
         let alloc = rt.alloc();
         let path = format!(in alloc; "{row}/due_status")?;
         let status = text_of(rt, path.as_str())?;

@@ -49,7 +49,7 @@ fn all_standing(alloc: Global, due: &Due, sink: &MemTargets) -> Result<String> {
 
 /// How a run differs from what is due in which a call of the sink fails, where it does: a write fault, no text, and what stands in
 /// the targets as the line tells behind the number of the call.
-pub fn difference(alloc: Global, row: &Row, line: &str) -> Result<Option<String>> {
+pub(crate) fn difference(alloc: Global, row: &Row, line: &str) -> Result<Option<String>> {
     let (number, due) = line.split_once(": ").context("a fault without a number")?;
     let number = number.parse::<u64>().context("the number of a fault")?;
     let fails = vec![in alloc; number]?;

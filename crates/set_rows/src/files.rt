@@ -4,17 +4,17 @@ use std::fs;
 use std::rt::Files;
 
 /// The bytes of a file.
-pub fn bytes_of<R: Files + AllocGlobal>(rt: &R, path: &str) -> Result<Vec<u8>> {
+pub(crate) fn bytes_of<R: Files + AllocGlobal>(rt: &R, path: &str) -> Result<Vec<u8>> {
     fs::read(rt, path).context(format_args!("reading {path}"))
 }
 
 /// The text of a file.
-pub fn text_of<R: Files + AllocGlobal>(rt: &R, path: &str) -> Result<String> {
+pub(crate) fn text_of<R: Files + AllocGlobal>(rt: &R, path: &str) -> Result<String> {
     fs::read_to_string(rt, path).context(format_args!("reading {path}"))
 }
 
 /// The lines of a file.
-pub fn lines_of<R: Files + AllocGlobal>(rt: &R, path: &str) -> Result<Vec<String>> {
+pub(crate) fn lines_of<R: Files + AllocGlobal>(rt: &R, path: &str) -> Result<Vec<String>> {
     let text = text_of(rt, path)?;
     let mut lines = Vec::new(rt.alloc());
     for line in text.as_str().lines() {
@@ -24,7 +24,7 @@ pub fn lines_of<R: Files + AllocGlobal>(rt: &R, path: &str) -> Result<Vec<String
 }
 
 /// The lines of a file that may be missing, and then has none.
-pub fn lines_if_there<R: Files + AllocGlobal>(rt: &R, path: &str) -> Result<Vec<String>> {
+pub(crate) fn lines_if_there<R: Files + AllocGlobal>(rt: &R, path: &str) -> Result<Vec<String>> {
     if fs::exists(rt, path)? {
         lines_of(rt, path)
     } else {

@@ -6,7 +6,7 @@
 //! |---|---|
 //! | `words` | the words of the command, one a line; those that end in `.html` are its pages, each a file of that name |
 //! | `due_status`, `due_out` | the exit status, and the text that `out` takes |
-//! | `due_default.xbrl`, `due_x.xbrl` | the whole instance of the target without a name, and of the target x; a target that has no such file isn't to be written |
+//! | `due_default.xbrl`, `due_x.xbrl` | the whole instance of the target without a name, and of the target x; no other target is due |
 //! | `orders`, may be missing | the names of the pages in other orders, one order a line, which are to give the same |
 //! | `faults`, may be missing | numbers of calls of the sink, one a line, each with what stands in the targets where that call fails |
 //!

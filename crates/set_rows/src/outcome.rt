@@ -47,7 +47,7 @@ fn target_room(due: &Due) -> usize {
 
 /// Runs words over the pages of a row. A read gives at most `step` bytes. The calls of the sink with these numbers fail, and one
 /// that begins a target more than are due.
-pub fn outcome_of(
+pub(crate) fn outcome_of(
     alloc: Global,
     row: &Row,
     words: &[Text],
@@ -115,7 +115,7 @@ fn outcome_difference(alloc: Global, due: &Due, outcome: &Outcome) -> Result<Opt
 }
 
 /// How runs of these words over a row differ from what is due, where they do.
-pub fn difference(alloc: Global, row: &Row, words: &[Text]) -> Result<Option<String>> {
+pub(crate) fn difference(alloc: Global, row: &Row, words: &[Text]) -> Result<Option<String>> {
     for step in STEPS {
         let outcome = outcome_of(alloc, row, words, step, Vec::new(alloc))?;
         if let Some(text) = outcome_difference(alloc, &row.due, &outcome)? {

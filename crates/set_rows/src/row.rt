@@ -82,7 +82,7 @@ fn pages_of<R: Files + AllocGlobal>(rt: &R, row: &str, words: &[String]) -> Resu
 
 impl Row {
     /// Reads the row of a name.
-    pub fn read<R: Files + AllocGlobal>(rt: &R, name: &str) -> Result<Row> {
+    pub(crate) fn read<R: Files + AllocGlobal>(rt: &R, name: &str) -> Result<Row> {
         let alloc = rt.alloc();
         let path = format!(in alloc; "{name}/words")?;
         let words = lines_of(rt, path.as_str())?;
