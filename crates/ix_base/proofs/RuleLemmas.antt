@@ -69,7 +69,6 @@ place_is rule.N19 = refl
 place_is rule.N20 = refl
 place_is rule.N21 = refl
 place_is rule.N22 = refl
-place_is rule.U2 = refl
 place_is rule.L1 = refl
 place_is rule.L2 = refl
 place_is rule.L3 = refl

@@ -50,7 +50,6 @@ class_of rule.N19 = class.N
 class_of rule.N20 = class.N
 class_of rule.N21 = class.N
 class_of rule.N22 = class.N
-class_of rule.U2 = class.U
 class_of rule.L1 = class.L
 class_of rule.L2 = class.L
 class_of rule.L3 = class.L
@@ -79,12 +78,11 @@ abbrev pub class_rank : Class → ℕ
 class_rank class.S = 0
 class_rank class.W = 1
 class_rank class.N = 2
-class_rank class.U = 3
-class_rank class.L = 4
-class_rank class.V = 5
+class_rank class.L = 3
+class_rank class.V = 4
 
 abbrev pub all_classes : List Class
-all_classes = class.S ∷ class.W ∷ class.N ∷ class.U ∷ class.L ∷ class.V ∷ []
+all_classes = class.S ∷ class.W ∷ class.N ∷ class.L ∷ class.V ∷ []
 
 -- the first list that holds anything
 abbrev pub first_any : {X : Type 0} → List (List X) → List X

@@ -2,7 +2,7 @@
 ghost use Rattle.std.specs.Prelude.{◌≡◌, codes};
 ghost use Rattle.ix_base.specs.Rules.{code_of, text_of};
 
-/// A rule, in the order of the classes: size of the set, page text, element, not built yet, links, values.
+/// A rule, in the order of the classes: size of the set, page text, element, links, values.
 #[derive(Clone, Copy, Debug, PartialEq, Eq, PartialOrd, Ord)]
 pub enum Rule {
     S1,
@@ -41,7 +41,6 @@ pub enum Rule {
     N20,
     N21,
     N22,
-    U2,
     L1,
     L2,
     L3,
@@ -108,7 +107,6 @@ impl Rule {
             Rule::N20 => "N20",
             Rule::N21 => "N21",
             Rule::N22 => "N22",
-            Rule::U2 => "U2",
             Rule::L1 => "L1",
             Rule::L2 => "L2",
             Rule::L3 => "L3",
@@ -175,7 +173,6 @@ impl Rule {
             Rule::N20 => "bad context",
             Rule::N21 => "bad unit",
             Rule::N22 => "exclude outside text",
-            Rule::U2 => "not built yet",
             Rule::L1 => "id used more than once",
             Rule::L2 => "no such context",
             Rule::L3 => "no such unit",
@@ -209,7 +206,6 @@ impl Rule {
         ensures w12 { (code_of Rule.W12 ≡ codes "W12") × (text_of Rule.W12 ≡ codes "wrong place in the document") }
         ensures n1 { (code_of Rule.N1 ≡ codes "N1") × (text_of Rule.N1 ≡ codes "unknown ix element") }
         ensures n22 { (code_of Rule.N22 ≡ codes "N22") × (text_of Rule.N22 ≡ codes "exclude outside text") }
-        ensures u2 { (code_of Rule.U2 ≡ codes "U2") × (text_of Rule.U2 ≡ codes "not built yet") }
         ensures l1 { (code_of Rule.L1 ≡ codes "L1") × (text_of Rule.L1 ≡ codes "id used more than once") }
         ensures l17 { (code_of Rule.L17 ≡ codes "L17") × (text_of Rule.L17 ≡ codes "role with two addresses") }
         ensures v1 { (code_of Rule.V1 ≡ codes "V1") × (text_of Rule.V1 ≡ codes "unknown format") }

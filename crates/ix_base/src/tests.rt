@@ -4,7 +4,7 @@ ghost use Rattle.ix_base.specs.MemTargets.{sink_faults};
 
 use crate::{
     Attr, Element, Failed, List, MemPage, MemPages, MemTargets, MemText, Name, PageSource, Place,
-    Rule, TargetSink, Text, TextSink, attr_of, push_ae, push_te, token,
+    Rule, TargetSink, Text, TextSink, attr_of, each_once, push_ae, push_te, token,
 };
 use std::alloc::Global;
 use std::test::Fail;
@@ -22,6 +22,17 @@ fn texts_and_lists_grow(rt: HostRuntime) -> Result<(), Fail> {
     let mut items = Vec::new(alloc);
     items.push(3u8)?;
     assert_eq!(rt; List::of(items).as_slice(), [3u8].as_slice());
+    Ok(())
+}
+
+#[test]
+fn texts_in_order_each_once(rt: HostRuntime) -> Result<(), Fail> {
+    let mut texts = Vec::new(rt.alloc());
+    for text in ["b", "é", "a", "b", "", "ab", "a"] {
+        texts.push(text)?;
+    }
+    each_once(&mut texts);
+    assert_eq!(rt; texts.as_slice(), ["", "a", "ab", "b", "é"].as_slice());
     Ok(())
 }
 
@@ -93,7 +104,6 @@ fn rules_stand_in_the_order_of_their_classes(rt: HostRuntime) {
         (Rule::W5, "W5", "end tag doesn't match"),
         (Rule::W12, "W12", "wrong place in the document"),
         (Rule::N16, "N16", "nested nonFractions differ"),
-        (Rule::U2, "U2", "not built yet"),
         (
             Rule::L6,
             "L6",

@@ -70,13 +70,12 @@ fn only_the_first_class_is_reported(rt: HostRuntime) -> Result<(), Fail> {
     let rows = [
         (Rule::V5, Class::V, "b", 2),
         (Rule::L17, Class::L, "b", 2),
-        (Rule::U2, Class::U, "b", 2),
         (Rule::N1, Class::N, "b", 2),
         (Rule::W12, Class::W, "b", 2),
         (Rule::S2, Class::S, "", 0),
     ];
     let found = rows.map(|(rule, _, _, _)| (0, 2, rule));
-    for last in 0..6 {
+    for last in 0..5 {
         let (rule, class, page, offset) = rows[last];
         assert_eq!(rt; rule.class(), class);
         let report = report_on(alloc, &names, &found[..=last])?;
@@ -106,7 +105,7 @@ fn no_breach_gives_no_line(rt: HostRuntime) -> Result<(), Fail> {
     let mut breaches = Breaches::new(alloc);
     assert!(rt; breaches.is_empty());
     assert_eq!(rt; breaches.len(), 0);
-    breaches.add(Place { page: 0, offset: 0 }, Rule::U2)?;
+    breaches.add(Place { page: 0, offset: 0 }, Rule::N1)?;
     assert!(rt; !breaches.is_empty());
     assert_eq!(rt; breaches.len(), 1);
     assert!(rt; has_lines(&report_on(alloc, &[], &[])?, &[]));
