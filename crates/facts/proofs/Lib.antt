@@ -5,6 +5,5 @@ mod ItemRows
 mod NumberRows
 pub mod OneItem
 pub mod Renumbered
-mod SignLaws
 pub mod SomeItem
 pub mod ValueLaws

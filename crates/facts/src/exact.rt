@@ -6,20 +6,7 @@ ghost use Rattle.facts.specs.Exactness as spec;
 
 use ix_base::{Accuracy, Element, Kind, NoMemory, Text, attr_of, token};
 use std::alloc::Global;
-use value_forms::is_nil;
-
-/// A text without the sign that may stand in front.
-fn without_sign(text: &str) -> &str
-    ensures { result.now ≡ form.unsigned_of text.now }
-{
-    match text.strip_prefix('+') {
-        Some(rest) => rest,
-        None => match text.strip_prefix('-') {
-            Some(rest) => rest,
-            None => text,
-        },
-    }
-}
+use value_forms::{is_nil, without_sign};
 
 /// Digits without the zeros in front.
 fn without_zeros(mut text: &str) -> &str

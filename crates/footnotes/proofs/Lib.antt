@@ -18,4 +18,3 @@ pub mod PageLaws
 pub mod RoleLaws
 mod SmallPages
 pub mod SpotLaws
-pub mod WordLaws

@@ -20,11 +20,11 @@ use Rattle.ix_base.specs.Sorted.{text_cmp}
 use Rattle.ix_base.proofs.OnceLemmas.{Contains-first, Contains-from_filter, Contains-later, in_order-members}
 use Rattle.continuations.specs.Kept.{AreChainsOf}
 use Rattle.continuations.proofs.HeadLaws.{chain_at-start}
+use Rattle.ix_base.proofs.OnceOrdered.{same_text}
 use Rattle.footnotes.specs.FootnoteLinks.{Between, arcs_by, arcs_in, between, ends, footnote_along, footnote_of, label, link_of, notes, sources}
 use Rattle.footnotes.specs.Kept.{arcs_at, AreRelationsOf, StandApart}
 use Rattle.footnotes.specs.Linked.{chain_kept, last_called, link_by, links_by, note_in, noted}
 use Rattle.footnotes.proofs.CalledLaws.{last-there}
-use Rattle.footnotes.proofs.OnceLaws.{same_text}
 use Rattle.footnotes.proofs.RoleLaws.{map-same}
 
 -- what is asked of elements

@@ -15,9 +15,10 @@ use Rattle.ix_base.specs.Once.{in_order}
 use Rattle.ix_base.proofs.ExchangeLemmas.{by_exchanges}
 use Rattle.ix_base.proofs.OnceLemmas.{SameMembers-permutation, in_order-same}
 use Rattle.ix_base.specs.Sorted.{text_cmp}
+use Rattle.ix_base.proofs.OnceOrdered.{same_text}
 use Rattle.footnotes.specs.FootnoteLinks.{Between, label, arcs_by, arcs_in, arc_cmp, ends, footnote_of, link_of, notes}
 use Rattle.id_table.proofs.Rearranged.{asks-same}
-use Rattle.footnotes.proofs.OnceLaws.{arc_total, same_arc, same_text}
+use Rattle.footnotes.proofs.OnceLaws.{arc_total, same_arc}
 use Rattle.footnotes.proofs.RoleLaws.{map-same}
 
 swap_parts : {A : Type 0} (front u v back : List A) → IsPermutation (front ++ (u ++ (v ++ back))) (front ++ (v ++ (u ++ back)))

@@ -13,11 +13,11 @@ use Rattle.ix_base.specs.Once.{SameMembers, in_order}
 use Rattle.ix_base.specs.Sorted.{text_cmp}
 use Rattle.ix_base.proofs.OnceLemmas.{Contains-cases, Contains-nil, Contains-same, in_order-same}
 use Rattle.id_table.specs.Tables.{all_located}
+use Rattle.ix_base.proofs.OnceOrdered.{same_text}
 use Rattle.footnotes.specs.declared.fans.Fan.{Fan}
 use Rattle.footnotes.specs.Fans.{arc_to, arcs_along, fan_arcs}
 use Rattle.footnotes.specs.FootnoteLinks.{Between}
 use Rattle.footnotes.specs.Linked.{link_by, links_by, role_by, roles_along}
-use Rattle.footnotes.proofs.OnceLaws.{same_text}
 
 pub grouped : (old new : List Fan) (f : Fan) (b : Bool) → new ≡ cond b (old ++ f ∷ []) old → new ≡ old ++ cond b (f ∷ []) []
 grouped old new f true n = n

@@ -16,10 +16,10 @@ use crate::arcs::arcs_of;
 use crate::fans::Fan;
 use crate::footnote::footnote_of;
 use crate::kinds::{is_fact, is_footnote, label_of};
-use crate::texts::{copies_of, each_once};
+use crate::texts::copies_of;
 use continuations::Chains;
 use indexmap::IndexMap;
-use ix_base::{Footnote, List, NoMemory, NoteLink, Spot, Text};
+use ix_base::{Footnote, List, NoMemory, NoteLink, Spot, Text, each_once};
 use scopes::Bases;
 use std::alloc::Global;
 

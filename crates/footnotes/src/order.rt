@@ -7,22 +7,11 @@ ghost use Rattle.scale_sign.specs.Scaled.{IsNumber};
 ghost use Rattle.footnotes.specs.FootnoteLinks as spec;
 
 use ix_base::{NoMemory, Text};
-use scale_sign::{is_unsigned, numbers_are_text, scaled};
+use scale_sign::{numbers_are_text, scaled};
 use std::alloc::Global;
+use value_forms::{is_unsigned_decimal, without_sign};
 
-/// A text without the sign that may stand in front.
-fn without_sign(text: &str) -> &str
-    ensures { result.now ≡ form.unsigned_of text.now }
-{
-    match text.strip_prefix('+') {
-        Some(rest) => rest,
-        None => match text.strip_prefix('-') {
-            Some(rest) => rest,
-            None => text,
-        },
-    }
-}
-
+/// Whether a minus stands in front of a text.
 fn is_negative(text: &str) -> bool
     ensures { result ≡ form.is_negative text.now }
 {
@@ -30,13 +19,6 @@ fn is_negative(text: &str) -> bool
         [] => false,
         [first, ..] => *first == b'-',
     }
-}
-
-/// Whether a text is an unsigned decimal.
-fn is_unsigned_decimal(text: &str) -> bool
-    ensures { result ≡ form.is_unsigned text.now }
-{
-    is_unsigned(text)
 }
 
 /// The text that the first so many bytes of a buffer are.

@@ -7,10 +7,9 @@ ghost use Rattle.footnotes.specs.Linked.{link_by, links_by, note_in, role_by, ro
 
 use crate::fans::{Fan, Fans, enter};
 use crate::link::link_of;
-use crate::texts::each_once;
 use continuations::Chains;
 use indexmap::IndexMap;
-use ix_base::{List, NoMemory, NoteLink};
+use ix_base::{List, NoMemory, NoteLink, each_once};
 use scopes::Bases;
 use std::alloc::Global;
 

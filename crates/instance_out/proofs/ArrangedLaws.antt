@@ -24,6 +24,7 @@ use Rattle.ix_base.specs.Sorted.{put, put_by, sorted, text_cmp}
 use Rattle.ix_base.specs.Written.{Markup}
 use Rattle.ix_base.proofs.FactLaws.{before-Tuple}
 use Rattle.ix_base.proofs.OnceLemmas.{SameMembers-permutation, in_order-same, in_order-sorted}
+use Rattle.ix_base.proofs.OnceOrdered.{same_text}
 use Rattle.instance_out.specs.Arranged.{arranged, arranged_link, by_line, with_arranged_links}
 use Rattle.instance_out.specs.Canonical.{Spaces, arcrole_markup, canon_lines, children, content_spaces, context_markup, context_names}
 use Rattle.instance_out.specs.Canonical.{fact_markups, fact_names, first_line, last_line, line, line_cmp, linkbase_markup, lines_with}
@@ -33,7 +34,7 @@ use Rattle.instance_out.specs.Prefixes.{is_known, spaces_of, with_space}
 use Rattle.instance_out.specs.Tables.{own_spaces}
 use Rattle.instance_out.proofs.MarkupLaws.{fact_markups-are}
 use Rattle.instance_out.proofs.PrefixLaws.{spaces_of-in_order}
-use Rattle.instance_out.proofs.Sorting.{in_order-map, same_text, sorted-map}
+use Rattle.instance_out.proofs.Sorting.{in_order-map, sorted-map}
 
 -- What is in order stays.
 module _ {X : Type 0} {R : X → X → Ordering} (o : IsTotalOrder R) where

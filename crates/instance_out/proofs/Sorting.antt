@@ -1,30 +1,18 @@
--- What a sort leaves, and what a sort and a `dedup` leave.
-use Rattle.std.proofs.Common.{◌≡◌, ℕ, Bool, List, [], ◌∷◌, map, refl, sym, ap, ◌∙◌, subst}
-use Rattle.std.specs.List.{dedup}
-use Rattle.std.specs.List.Sorted.{IsStrictlySortedBy, IsSorted, IsPermutation}
-use Rattle.std.specs.Cmp.{Equal-is}
+-- What a sort leaves.
+use Rattle.std.proofs.Common.{◌≡◌, ℕ, List, [], ◌∷◌, map, refl, sym, ap, ◌∙◌}
+use Rattle.std.specs.List.Sorted.{IsSorted, IsPermutation}
 use Rattle.std.specs.declared.cmp.Ordering.{Ordering}
 use Rattle.std.specs.declared.cmp.Ordering.TheVariants.{Less, Equal, Greater}
-use Rattle.std.specs.Ordering.{on, is_eq, eq_by_cmp}
-use Rattle.std.proofs.ByRecursion.{All-map}
-use Rattle.std.proofs.lemmas.Cmp.{eq_by_cmp_equiv, on_total, nat_list_cmp_total}
-use Rattle.std.proofs.lemmas.Map.Text.{is_eq-slice_cmp}
-use Rattle.std.proofs.lemmas.Slice.Eq.{bytes_eq-Decides}
-use Rattle.std.proofs.lemmas.List.Kept.{IsStrictlySortedBy-dedup, Contains-dedup, Contains-from_dedup}
-use Rattle.std.proofs.lemmas.List.Sorted.{IsPermutation-map}
-use Rattle.ix_base.specs.Once.{SameMembers, put as put_once, put_by as put_once_by, in_order}
+use Rattle.std.specs.Ordering.{on}
+use Rattle.std.proofs.lemmas.Cmp.{nat_list_cmp_total}
+use Rattle.ix_base.specs.Once.{put as put_once, put_by as put_once_by, in_order}
 use Rattle.ix_base.specs.Sorted.{put, put_by, sorted, text_cmp}
 use Rattle.ix_base.specs.Written.{Markup}
 use Rattle.instance_out.specs.Canonical.{line, line_cmp}
 use Rattle.instance_out.specs.Keys.{by_key}
 use Rattle.instance_out.specs.declared.sort.Keyed.{Keyed}
-use Rattle.ix_base.proofs.LineLemmas.{map-dedup}
-use Rattle.ix_base.proofs.OnceLemmas.{SameMembers-permutation, SameMembers-trans, is_in_order}
+use Rattle.ix_base.proofs.OnceOrdered.{same_text}
 use Rattle.ix_base.proofs.SortedLemmas.{sorted-same, sorted-is}
-
--- texts that tie are one
-pub same_text : (a b : List ℕ) → text_cmp a b ≡ Equal → a ≡ b
-same_text a b e = (bytes_eq-Decides a b).0 (sym (is_eq-slice_cmp a b) ∙ ap is_eq e)
 
 map_same : {X : Type 0} (xs : List X) → map (λ (x : X). x) xs ≡ xs
 map_same [] = refl
@@ -35,30 +23,6 @@ pub sorted_texts : (xs ys : List (List ℕ)) → IsPermutation xs ys → IsSorte
 sorted_texts xs ys moved up =
     sym (sorted-same nat_list_cmp_total xs ys (λ x y h k. same_text x y) moved
     ∙ ap (sorted text_cmp) (sym (map_same ys)) ∙ sorted-is nat_list_cmp_total (λ (x : List ℕ). x) ys up ∙ map_same ys)
-
-strict-map : {X Y : Type 0} (f : X → Y) (R : Y → Y → Ordering) (xs : List X) → IsStrictlySortedBy (on f R) xs → IsStrictlySortedBy R (map f xs)
-unfolding IsStrictlySortedBy
-strict-map f R [] h = tt
-strict-map f R (x ∷ xs) h = (All-map (λ y. R (f x) y ≡ Less) f xs h.0, strict-map f R xs h.1)
-
--- what a sort and a `dedup` leave is in order, each once
-pub once_in_order : {X : Type 0} (f : X → List ℕ) (E : X → X → Bool) → ((x y : X) → E x y ≡ eq_by_cmp (on f text_cmp) x y)
-    → (xs zs ys : List X) → IsPermutation xs zs → IsSorted (on f text_cmp) zs → ys ≡ dedup E zs
-    → map f ys ≡ in_order text_cmp (map f xs)
-once_in_order {X} f E ties xs zs ys moved up e =
-    let F : List ℕ → List ℕ → Bool = eq_by_cmp text_cmp in
-    let left : map f (dedup E zs) ≡ dedup F (map f zs) =
-    ap (λ (G : X → X → Bool). map f (dedup G zs)) (λ i x y. ties x y i) ∙ map-dedup f F zs in
-    let strict : IsStrictlySortedBy text_cmp (map f (dedup E zs)) =
-    strict-map f text_cmp (dedup E zs) (IsStrictlySortedBy-dedup (on_total f nat_list_cmp_total) ties zs up) in
-    let moved_too = SameMembers-permutation (map f xs) (map f zs) (IsPermutation-map f xs zs moved) in
-    let kept : SameMembers (map f zs) (dedup F (map f zs)) = record {
-      there = Contains-dedup (eq_by_cmp_equiv nat_list_cmp_total) (λ x y t. same_text x y ((Equal-is (text_cmp x y)).0 t)) (map f zs);
-      back = Contains-from_dedup F (map f zs);
-    } in
-    let same = SameMembers-trans (map f xs) (map f zs) (dedup F (map f zs)) moved_too kept in
-    ap (map f) e ∙ left ∙ is_in_order same_text nat_list_cmp_total (map f xs) (dedup F (map f zs))
-    (subst (IsStrictlySortedBy text_cmp) left strict) same
 
 module _ {X Y : Type 0} (f : X → Y) (R : Y → Y → Ordering) where
   map-put_by : (r : Ordering) (x y : X) (ys behind : List X) (zs : List Y) → zs ≡ map f behind → put_by r (f x) (f y) (map f ys) zs ≡ map f (put_by r x y ys behind)

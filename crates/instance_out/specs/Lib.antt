@@ -1,10 +1,15 @@
 pub mod Arranged
 pub mod Canonical
+pub mod Denotation
 pub mod Elements
 pub mod Gaining
+pub mod Holds
 pub mod Keys
+pub mod Lists
 pub mod Moments
 pub mod Prefixes
+pub mod Proper
+pub mod Stated
 pub mod Tables
 pub mod Tags
 pub mod Writable

@@ -7,8 +7,7 @@ ghost use Rattle.instance_out.specs.Prefixes.{spaces_of};
 ghost use Rattle.instance_out.specs.Tables.{own_spaces, values_of};
 
 use crate::prefix::is_known;
-use crate::sort::each_once;
-use ix_base::{Content, Context, Dim, Fact, Member, NoMemory, OwnName, Unit};
+use ix_base::{Content, Context, Dim, Fact, Member, NoMemory, OwnName, Unit, each_once};
 use std::alloc::Global;
 
 /// Adds the names of dimensions and of their members.

@@ -5,7 +5,7 @@ ghost use Rattle.ix_base.specs.Sorted.{sorted, text_cmp};
 ghost use Rattle.instance_out.specs.Keys.{by_key, lasts, ties_last, with_last};
 ghost use Rattle.instance_out.specs.Tables.{values_of};
 
-use ix_base::{NoMemory, Text};
+use ix_base::{NoMemory, Text, each_once};
 use std::alloc::Global;
 use std::cmp::Ordering;
 
@@ -108,14 +108,6 @@ pub fn once_by_keys<T: Drop>(alloc: Global, mut keyed: Vec<Keyed<T>>) -> Result<
     sort_keyed(&mut keyed)?;
     let kept = last_of_each(alloc, keyed)?;
     items_of(alloc, kept)
-}
-
-/// Puts texts in order by their bytes, each once.
-pub fn each_once(texts: &mut Vec<&str>)
-    ensures { values_of texts.new.items ≡ in_order text_cmp (values_of texts.old.items) }
-{
-    texts.sort_unstable();
-    texts.dedup();
 }
 
 /// The texts, as they lie.

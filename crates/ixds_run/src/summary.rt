@@ -3,11 +3,9 @@ ghost use Rattle.std.specs.Prelude.{◌≡◌, ◌+◌, ◌++◌, length, map, I
 ghost use Rattle.std.specs.Fmt.{decimal};
 ghost use Rattle.std.specs.List.{flat_map};
 ghost use Rattle.ix_base.specs.Facts.{Facts, before, facts_of};
-ghost use Rattle.ix_base.specs.Once.{in_order};
-ghost use Rattle.ix_base.specs.Sorted.{text_cmp};
 ghost use Rattle.ixds_run.specs.Summary.{facts_text, items_in, link_ids, note_ids, others_text, shown_name, summary_line, summary_of, tuples_in};
 
-use ix_base::{Content, Fact, Footnote, NoMemory, NoteLink, Text};
+use ix_base::{Content, Fact, Footnote, NoMemory, NoteLink, Text, each_once};
 use std::alloc::Global;
 use targets::Target;
 
@@ -81,14 +79,6 @@ fn ids_in<'a>(alloc: Global, links: &'a [NoteLink]) -> Result<Vec<&'a str>, NoMe
         add_ids(link.footnotes.as_slice(), &mut ids)?;
     }
     Ok(ids)
-}
-
-/// Puts texts in order by their bytes, each once.
-fn each_once(texts: &mut Vec<&str>)
-    ensures { map (λ s. s.now) texts.new.items ≡ in_order text_cmp (map (λ s. s.now) texts.old.items) }
-{
-    texts.sort_unstable();
-    texts.dedup();
 }
 
 /// How many footnotes links have, by their ids.

@@ -12,8 +12,10 @@ mod parts;
 mod tests;
 mod writer;
 
-use parts::{are_both_digits, are_empty, is_negative, parts_of};
+use parts::{are_both_digits, are_empty};
+pub use parts::{is_negative, parts_of};
 use writer::{put_sign, write_moved};
+pub use writer::{stripped, trimmed};
 
 /// Whether the text is an unsigned decimal: digits, digits `.`, digits `.` digits, or `.` digits.
 pub fn is_unsigned(text: &str) -> bool

@@ -28,7 +28,7 @@ fn behind(text: &[u8], place: usize) -> &[u8]
     }
 }
 
-// What stands in front of the first point, and behind it.
+/// What stands in front of the first point of a text, and behind it.
 pub fn parts_of(text: &[u8]) -> (&[u8], &[u8])
     ensures front { result.0.now ≡ front_of text.now }
     ensures back { result.1.now ≡ back_of text.now }
@@ -51,12 +51,13 @@ fn has_value(digits: &[u8]) -> bool
     false
 }
 
-// Whether a minus stands in front of a decimal of these parts.
-pub fn is_negative(negative: bool, front: &[u8], back: &[u8]) -> bool
+/// Whether a decimal of these parts, with a minus in front where `has_minus` holds, is less than 0. The parts are digits
+/// in front of the point and behind it.
+pub fn is_negative(has_minus: bool, front: &[u8], back: &[u8]) -> bool
     requires { AreDigits (front.now ++ back.now) }
-    ensures { result ≡ (negative && not (number_in (front.now ++ back.now) == 0)) }
+    ensures { result ≡ (has_minus && not (number_in (front.now ++ back.now) == 0)) }
 {
-    negative && (has_value(front) || has_value(back))
+    has_minus && (has_value(front) || has_value(back))
 }
 
 // Whether both are empty.

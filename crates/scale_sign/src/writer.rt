@@ -43,8 +43,8 @@ fn put_zeros(out: &mut [u8], at: usize, count: usize) -> usize
     end
 }
 
-// The bytes without the zeros in front.
-fn stripped(bytes: &[u8]) -> &[u8]
+/// The digits without the zeros in front.
+pub fn stripped(bytes: &[u8]) -> &[u8]
     ensures value { result.now ≡ strip bytes.now }
     ensures bound { length result.now ≤ length bytes.now }
 {
@@ -55,8 +55,8 @@ fn stripped(bytes: &[u8]) -> &[u8]
     &bytes[start..]
 }
 
-// The bytes without the zeros at the end.
-fn trimmed(bytes: &[u8]) -> &[u8]
+/// The digits without the zeros at the end.
+pub fn trimmed(bytes: &[u8]) -> &[u8]
     ensures value { result.now ≡ cut bytes.now }
     ensures bound { length result.now ≤ length bytes.now }
 {

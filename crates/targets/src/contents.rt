@@ -32,7 +32,8 @@ use fact_view::target_of;
 use id_table::{Holders, Index};
 use instance_out::arrange;
 use ix_base::{
-    Content, Context, Fact, Kind, Linkbase, List, NoMemory, Spot, Text, Unit, kind_of, token_at,
+    Content, Context, Fact, Kind, Linkbase, List, NoMemory, Spot, Text, Unit, each_once, kind_of,
+    token_at,
 };
 use scopes::Bases;
 use std::alloc::Global;
@@ -153,14 +154,6 @@ fn each_named<'a>(alloc: Global, by: Ref, spots: &[&'a Spot<'a>]) -> Result<Vec<
         push_named(by, spot, &mut ids)?;
     }
     Ok(ids)
-}
-
-/// Puts texts in order by their bytes, each once.
-pub(crate) fn each_once(texts: &mut Vec<&str>)
-    ensures { values_of texts.new.items ≡ in_order text_cmp (values_of texts.old.items) }
-{
-    texts.sort_unstable();
-    texts.dedup();
 }
 
 /// The ids that the items among these elements name, in order, each once.

@@ -10,10 +10,9 @@ ghost use Rattle.targets.specs.Redirects.{role_seen};
 ghost use Rattle.targets.specs.Seen.{values_of};
 
 use crate::addresses::Roles;
-use crate::contents::each_once;
 use crate::links::Linked;
 use footnotes::laws::chains_on_pages;
-use ix_base::{Arc, Footnote, List, NoMemory, NoteLink, RoleRef, Text};
+use ix_base::{Arc, Footnote, List, NoMemory, NoteLink, RoleRef, Text, each_once};
 use std::alloc::Global;
 
 /// Adds the roles of footnotes.

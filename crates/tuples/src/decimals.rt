@@ -5,7 +5,7 @@ ghost use Rattle.ix_base.specs.Forms as forms;
 ghost use Rattle.ix_base.specs.Orders as orders;
 ghost use Rattle.tuples.specs.DecimalOrder as spec;
 
-use crate::digits::{is_negative, parts_of, stripped, trimmed};
+use scale_sign::{is_negative, parts_of, stripped, trimmed};
 use std::cmp::Ordering;
 
 /// A text without the sign that may stand in front.

@@ -8,7 +8,6 @@
 #![tactic(auto)]
 
 mod decimals;
-mod digits;
 mod fact;
 mod facts;
 mod groups;

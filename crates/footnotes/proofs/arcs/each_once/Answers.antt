@@ -3,7 +3,8 @@ use Rattle.footnotes.specs.contracts.arcs.DrawnPartialEq.TheImpl.{ghosts}
 use Rattle.footnotes.specs.contracts.arcs.DrawnOrd.TheImpl.Laws.{matches_eq-law}
 use Rattle.footnotes.specs.Drawn.{arc_drawn}
 use Rattle.footnotes.specs.FootnoteLinks.{arc_cmp}
-use Rattle.footnotes.proofs.OnceLaws.{arc_total, once_in_order, same_arc}
+use Rattle.ix_base.proofs.OnceOrdered.{once_in_order}
+use Rattle.footnotes.proofs.OnceLaws.{arc_total, same_arc}
 use Rattle.footnotes.proofs.arcs.each_once.Goals as goal
 
 pub returns : goal.returns

@@ -1,7 +1,8 @@
 use Rattle.std.proofs.Common.{◌∙◌, ap, sym}
 use Rattle.std.proofs.lemmas.Result.{IfOk-weaker}
 use Rattle.ix_base.specs.Forms.{is_unsigned}
-use Rattle.footnotes.proofs.OrderLaws.{canonical-by, other-is, unsigned_is}
+use Rattle.value_forms.proofs.DecimalLaws.{unsigned_is}
+use Rattle.footnotes.proofs.OrderLaws.{canonical-by, other-is}
 use Rattle.footnotes.proofs.order.canonical_order.Goals as goal
 
 pub written-requires : goal.written-requires

@@ -1,6 +1,6 @@
 use Rattle.std.proofs.Common.{◌≡◌, ◌++◌, take, drop}
 use Rattle.value_forms.specs.Words.{from_white, to_white}
-use Rattle.footnotes.proofs.words.cut_at_white.Given as goal
+use Rattle.value_forms.proofs.words.cut_at_white.Given as goal
 
 abbrev pub invariant-loop-i : goal.invariant-loop-i
 invariant-loop-i l =

@@ -1,6 +1,6 @@
 use lib.Utf8.{encode}
-use Rattle.footnotes.proofs.OrderLaws.{sign_gone}
-use Rattle.footnotes.proofs.order.without_sign.Goals as goal
+use Rattle.value_forms.proofs.DecimalLaws.{sign_gone}
+use Rattle.value_forms.proofs.decimals.without_sign.Goals as goal
 
 pub returns-in-None-strip_prefix : goal.returns-in-None-strip_prefix
 unfolding encode
