@@ -1,3 +1,4 @@
+pub mod Clean
 pub mod Contents
 pub mod Faults
 pub mod Groups
