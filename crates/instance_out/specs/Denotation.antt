@@ -28,7 +28,7 @@ use Rattle.ix_base.specs.Trees.{Named, Valued, Head, Nodes, none, chars, elem, T
 use Rattle.ix_base.specs.UnitForm.{unit}
 use Rattle.ix_base.specs.Markup.{markup}
 use Rattle.instance_out.specs.Lists.{are_apart}
-use Rattle.instance_out.specs.Stated.{Stated, stated}
+use Rattle.ix_base.specs.Said.{Said, said_of}
 
 -- Attributes.
 
@@ -198,7 +198,7 @@ are_parts (chars text rest) = are_parts rest
 are_parts (elem head children rest) = may_stand head.name && are_parts rest
 
 -- what the children of the root denote: each kind in document order
-unfoldable pub parts_in : Nodes → Option Stated
+unfoldable pub parts_in : Nodes → Option Said
 parts_in nodes = do
   schemas ← each schema_in (named_in link_namespace (codes "schemaRef") nodes)
   linkbases ← each linkbase_in (named_in link_namespace (codes "linkbaseRef") nodes)
@@ -221,9 +221,9 @@ parts_in nodes = do
       })
       else None
 
-unfoldable pub content_in : Tree → Option Stated
+unfoldable pub content_in : Tree → Option Said
 content_in t = if is_of t.head.name xbrli_namespace (codes "xbrl") then parts_in t.children else None
 
 -- the tree denotes the content
 abbrev pub denotes : Tree → Content → Type 0
-denotes t c = content_in t ≡ Some (stated c)
+denotes t c = content_in t ≡ Some (said_of c)

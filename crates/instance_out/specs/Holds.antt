@@ -17,7 +17,7 @@ use Rattle.ix_base.specs.Facts.{Facts, none, item, tuple}
 use Rattle.instance_out.specs.Canonical.{Spaces, context_names, unit_names, fact_names}
 use Rattle.instance_out.specs.Lists.{of_option}
 use Rattle.instance_out.specs.Prefixes.{spaces_of}
-use Rattle.instance_out.specs.Stated.{Stated}
+use Rattle.ix_base.specs.Said.{Said}
 
 -- Facts.
 
@@ -35,17 +35,17 @@ fact_ids (tuple name id nil members rest) = of_option id ++ (fact_ids members ++
 
 -- Names and footnotes.
 
-abbrev pub all_names : Stated → List OwnName
+abbrev pub all_names : Said → List OwnName
 all_names c = flat_map context_names c.contexts ++ (flat_map unit_names c.units ++ fact_names c.facts)
 
-abbrev pub all_notes : Stated → List Footnote
+abbrev pub all_notes : Said → List Footnote
 all_notes c = flat_map (λ l. l.footnotes) c.notes
 
-abbrev pub all_arcs : Stated → List Arc
+abbrev pub all_arcs : Said → List Arc
 all_arcs c = flat_map (λ l. l.arcs) c.notes
 
-abbrev pub stated_spaces : Stated → Spaces
-stated_spaces c = spaces_of (all_names c)
+abbrev pub said_spaces : Said → Spaces
+said_spaces c = spaces_of (all_names c)
 
 -- Texts.
 
@@ -82,13 +82,13 @@ abbrev pub ref_texts : RoleRef → List (List ℕ)
 ref_texts r = r.uri ∷ r.href ∷ []
 
 -- every text of a content
-abbrev pub all_texts : Stated → List (List ℕ)
+abbrev pub all_texts : Said → List (List ℕ)
 all_texts c = c.schemas ++ (flat_map (λ l. l.href ∷ of_option l.role) c.linkbases ++ (flat_map ref_texts c.roles ++ (flat_map ref_texts c.arcroles
     ++ (flat_map context_texts c.contexts ++ (map (λ u. u.id) c.units ++ (flat_map item_texts (items_in c.facts) ++ (fact_ids c.facts
     ++ (flat_map link_texts c.notes ++ flat_map (λ n. n.ns ∷ n.local ∷ []) (all_names c)))))))))
 
 -- the texts that are tokens
-abbrev pub token_texts : Stated → List (List ℕ)
+abbrev pub token_texts : Said → List (List ℕ)
 token_texts c = c.schemas ++ (flat_map (λ l. l.href ∷ of_option l.role) c.linkbases ++ (flat_map ref_texts c.roles ++ (flat_map ref_texts c.arcroles
     ++ (flat_map (λ x. x.scheme ∷ x.identifier ∷ []) c.contexts ++ (map (λ l. l.role) c.notes ++ (flat_map (λ f. f.role ∷ f.lang ∷ []) (all_notes c)
     ++ map (λ a. a.arcrole) (all_arcs c)))))))

@@ -9,7 +9,6 @@ pub mod Lists
 pub mod Moments
 pub mod Prefixes
 pub mod Proper
-pub mod Stated
 pub mod Tables
 pub mod Tags
 pub mod Writable

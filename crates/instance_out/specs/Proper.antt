@@ -26,9 +26,9 @@ use Rattle.ix_base.specs.Sound.{AreSound}
 use Rattle.ix_base.specs.Token.{is_token}
 use Rattle.ix_base.specs.Trees.{Nodes}
 use Rattle.instance_out.specs.Canonical.{line_cmp, arc_cmp, fact_names, schema_markup, linkbase_markup, role_markup, arcrole_markup, fact_markups}
-use Rattle.instance_out.specs.Holds.{items_in, fact_ids, all_names, all_notes, all_arcs, all_texts, token_texts, stated_spaces}
+use Rattle.instance_out.specs.Holds.{items_in, fact_ids, all_names, all_notes, all_arcs, all_texts, token_texts, said_spaces}
 use Rattle.instance_out.specs.Lists.{are_apart, is_within, of_option, rises, strictly}
-use Rattle.instance_out.specs.Stated.{Stated}
+use Rattle.ix_base.specs.Said.{Said}
 use Rattle.instance_out.specs.Writable.{depth}
 
 -- 1. Ids are NCNames, and stand once. A footnote in two links counts as one.
@@ -46,10 +46,10 @@ abbrev pub counted_once : List Footnote → List Footnote
 counted_once [] = []
 counted_once (f ∷ fs) = if list_any (same_note f) fs then counted_once fs else f ∷ counted_once fs
 
-abbrev pub all_ids : Stated → List (List ℕ)
+abbrev pub all_ids : Said → List (List ℕ)
 all_ids c = map (λ x. x.id) c.contexts ++ (map (λ u. u.id) c.units ++ (fact_ids c.facts ++ map (λ f. f.id) (counted_once (all_notes c))))
 
-unfoldable pub ids_fit : Stated → Bool
+unfoldable pub ids_fit : Said → Bool
 ids_fit c = list_all is_ncname (all_ids c) && are_apart (all_ids c)
 
 -- 2. Names are NCNames, in no namespace of declarations; those of facts are in none of the standard's.
@@ -60,12 +60,12 @@ is_name n = is_ncname n.local && not (bytes_eq n.ns xmlns_namespace)
 abbrev pub is_fact_name : OwnName → Bool
 is_fact_name n = not (bytes_eq n.ns xbrli_namespace || bytes_eq n.ns link_namespace)
 
-unfoldable pub names_fit : Stated → Bool
+unfoldable pub names_fit : Said → Bool
 names_fit c = list_all is_name (all_names c) && list_all is_fact_name (fact_names c.facts)
 
 -- 3. Characters are allowed ones.
 
-unfoldable pub texts_fit : Stated → Bool
+unfoldable pub texts_fit : Said → Bool
 texts_fit c = list_all are_allowed (all_texts c)
 
 -- 4. Lists are in order; references, locators, footnotes and arcs stand once.
@@ -73,17 +73,17 @@ texts_fit c = list_all are_allowed (all_texts c)
 abbrev pub link_in_order : NoteLink → Bool
 link_in_order l = strictly text_cmp l.locs && strictly (on (λ f. f.id) text_cmp) l.footnotes && strictly arc_cmp l.arcs
 
-unfoldable pub lists_fit : Stated → Bool
+unfoldable pub lists_fit : Said → Bool
 lists_fit c =
     strictly line_cmp (map schema_markup c.schemas) && strictly line_cmp (map linkbase_markup c.linkbases)
     && strictly line_cmp (map role_markup c.roles) && strictly line_cmp (map arcrole_markup c.arcroles)
     && rises (on (λ x. x.id) text_cmp) c.contexts && rises (on (λ u. u.id) text_cmp) c.units
-    && rises line_cmp (fact_markups (stated_spaces c) c.facts)
+    && rises line_cmp (fact_markups (said_spaces c) c.facts)
     && rises (on (λ l. l.role) text_cmp) c.notes && list_all link_in_order c.notes
 
 -- 5. Contexts and units are those that items name.
 
-unfoldable pub parts_fit : Stated → Bool
+unfoldable pub parts_fit : Said → Bool
 parts_fit c =
     is_within (map (λ x. x.id) c.contexts) (map (λ i. i.context) (items_in c.facts))
     && is_within (map (λ i. i.context) (items_in c.facts)) (map (λ x. x.id) c.contexts)
@@ -92,7 +92,7 @@ parts_fit c =
 
 -- 6. Role and arcrole references are used, with one address each.
 
-unfoldable pub roles_fit : Stated → Bool
+unfoldable pub roles_fit : Said → Bool
 roles_fit c =
     is_within (map (λ r. r.uri) c.roles) (map (λ l. l.role) c.notes ++ map (λ f. f.role) (all_notes c))
     && is_within (map (λ r. r.uri) c.arcroles) (map (λ a. a.arcrole) (all_arcs c))
@@ -118,7 +118,7 @@ is_normal_context c = is_normal_period c.period && are_normal_dims c.segment && 
 abbrev pub is_normal_unit : UnitContent → Bool
 is_normal_unit u = not (is_empty u.over) && rises name_cmp u.over && rises name_cmp u.under
 
-unfoldable pub forms_fit : Stated → Bool
+unfoldable pub forms_fit : Said → Bool
 forms_fit c = list_all is_normal_context c.contexts && list_all is_normal_unit c.units
 
 -- 8. Accuracy stands exactly on a number with a unit, and such a number is a canonical decimal.
@@ -135,7 +135,7 @@ is_number (Some u) v None = true
 is_number None v None = true
 is_number u v (Some a) = false
 
-unfoldable pub numbers_fit : Stated → Bool
+unfoldable pub numbers_fit : Said → Bool
 numbers_fit c = list_all (λ i. is_number i.unit i.value i.accuracy) (items_in c.facts)
 
 -- 9. and 10. A fraction has a unit, and its parts are canonical decimals, the one below not zero.
@@ -145,7 +145,7 @@ is_unitless value.Nil = true
 is_unitless (value.Plain text) = true
 is_unitless (value.Fraction above below) = false
 
-unfoldable pub unitless_fit : Stated → Bool
+unfoldable pub unitless_fit : Said → Bool
 unitless_fit c = list_all (λ i. is_some i.unit || is_unitless i.value) (items_in c.facts)
 
 abbrev pub is_ratio : Value → Bool
@@ -153,7 +153,7 @@ is_ratio (value.Fraction above below) = is_canonical_decimal above && is_canonic
 is_ratio value.Nil = true
 is_ratio (value.Plain text) = true
 
-unfoldable pub fractions_fit : Stated → Bool
+unfoldable pub fractions_fit : Said → Bool
 fractions_fit c = list_all (λ i. is_ratio i.value) (items_in c.facts)
 
 -- 11. A nil tuple has no members, and tuples stand at most 100 deep.
@@ -169,7 +169,7 @@ nil_is_empty none = true
 nil_is_empty (item i rest) = nil_is_empty rest
 nil_is_empty (tuple name id nil members rest) = is_none_nil nil members && nil_is_empty members && nil_is_empty rest
 
-unfoldable pub tuples_fit : Stated → Bool
+unfoldable pub tuples_fit : Said → Bool
 tuples_fit c = nil_is_empty c.facts && nat_le (depth c.facts) 100
 
 -- 12. Footnote links: locators and footnotes are what its arcs name.
@@ -186,12 +186,12 @@ is_whole_link facts l =
     && is_within (map (λ a. a.from_id) l.arcs) l.locs && is_within (arc_ends l) (l.locs ++ note_ids l)
     && is_within (l.locs ++ note_ids l) (arc_ends l) && is_within l.locs facts
 
-unfoldable pub links_fit : Stated → Bool
+unfoldable pub links_fit : Said → Bool
 links_fit c = list_all (is_whole_link (fact_ids c.facts)) c.notes
 
 -- 13. Orders are canonical decimals.
 
-unfoldable pub orders_fit : Stated → Bool
+unfoldable pub orders_fit : Said → Bool
 orders_fit c = list_all (λ a. is_canonical_decimal a.order) (all_arcs c)
 
 -- 15. Addresses, roles, schemes, identifiers and languages are tokens that aren't empty.
@@ -199,15 +199,15 @@ orders_fit c = list_all (λ a. is_canonical_decimal a.order) (all_arcs c)
 abbrev pub is_full : List ℕ → Bool
 is_full text = not (is_empty text) && is_token text
 
-unfoldable pub tokens_fit : Stated → Bool
+unfoldable pub tokens_fit : Said → Bool
 tokens_fit c = list_all is_full (token_texts c)
 
 -- All tests, in order.
-abbrev pub tests : Stated → List Bool
+abbrev pub tests : Said → List Bool
 tests c = ids_fit c ∷ names_fit c ∷ texts_fit c ∷ lists_fit c ∷ parts_fit c ∷ roles_fit c ∷ forms_fit c ∷ numbers_fit c ∷ unitless_fit c
     ∷ fractions_fit c ∷ tuples_fit c ∷ links_fit c ∷ orders_fit c ∷ tokens_fit c ∷ []
 
-unfoldable pub is_proper : Stated → Bool
+unfoldable pub is_proper : Said → Bool
 is_proper c = list_all (λ b. b) (tests c)
 
 -- 14. A body is the markup of some sound nodes with the empty namespace around them, links as they are written.
@@ -220,6 +220,6 @@ abbrev pub AreBodies : List Footnote → Type 0
 AreBodies [] = Unit {0}
 AreBodies (f ∷ fs) = IsBody f.body × AreBodies fs
 
-pub record Proper (c : Stated) : Type 0 where
+pub record Proper (c : Said) : Type 0 where
   pub tested : is_proper c ≡ true
   pub bodies : AreBodies (all_notes c)

@@ -2,7 +2,7 @@
 use Rattle.std.specs.Prelude.{◌≡◌, [], All}
 use Rattle.ix_base.specs.Sound.{IsSoundTree}
 use Rattle.instance_out.specs.Proper.{Proper}
-use Rattle.instance_out.specs.Stated.{stated}
+use Rattle.ix_base.specs.Said.{said_of}
 use Rattle.targets.specs.declared.outcome.Outcome.{Outcome}
 use Rattle.targets.specs.declared.outcome.Outcome.TheVariants.{Broken, Whole}
 use Rattle.targets.specs.Faults.{element_faults, link_faults}
@@ -17,4 +17,4 @@ pub record IsClean (s : PageSet) : Type 0 where
 -- each content is proper
 abbrev pub AreProper : Outcome → Type 0
 AreProper (Broken report) = Unit {0}
-AreProper (Whole targets) = All (λ t. Proper (stated t.content)) targets
+AreProper (Whole targets) = All (λ t. Proper (said_of t.content)) targets
