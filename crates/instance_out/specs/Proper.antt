@@ -194,7 +194,7 @@ links_fit c = list_all (is_whole_link (fact_ids c.facts)) c.notes
 unfoldable pub orders_fit : Said → Bool
 orders_fit c = list_all (λ a. is_canonical_decimal a.order) (all_arcs c)
 
--- 15. Addresses, roles, schemes, identifiers and languages are tokens that aren't empty.
+-- 14. Addresses, roles, schemes, identifiers and languages are tokens that aren't empty.
 
 abbrev pub is_full : List ℕ → Bool
 is_full text = not (is_empty text) && is_token text
@@ -210,7 +210,7 @@ tests c = ids_fit c ∷ names_fit c ∷ texts_fit c ∷ lists_fit c ∷ parts_fi
 unfoldable pub is_proper : Said → Bool
 is_proper c = list_all (λ b. b) (tests c)
 
--- 14. A body is the markup of some sound nodes with the empty namespace around them, links as they are written.
+-- 15. A body is the markup of some sound nodes with the empty namespace around them, links as they are written.
 pub record IsBody (body : List ℕ) : Type 0 where
   pub nodes : Nodes
   pub sound : AreSound 255 nodes
