@@ -46,3 +46,8 @@ pub mod MarkBounds
 pub mod FinishLaws
 pub mod EndingLaws
 pub mod StandingLaws
+pub mod WrittenTokens
+pub mod PlainText
+pub mod WrittenReads
+pub mod PlainPages
+pub mod WrittenPages

@@ -46,7 +46,7 @@ start-char : (c : ℕ) → is_name_start c ≡ true → is_name_char c ≡ true
 unfolding is_name_char
 start-char c h = rw h refl
 
-name-chars : (cs : List ℕ) → is_name_of cs ≡ true → list_all is_name_char cs ≡ true
+pub name-chars : (cs : List ℕ) → is_name_of cs ≡ true → list_all is_name_char cs ≡ true
 name-chars [] h = absurd (cc)
 name-chars (c ∷ cs) h =
     let p = and_parts (is_name_start c) (list_all is_name_char cs) h in
@@ -94,11 +94,11 @@ colon-byte : is_qname_byte 58 ≡ true
 unfolding is_name_byte is_name_char is_name_start
 colon-byte = refl
 
-cond-then : (b x y : Bool) → b ≡ true → (if b then x else y) ≡ true → x ≡ true
+pub cond-then : (b x y : Bool) → b ≡ true → (if b then x else y) ≡ true → x ≡ true
 cond-then true x y e h = h
 cond-then false x y e h = absurd (cc)
 
-cond-else : (b x y : Bool) → b ≡ false → (if b then x else y) ≡ true → y ≡ true
+pub cond-else : (b x y : Bool) → b ≡ false → (if b then x else y) ≡ true → y ≡ true
 cond-else true x y e h = absurd (cc)
 cond-else false x y e h = h
 

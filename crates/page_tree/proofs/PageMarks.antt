@@ -151,7 +151,7 @@ spread-climbs at [] g = tt
 spread-climbs at (m ∷ ms) g =
     counted-climbs at m.offset (encode_utf8 m.ch) (spread ms) g.1 (subst (λ k. BytesClimb (m.offset + k) (spread ms)) (sym (length-encode m.ch)) (spread-climbs (m.offset + len_utf8 m.ch) ms g.2))
 
-values-counted : (at : ℕ) (xs : List ℕ) → values (counted at xs) ≡ xs
+pub values-counted : (at : ℕ) (xs : List ℕ) → values (counted at xs) ≡ xs
 values-counted at [] = refl
 values-counted at (x ∷ xs) = ap (λ t. x ∷ t) (values-counted (at + 1) xs)
 

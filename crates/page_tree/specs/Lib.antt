@@ -15,6 +15,7 @@ pub mod Names
 pub mod Orders
 pub mod Expansions
 pub mod Spellings
+pub mod Fine
 pub mod Stops
 pub mod Spans
 pub mod Read

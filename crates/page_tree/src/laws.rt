@@ -4,11 +4,11 @@ ghost use Rattle.std.specs.Prelude.{codes};
 ghost use Rattle.std.specs.List.{list_any};
 ghost use Rattle.ix_base.specs.Trees.{Tree, tree_of};
 ghost use Rattle.page_tree.specs.Break.{Fault, w};
-ghost use Rattle.ix_base.specs.Scope.{is_qname};
+ghost use Rattle.ix_base.specs.Scope.{is_qname, outermost};
 ghost use Rattle.ix_base.specs.declared.tree.Element.{Element};
 ghost use Rattle.ix_base.specs.Elements.{pages_of};
 ghost use Rattle.ix_base.specs.Sound.{IsSoundTree, IsSoundRoot};
-ghost use Rattle.ix_base.specs.Written.{Attribute, start_text, leaf_text, close_text};
+ghost use Rattle.ix_base.specs.Written.{Attribute, Markup, start_text, leaf_text, close_text};
 ghost use Rattle.page_tree.specs.Constructs.{Byte, values, offset_of, kind_of, size, finished, settled, continued};
 ghost use Rattle.page_tree.specs.Forms.{HasForm, holds};
 ghost use Rattle.page_tree.specs.Spellings.{HasName, tag_at, put_first, IsCut, is_markup, ends_reference};
@@ -16,6 +16,7 @@ ghost use Rattle.page_tree.specs.Values.{spelled, referred};
 ghost use Rattle.page_tree.specs.Tokens.{start, empty, close, words, refer};
 ghost use Rattle.page_tree.specs.declared.kind.Kind.TheVariants.{StartTag, EndTag, Reference, Text};
 ghost use Rattle.page_tree.specs.Page.{page};
+ghost use Rattle.page_tree.specs.Fine.{is_fine, tree_at, first_line, page_with};
 
 /// A construct that ends stays what it is and ends where it does, whatever follows it.
 pub fn ended_stays()
@@ -93,4 +94,13 @@ pub fn written_reference()
     ensures cut { (inner : List ℕ) → list_any ends_reference inner ≡ false
         → (first : Bool) (rest : List ℕ) → IsCut Reference (38 ∷ (inner ++ 59 ∷ [])) first rest }
     ensures means { (at : ℕ) (inner : List ℕ) → HasForm Reference at (38 ∷ (inner ++ 59 ∷ [])) (refer (spelled (referred inner))) }
+{}
+
+/// Markup of one element that is fine makes, behind the first line and before a line feed, a page of the tree that it means.
+/// By the law of one tree it has no other.
+pub fn written_page()
+    ensures unbroken { (m : Markup) (n : ℕ) (t : Tree) → tree_at (length first_line) m ≡ Some t → is_fine m n outermost ≡ true
+        → w (page_with m) n ≡ None }
+    ensures page { (m : Markup) (n : ℕ) (t : Tree) → tree_at (length first_line) m ≡ Some t → is_fine m n outermost ≡ true
+        → page (page_with m) n t }
 {}
