@@ -51,3 +51,7 @@ pub mod PlainText
 pub mod WrittenReads
 pub mod PlainPages
 pub mod WrittenPages
+pub mod FineLaws
+pub mod FineNames
+pub mod FineTags
+pub mod FineBodies
