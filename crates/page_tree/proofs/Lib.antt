@@ -1,4 +1,5 @@
 mod Rows
+mod FineRows
 pub mod TagLaws
 pub mod Spelled
 pub mod Building
