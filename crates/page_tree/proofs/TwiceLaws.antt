@@ -111,8 +111,16 @@ not-false false h = h
 pub name-turned : (m n : Named) → same_name m n ≡ same_name n m
 name-turned m n = ap (λ b. b && bytes_eq m.local n.local) (same-order m.ns n.ns) ∙ ap (λ b. bytes_eq n.ns m.ns && b) (same-order m.local n.local)
 
-pub pair-compared : (a b c d : List ℕ) → is_eq (ordering_then (slice_cmp nat_cmp a c) (slice_cmp nat_cmp b d)) ≡ (bytes_eq a c && bytes_eq b d)
-pair-compared a b c d = both (slice_cmp nat_cmp a c) (slice_cmp nat_cmp b d) ∙ ap (λ x. x && is_eq (slice_cmp nat_cmp b d)) (is_eq-slice_cmp a c) ∙ ap (λ x. bytes_eq a c && x) (is_eq-slice_cmp b d) where
+and-turn : (a b : Bool) → (a && b) ≡ (b && a)
+and-turn true true = refl
+and-turn true false = refl
+and-turn false true = refl
+and-turn false false = refl
+
+pub pair-compared : (a b c d : List ℕ) → is_eq (ordering_then (slice_cmp nat_cmp a c) (slice_cmp nat_cmp b d)) ≡ (bytes_eq b d && bytes_eq a c)
+pair-compared a b c d =
+    both (slice_cmp nat_cmp a c) (slice_cmp nat_cmp b d) ∙ ap (λ x. x && is_eq (slice_cmp nat_cmp b d)) (is_eq-slice_cmp a c) ∙ ap (λ x. bytes_eq a c && x) (is_eq-slice_cmp b d)
+    ∙ and-turn (bytes_eq a c) (bytes_eq b d) where
   both : (o p : Ordering) → is_eq (ordering_then o p) ≡ (is_eq o && is_eq p)
   both Less p = refl
   both Equal p = refl

@@ -65,6 +65,6 @@ abbrev pub repeats_by : {X : Type 0} → (X → X → Bool) → List X → Bool
 repeats_by same [] = false
 repeats_by same (x ∷ more) = list_any (same x) more || repeats_by same more
 
--- a namespace and a local part
+-- a local part and a namespace
 abbrev pub named_pair : Bor (List ℕ) × Bor (List ℕ) → Named
-named_pair p = record { ns = p.0.now; local = p.1.now }
+named_pair p = record { ns = p.1.now; local = p.0.now }

@@ -26,12 +26,13 @@ fn repeats_name(alloc: Global, attrs: &[Attribute<'_>]) -> Result<bool, NoMemory
     Ok(false)
 }
 
-/// The expanded name, as its namespace and its local part, where the prefix is bound.
+/// The expanded name, where the prefix is bound. The local part comes first, so that namespaces, which may be long, are compared
+/// only where that is the same.
 fn known_name<'a>(expanded: &Expanded<'a>) -> Option<(&'a str, &'a str)>
     ensures { option_map named_pair result ≡ known_name_of (expansion expanded.now) }
 {
     match expanded.prefix {
-        PrefixState::Known => Some((expanded.attr.name.ns, expanded.attr.name.local)),
+        PrefixState::Known => Some((expanded.attr.name.local, expanded.attr.name.ns)),
         PrefixState::Missing | PrefixState::Unknown => None,
     }
 }
