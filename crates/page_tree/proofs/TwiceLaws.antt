@@ -121,10 +121,10 @@ pub pair-compared : (a b c d : List ℕ) → is_eq (ordering_then (slice_cmp nat
 pair-compared a b c d =
     both (slice_cmp nat_cmp a c) (slice_cmp nat_cmp b d) ∙ ap (λ x. x && is_eq (slice_cmp nat_cmp b d)) (is_eq-slice_cmp a c) ∙ ap (λ x. bytes_eq a c && x) (is_eq-slice_cmp b d)
     ∙ and-turn (bytes_eq a c) (bytes_eq b d) where
-  both : (o p : Ordering) → is_eq (ordering_then o p) ≡ (is_eq o && is_eq p)
-  both Less p = refl
-  both Equal p = refl
-  both Greater p = refl
+      both : (o p : Ordering) → is_eq (ordering_then o p) ≡ (is_eq o && is_eq p)
+      both Less p = refl
+      both Equal p = refl
+      both Greater p = refl
 
 -- written names
 abbrev Text : Type 0
