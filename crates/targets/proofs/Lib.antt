@@ -8,10 +8,12 @@ mod ContentLaws
 mod DepthLaws
 mod FactsLaws
 mod FitLaws
+pub mod ForestLaws
 mod GroupLaws
 mod LinkLaws
 mod NoteLaws
 mod PlaceLaws
 mod RedirectLaws
 mod TimelyLaws
+pub mod TotalLaws
 mod ValueLaws
