@@ -10,6 +10,7 @@ mod FactsLaws
 mod FitLaws
 pub mod ForestLaws
 mod GroupLaws
+pub mod HeardLaws
 mod LinkLaws
 mod NoteLaws
 mod PlaceLaws

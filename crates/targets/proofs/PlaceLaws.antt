@@ -12,14 +12,14 @@ use Rattle.ix_base.proofs.OnceLemmas.{Contains-cases, Contains-from_filter, Cont
 
 -- in a list whose elements rise by their numbers, two elements with one number are one
 module _ {X : Type 0} (f : X → ℕ) where
-  rise-later : (n : ℕ) (xs : List X) (x : X) → Rise (n ∷ map f xs) → Contains xs x → n < f x
+  pub rise-later : (n : ℕ) (xs : List X) (x : X) → Rise (n ∷ map f xs) → Contains xs x → n < f x
   rise-later n [] x up h = absurd (Contains-nil x h)
   rise-later n (y ∷ ys) x up h = ⊎_elim
       (λ e. subst (λ z. n < f z) e up.0)
       (λ k. let more : f y < f x = rise-later (f y) ys x up.1 k in let less : n < f y = up.0 in omega arith)
       (Contains-cases y ys x h)
 
-  rise-rest : (n : ℕ) (ns : List ℕ) → Rise (n ∷ ns) → Rise ns
+  pub rise-rest : (n : ℕ) (ns : List ℕ) → Rise (n ∷ ns) → Rise ns
   rise-rest n [] up = tt
   rise-rest n (m ∷ ns) up = up.1
 
@@ -35,7 +35,7 @@ module _ {X : Type 0} (f : X → ℕ) where
       (λ c. rise-one zs x y (rise-rest (f z) (map f zs) up) b c e) (Contains-cases z zs y k))
       (Contains-cases z zs x h)
 
-abbrev offset_at : Placed → ℕ
+abbrev pub offset_at : Placed → ℕ
 offset_at p = p.tree.head.offset
 
 offsets-below : (above : List Tree) (ns : Nodes) → map offset_at (below above ns) ≡ offsets_of ns
@@ -47,7 +47,7 @@ offsets-below above (elem head children rest) =
     (map-append offset_at (below (t ∷ above) children) (below above rest)
     ∙ (λ i. offsets-below (t ∷ above) children i ++ offsets-below above rest i))
 
-offsets-elements : (t : Tree) → map offset_at (elements_of t) ≡ offsets_of (elem t.head t.children none)
+pub offsets-elements : (t : Tree) → map offset_at (elements_of t) ≡ offsets_of (elem t.head t.children none)
 offsets-elements t = ap (λ l. t.head.offset ∷ l) (offsets-below (t ∷ []) t.children ∙ sym (append-nil (offsets_of t.children)))
 
 -- a marked element of a page is an element of its tree, with the page's number
@@ -84,7 +84,7 @@ on_pages pages =
     All-weaker (Contains (marked pages)) (λ e. e.page < length pages)
     (λ e h. let within = marked_from-numbered 0 pages e h in omega arith) (marked pages) (All-contains_itself (marked pages))
 
-abbrev RisesOn : Paged → Type 0
+abbrev pub RisesOn : Paged → Type 0
 RisesOn p = Rise (offsets_of (elem p.tree.head p.tree.children none))
 
 -- an element of the first page, and one of the pages behind it
