@@ -15,6 +15,7 @@ mod LinkLaws
 mod NoteLaws
 mod PlaceLaws
 mod RedirectLaws
+pub mod StandLaws
 mod TimelyLaws
 pub mod TotalLaws
 mod ValueLaws
