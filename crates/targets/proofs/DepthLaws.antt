@@ -35,7 +35,7 @@ put-from : {X : Type 0} (R : X → X → Ordering) (x : X) (ys : List X) (z : X)
 put-from R x [] z h = Contains-cases x [] z h
 put-from R x (y ∷ ys) z h = put_by-from (R x y) x y ys (put R x ys) z (put-from R x ys z) h
 
-sorted-from : {X : Type 0} (R : X → X → Ordering) (xs : List X) (z : X) → Contains (sorted R xs) z → Contains xs z
+pub sorted-from : {X : Type 0} (R : X → X → Ordering) (xs : List X) (z : X) → Contains (sorted R xs) z → Contains xs z
 unfolding sorted
 sorted-from R [] z h = h
 sorted-from R (x ∷ xs) z h = ⊎_elim

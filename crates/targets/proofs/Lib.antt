@@ -2,6 +2,7 @@ mod AboveLaws
 mod AmongLaws
 mod BelowLaws
 mod ChainLaws
+pub mod CleanLaws
 mod ClosingLaws
 mod ComesLaws
 mod ContentLaws
@@ -12,10 +13,13 @@ pub mod ForestLaws
 mod GroupLaws
 pub mod HeardLaws
 mod LinkLaws
+pub mod MemberLaws
 mod NoteLaws
+pub mod OrderedFacts
 mod PlaceLaws
 mod RedirectLaws
 pub mod StandLaws
 mod TimelyLaws
 pub mod TotalLaws
 mod ValueLaws
+pub mod WalkLaws

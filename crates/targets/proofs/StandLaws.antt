@@ -9,6 +9,7 @@ use Rattle.ix_base.specs.Located.{Located, Paged, is_marked, marked, marked_from
 use Rattle.ix_base.specs.Sound.{IsSoundTree, Rise}
 use Rattle.ix_base.proofs.OnceLemmas.{Contains-cases, Contains-first, Contains-from_filter, Contains-later, Contains-nil}
 use Rattle.targets.proofs.ForestLaws.{StandOnce}
+use Rattle.targets.proofs.MemberLaws.{from-map}
 use Rattle.targets.proofs.PlaceLaws.{RisesOn, marked_from-numbered, offset_at, offsets-elements, page_marked-on, rise-later, rise-rest}
 use Rattle.targets.proofs.TotalLaws.{total, total-same, total-zero, when}
 
@@ -67,12 +68,6 @@ other-offset false m n h = refl
 
 other-page : (m n : ℕ) (b : Bool) → m < n → ((m == n) && b) ≡ false
 other-page m n b h = ap (λ c. c && b) (ne_eqb m n (λ e. omega arith))
-
-from-map : {X Y : Type 0} (f : X → Y) (xs : List X) (y : Y) → Contains (map f xs) y → (x : X) × Contains xs x × (f x ≡ y)
-from-map f [] y h = absurd (Contains-nil y h)
-from-map f (x ∷ xs) y h =
-    ⊎_elim (λ (e : f x ≡ y). (x, Contains-first x xs, e)) (λ later. let at = from-map f xs y later in (at.0, Contains-later x xs at.0 at.1, at.2))
-    (Contains-cases (f x) (map f xs) y h)
 
 none-on : (n : ℕ) (ps : List Placed) → Rise (map offset_at ps) → NoneAgain (map (on_page n) ps)
 none-on n [] up = tt
