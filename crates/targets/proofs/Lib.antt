@@ -10,6 +10,7 @@ mod DepthLaws
 mod FactsLaws
 mod FitLaws
 pub mod ForestLaws
+pub mod FormLaws
 mod GroupLaws
 pub mod HeardLaws
 mod LinkLaws
@@ -19,6 +20,7 @@ pub mod OrderedFacts
 mod PlaceLaws
 mod RedirectLaws
 pub mod StandLaws
+pub mod SumLaws
 mod TimelyLaws
 pub mod TotalLaws
 mod ValueLaws

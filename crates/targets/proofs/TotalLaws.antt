@@ -1,6 +1,7 @@
 -- Sums of weights. Two lists whose weights sum alike, whatever the weights, are one list up to order.
-use Rattle.std.proofs.Common.{◌≡◌, ◌∙◌, ap, sym, refl, ℕ, zero, suc, ◌+◌, ◌≤◌, Bool, true, false, cond, List, [], ◌∷◌, ◌++◌, map, arith, ⊎_elim}
-use Rattle.std.specs.List.{Contains, filter, flat_map}
+use Rattle.std.proofs.Common.{◌≡◌, ◌∙◌, ap, sym, refl, ℕ, zero, suc, ◌+◌, ◌≤◌, Bool, true, false, cond, List, [], ◌∷◌, ◌++◌, map, arith, ⊎_elim, Option, Some, None}
+use Rattle.std.specs.List.{Contains, cons_option, filter, filter_map, flat_map}
+use Rattle.std.specs.Option.{option_map_or}
 use Rattle.std.specs.declared.cmp.Ordering.{Ordering}
 use Rattle.std.specs.declared.cmp.Ordering.TheVariants.{Less, Equal, Greater}
 use Rattle.std.proofs.lemmas.List.Concat.{flat_map-cons}
@@ -129,3 +130,11 @@ pub total-turned : {X Y : Type 0} (f : X → Y → ℕ) (xs : List X) (ys : List
 total-turned {X} {Y} f [] ys = sym (total-zero ys)
 total-turned {X} {Y} f (x ∷ xs) ys =
     ap (λ n. total (f x) ys + n) (total-turned f xs ys) ∙ sym (total-plus (f x) (λ (y : Y). total (λ (z : X). f z y) xs) ys)
+
+given-total : {Y : Type 0} (w : Y → ℕ) (o : Option Y) (ys : List Y) → total w (cons_option o ys) ≡ option_map_or w o 0 + total w ys
+given-total w None ys = omega arith
+given-total w (Some y) ys = refl
+
+pub total-given : {X Y : Type 0} (w : Y → ℕ) (f : X → Option Y) (xs : List X) → total w (filter_map f xs) ≡ total (λ x. option_map_or w (f x) 0) xs
+total-given w f [] = refl
+total-given w f (x ∷ xs) = given-total w (f x) (filter_map f xs) ∙ ap (λ n. option_map_or w (f x) 0 + n) (total-given w f xs)
