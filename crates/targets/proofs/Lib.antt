@@ -16,7 +16,10 @@ pub mod HeardLaws
 mod LinkLaws
 pub mod MemberLaws
 mod NoteLaws
+pub mod NoteSums
 pub mod OrderedFacts
+pub mod PartLaws
+pub mod PartsFit
 mod PlaceLaws
 mod RedirectLaws
 pub mod StandLaws

@@ -18,6 +18,9 @@ in-map f (y ∷ xs) x h =
     ⊎_elim (λ (e : y ≡ x). Contains-same (f y) (map f xs) (f x) (ap f e)) (λ later. Contains-later (f y) (map f xs) (f x) (in-map f xs x later))
     (Contains-cases y xs x h)
 
+pub in-map-as : {X Y : Type 0} (f : X → Y) (xs : List X) (x : X) (y : Y) → Contains xs x → f x ≡ y → Contains (map f xs) y
+in-map-as f xs x y h e = subst (Contains (map f xs)) e (in-map f xs x h)
+
 pub from-map : {X Y : Type 0} (f : X → Y) (xs : List X) (y : Y) → Contains (map f xs) y → (x : X) × Contains xs x × (f x ≡ y)
 from-map f [] y h = absurd (Contains-nil y h)
 from-map f (x ∷ xs) y h =
