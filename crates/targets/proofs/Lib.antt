@@ -13,6 +13,7 @@ pub mod ForestLaws
 pub mod FormLaws
 mod GroupLaws
 pub mod HeardLaws
+pub mod IdsFit
 mod LinkLaws
 pub mod MemberLaws
 mod NoteLaws

@@ -34,7 +34,7 @@ from-firsts f (x ∷ xs) y h =
     (λ k. Contains-later x xs y (from-firsts f xs y (Contains-from_filter (λ z. not (bytes_eq (f x) (f z))) (firsts f xs) y k).0))
     (Contains-cases x others y h)
 
-from-counted : (fs : List Footnote) (f : Footnote) → Contains (counted_once fs) f → Contains fs f
+pub from-counted : (fs : List Footnote) (f : Footnote) → Contains (counted_once fs) f → Contains fs f
 from-counted [] f h = h
 from-counted (g ∷ fs) f h = by (list_any (same_note g) fs) h (from-counted fs f)
   where
