@@ -1,5 +1,5 @@
 -- What the elements of a clean set keep to, and which of them the facts of a target stand for.
-use Rattle.std.proofs.Common.{◌≡◌, ◌∙◌, ap, sym, subst, refl, ℕ, ◌≤◌, Bool, true, false, List, Option, Some, None, arith}
+use Rattle.std.proofs.Common.{◌≡◌, sym, subst, refl, ℕ, ◌≤◌, Bool, true, false, List, Option, Some, None, arith}
 use Rattle.std.specs.Prelude.{◌&&◌, bytes_eq, not}
 use Rattle.std.specs.List.{Contains, filter, flat_map}
 use Rattle.std.specs.Option.{option_map_or}

@@ -1,10 +1,10 @@
 -- From what was found and made to what a set comes to.
-use Rattle.std.proofs.Common.{◌≡◌, ◌≢◌, ◌∙◌, ◌<◌, ℕ, Bool, true, false, List, [], ◌∷◌, ap, arith, length, map, refl, subst, suc, sym, ⊎_elim}
+use Rattle.std.proofs.Common.{◌≡◌, ◌≢◌, ◌∙◌, ◌<◌, ℕ, Bool, true, false, List, [], ◌∷◌, ap, arith, length, map, refl, subst, suc, sym}
 use Rattle.std.specs.List.{All, Contains, filter, flat_map}
 use Rattle.std.specs.Prelude.{◌==◌, Ok, Err}
 use Rattle.std.proofs.lemmas.Bool.{both_ways, eq-eqb, eqb-true}
 use Rattle.std.proofs.lemmas.List.{length-map}
-use Rattle.ix_base.proofs.OnceLemmas.{Contains-cases, Contains-filter, Contains-first, Contains-later, Contains-nil, Contains-same}
+use Rattle.ix_base.proofs.OnceLemmas.{Contains-filter, Contains-first, Contains-nil}
 use Rattle.ix_base.proofs.ReportLemmas.{report-same}
 use Rattle.ix_base.specs.declared.breach.Found.{Found}
 use Rattle.ix_base.specs.declared.content.Item.{Item}
@@ -36,6 +36,7 @@ use Rattle.targets.specs.Redirects.{SeesAll}
 use Rattle.targets.proofs.AboveLaws.{owner_marked}
 use Rattle.targets.proofs.ClosingLaws.{sound-trees}
 use Rattle.targets.proofs.FitLaws.{flat-none}
+use Rattle.targets.proofs.MemberLaws.{from-map, in-map}
 use Rattle.targets.proofs.PlaceLaws.{apart, on_pages}
 use Rattle.targets.proofs.ValueLaws.{all-say}
 
@@ -107,18 +108,6 @@ some-same xs ys same h n = h (none-same ys xs (record { there = same.back; back 
 -- where no rule on links is broken, no tuple has too many owners
 pub none-deep : (bases : Located → List ℕ) (es : List Located) → broken bases es ≡ [] → breaking rule.L9 es ≡ []
 none-deep bases es h = flat-none (λ r. flat_map (λ e. row (breaks bases (asks es) e r) (found_at e r)) es) link_rules h rule.L9 (8, omega arith, refl)
-
-in-map : {X Y : Type 0} (f : X → Y) (xs : List X) (x : X) → Contains xs x → Contains (map f xs) (f x)
-in-map f [] x h = absurd (Contains-nil x h)
-in-map f (y ∷ xs) x h =
-    ⊎_elim (λ (e : y ≡ x). Contains-same (f y) (map f xs) (f x) (ap f e)) (λ later. Contains-later (f y) (map f xs) (f x) (in-map f xs x later))
-    (Contains-cases y xs x h)
-
-from-map : {X Y : Type 0} (f : X → Y) (xs : List X) (y : Y) → Contains (map f xs) y → (x : X) × Contains xs x × (f x ≡ y)
-from-map f [] y h = absurd (Contains-nil y h)
-from-map f (x ∷ xs) y h =
-    ⊎_elim (λ (e : f x ≡ y). (x, Contains-first x xs, e)) (λ later. let at = from-map f xs y later in (at.0, Contains-later x xs at.0 at.1, at.2))
-    (Contains-cases (f x) (map f xs) y h)
 
 map-there : {X Y : Type 0} (f : X → Y) (xs ys : List X) → ((x : X) → Contains xs x → Contains ys x) → (y : Y) → Contains (map f xs) y → Contains (map f ys) y
 map-there f xs ys h y at = let from = from-map f xs y at in subst (Contains (map f ys)) from.2 (in-map f ys from.0 (h from.0 from.1))

@@ -64,14 +64,14 @@ none-broken n (p ∷ pages) h e at r which =
     (λ later. none-broken (suc n) pages both.1 e later r which)
     (Contains-append_cases (page_marked n p.tree) (marked_from (suc n) pages) e at)
 
-fact-inline : (k : Kind) → kinds.is_fact k ≡ true → is_inline k ≡ true
+pub fact-inline : (k : Kind) → kinds.is_fact k ≡ true → is_inline k ≡ true
 fact-inline kind.NonFraction h = refl
 fact-inline kind.NonNumeric h = refl
 fact-inline kind.Fraction h = refl
 fact-inline kind.Tuple h = refl
 fact-inline k h = absurd (cc)
 
-not-not : (b : Bool) → not b ≡ false → b ≡ true
+pub not-not : (b : Bool) → not b ≡ false → b ≡ true
 not-not true h = refl
 not-not false h = absurd (cc)
 
@@ -79,9 +79,9 @@ number-of : (value : Option (List ℕ)) → option_map_or (λ v. not (is_order v
 number-of None h = refl
 number-of (Some v) h = not-not (is_order v) h
 
-with-inline : (b c : Bool) → b ≡ true → (b && c) ≡ false → c ≡ false
-with-inline true c h e = e
-with-inline false c h e = absurd (cc)
+pub with-test : (b c : Bool) → b ≡ true → (b && c) ≡ false → c ≡ false
+with-test true c h e = e
+with-test false c h e = absurd (cc)
 
 fits-by : (b : Bool) (o : Option (List ℕ)) → (b ≡ true → is_number o ≡ true) → (not b || is_number o) ≡ true
 fits-by true o h = h refl
@@ -91,7 +91,7 @@ fits-of : (e : Located) → breaks e.placed rule.N10 ≡ false → fits e ≡ tr
 fits-of e h =
     fits-by (is_fact e) (order_of e)
     (λ f. number-of (attr (codes "order") e.placed.tree)
-    (with-inline (is_inline (kind_of e.placed)) (lacks is_order e.placed.tree (codes "order")) (fact-inline (kind_of e.placed) f) h))
+    (with-test (is_inline (kind_of e.placed)) (lacks is_order e.placed.tree (codes "order")) (fact-inline (kind_of e.placed) f) h))
 
 -- the orders of facts are numbers
 pub all-fit : (pages : List Paged) → faults_from 0 pages ≡ [] → All (λ e. fits e ≡ true) (marked_from 0 pages)

@@ -1,18 +1,16 @@
 -- The elements that the facts of a target stand for, tuples' members within: each fact of the target is one of them, and once.
-use Rattle.std.proofs.Common.{◌≡◌, ◌∙◌, ap, sym, subst, refl, ℕ, zero, suc, ◌+◌, ◌≤◌, Bool, true, false, cond, List, [], ◌∷◌, Option, Some, None, length, arith}
-use Rattle.std.specs.Prelude.{◌&&◌, bytes_eq, is_some, not}
+use Rattle.std.proofs.Common.{◌≡◌, ◌∙◌, ap, sym, refl, ℕ, zero, suc, ◌+◌, Bool, true, false, cond, List, [], ◌∷◌, Option, Some, None, arith}
+use Rattle.std.specs.Prelude.{◌&&◌}
 use Rattle.std.specs.List.{Contains, filter, flat_map}
 use Rattle.std.specs.Option.{option_map_or}
 use Rattle.std.specs.Ordering.{on}
 use Rattle.std.specs.declared.cmp.Ordering.{Ordering}
 use Rattle.ix_base.specs.Asks.{Asks, asks}
-use Rattle.ix_base.specs.LinkRules.{target_of}
 use Rattle.ix_base.specs.Located.{Located, is_fact, is_tuple, same_place}
-use Rattle.ix_base.specs.Membership.{is_owned_by, members, order_of, owner, owners}
+use Rattle.ix_base.specs.Membership.{is_owned_by, members, order_of, owner}
 use Rattle.ix_base.specs.Orders.{order_cmp}
 use Rattle.ix_base.specs.Sorted.{sorted}
-use Rattle.targets.specs.Contents.{is_outer}
-use Rattle.targets.proofs.TotalLaws.{total, total-filter, total-flat, total-plus, total-same, total-sorted, total-turned, total-when, total-zero, when, when-most, when-plus, when-up, when-zero}
+use Rattle.targets.proofs.TotalLaws.{total, total-filter, total-flat, total-plus, total-same, total-sorted, total-turned, total-when, total-zero, when, when-plus, when-zero}
 
 -- these elements, behind each tuple its members, and so on to n tuples deep
 abbrev pub walk : ℕ → List Located → List Located → List Located

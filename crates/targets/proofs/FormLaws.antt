@@ -1,23 +1,24 @@
 -- What elements that break no rule say: their ids, contexts and units.
-use Rattle.std.proofs.Common.{◌≡◌, ◌∙◌, ap, sym, subst, refl, ℕ, ◌≤◌, Bool, true, false, List, [], ◌∷◌, Option, Some, None, arith, cond, option_map, codes}
-use Rattle.std.specs.Prelude.{◌&&◌, ◌||◌, is_none, not, unwrap_or}
+use Rattle.std.proofs.Common.{◌≡◌, ◌∙◌, ap, sym, subst, refl, ℕ, Bool, true, false, List, [], ◌∷◌, Option, Some, None, arith, cond, option_map, codes}
+use Rattle.std.specs.Prelude.{◌||◌, is_none, not, unwrap_or}
 use Rattle.std.specs.List.{Contains, filter, list_any}
 use Rattle.std.specs.Option.{option_map_or}
 use Rattle.std.proofs.lemmas.Bool.{both_ways}
 use Rattle.std.proofs.lemmas.Slice.Eq.{bytes_eq-Decides}
+use Rattle.continuations.proofs.Walking.{some-inj}
 use Rattle.ix_base.specs.declared.content.Context.{Context}
 use Rattle.ix_base.specs.declared.content.Unit.{Unit as UnitContent}
 use Rattle.ix_base.specs.declared.kind.Kind.{Kind}
 use Rattle.ix_base.specs.declared.kind.Kind.TheVariants as kind
 use Rattle.ix_base.specs.declared.rule.Rule.TheVariants as rule
-use Rattle.ix_base.specs.Asks.{Asks, asks, if_such, only}
+use Rattle.ix_base.specs.Asks.{Asks, asks, if_such}
 use Rattle.ix_base.specs.ContextForm.{context, dims_of, id_of as form_id, period_of, whom_of}
-use Rattle.ix_base.specs.ElementRules.{breaks_context, breaks_unit, element_rules, lacks, misses as lacks_attr, name_lists, name_tokens, qname_tokens, required}
-use Rattle.ix_base.specs.Forms.{are_names, is_name_token, is_qname_token}
+use Rattle.ix_base.specs.ElementRules.{breaks_context, breaks_unit, lacks, misses as lacks_attr, name_tokens, required}
+use Rattle.ix_base.specs.Forms.{is_name_token}
 use Rattle.ix_base.specs.Holding.{holds_only, named_in}
 use Rattle.ix_base.specs.Ids.{holds_id, id_of, one, one_such}
 use Rattle.ix_base.specs.Kinds.{is_inline, kind_of, same_kind}
-use Rattle.ix_base.specs.LinkRules.{link_rules, misses}
+use Rattle.ix_base.specs.LinkRules.{misses}
 use Rattle.ix_base.specs.Located.{Located, is_item, is_kind, is_text}
 use Rattle.ix_base.specs.Namespaces.{xbrli_namespace}
 use Rattle.ix_base.specs.NcName.{is_ncname}
@@ -33,6 +34,8 @@ use Rattle.targets.specs.Clean.{IsClean}
 use Rattle.targets.specs.Contents.{context_at, context_named, unit_at, unit_named}
 use Rattle.targets.specs.PageSet.{PageSet, elements}
 use Rattle.targets.proofs.CleanLaws.{element-keeps, link-keeps}
+use Rattle.targets.proofs.FitLaws.{not-not, with-test}
+use Rattle.targets.proofs.HeardLaws.{only-one}
 use Rattle.targets.proofs.MemberLaws.{any-passes}
 
 some-from : {X : Type 0} (o : Option X) → is_none o ≡ false → (x : X) × (o ≡ Some x)
@@ -46,11 +49,7 @@ text-of id (Some t) h = ap Some (sym ((bytes_eq-Decides id t).0 h))
 pub of-text : (id : List ℕ) (o : Option (List ℕ)) → o ≡ Some id → is_text id o ≡ true
 of-text id o e = ap (is_text id) e ∙ (bytes_eq-Decides id id).1 refl
 
-with-test : (b c : Bool) → b ≡ true → (b && c) ≡ false → c ≡ false
-with-test true c h e = e
-with-test false c h e = absurd (cc)
-
-or-left : (b c : Bool) → (b || c) ≡ false → b ≡ false
+pub or-left : (b c : Bool) → (b || c) ≡ false → b ≡ false
 or-left true c e = absurd (cc)
 or-left false c e = refl
 
@@ -62,11 +61,6 @@ none-passes p xs x h at = by (p x) refl
     by false e = e
 
 -- The one element with an id.
-
-only-one : {X : Type 0} (xs : List X) (x : X) → only xs ≡ Some x → xs ≡ x ∷ []
-only-one [] x h = absurd (cc)
-only-one (y ∷ []) x h = let same : y ≡ x = cc in ap (λ z. z ∷ []) same
-only-one (y ∷ z ∷ zs) x h = absurd (cc)
 
 such-by : (p : Located → Bool) (o : Option Located) (x : Located) → if_such p o ≡ Some x → (o ≡ Some x) × (p x ≡ true)
 such-by p None x h = absurd (cc)
@@ -107,16 +101,13 @@ context-id e c h =
     let same : id.0 ≡ c.id = ap (λ (d : Context). d.id) made.1 in
     id-form t c.id (id.1 ∙ ap Some same)
 
-some-same : {X : Type 0} (x y : X) → Some x ≡ Some y → x ≡ y
-some-same x y e = cc
-
 pub unit-id : (e : Located) (u : UnitContent) → unit_at e ≡ Some u → (id_of e ≡ Some u.id) × (is_ncname u.id ≡ true)
 unfolding unit
 unit-id e u h =
     let t = e.placed.tree in
     let id = step_ok (form_id t) _ u h in
     let ratio = step_ok (ratio_in (named_in xbrli_namespace (codes "divide") t.children) t.children) _ u id.2 in
-    let same : id.0 ≡ u.id = ap (λ (v : UnitContent). v.id) (some-same _ u ratio.2) in
+    let same : id.0 ≡ u.id = ap (λ (v : UnitContent). v.id) (some-inj _ u ratio.2) in
     id-form t u.id (id.1 ∙ ap Some same)
 
 -- Rules.
@@ -151,11 +142,7 @@ name-by : (value : Option (List ℕ)) (id : List ℕ) → option_map token_of va
     → is_ncname id ≡ true
 name-by None id e h = absurd (cc)
 name-by (Some v) id e h =
-    let same : token_of v ≡ id = some-same (token_of v) id e in subst (λ x. is_ncname x ≡ true) same (not-not (is_name_token v) h)
-  where
-    not-not : (b : Bool) → not b ≡ false → b ≡ true
-    not-not true k = refl
-    not-not false k = absurd (cc)
+    let same : token_of v ≡ id = some-inj (token_of v) id e in subst (λ x. is_ncname x ≡ true) same (not-not (is_name_token v) h)
 
 module _ (s : PageSet) (clean : IsClean s) where
   -- a context and a unit have their forms

@@ -2,25 +2,25 @@
 -- tuples are read and are of the fact's target.
 use Rattle.std.proofs.Common.{◌≡◌, ◌∙◌, ap, sym, subst, refl, ℕ, zero, suc, ◌+◌, ◌≤◌, Bool, true, false, cond, List, [], ◌∷◌, Option, Some, None, length, arith, ⊎_elim, ◌<◌}
 use Rattle.std.proofs.Math.Nat.{eq-or-lt_of_le}
-use Rattle.std.specs.Prelude.{◌&&◌, ◌==◌, bytes_eq, is_some, not}
+use Rattle.std.specs.Prelude.{◌&&◌, bytes_eq, is_some, not}
 use Rattle.std.specs.List.{Contains, filter}
 use Rattle.std.specs.Option.{option_map_or}
-use Rattle.std.proofs.lemmas.Bool.{and_from, and_parts, both_ways, eq-eqb}
+use Rattle.std.proofs.lemmas.Bool.{and_from, both_ways, eq-eqb}
 use Rattle.ix_base.specs.declared.kind.Kind.{Kind}
 use Rattle.ix_base.specs.declared.kind.Kind.TheVariants as kind
 use Rattle.ix_base.specs.Asks.{Asks, asks, only}
 use Rattle.ix_base.specs.Elements.{placed_at}
-use Rattle.ix_base.specs.Ids.{holds_tuple_id, tuple_id_of}
+use Rattle.ix_base.specs.Ids.{holds_tuple_id}
 use Rattle.ix_base.specs.Kinds as kinds
 use Rattle.ix_base.specs.Kinds.{kind_of, same_kind}
 use Rattle.ix_base.specs.LinkRules.{is_too_deep, target_of}
-use Rattle.ix_base.specs.Located.{Located, is_fact, is_text, is_tuple, on_page, token_at}
+use Rattle.ix_base.specs.Located.{Located, is_fact, is_text, is_tuple, on_page}
 use Rattle.ix_base.specs.Membership.{deepest, nearest_tuple, owner, owner_by, owners, tuple_ref_of}
 use Rattle.ix_base.specs.Trees.{Tree}
 use Rattle.ix_base.proofs.OnceLemmas.{Contains-first, Contains-from_filter}
 use Rattle.targets.specs.Contents.{is_outer}
-use Rattle.targets.proofs.ForestLaws.{StandOnce, above, by_owner, heard, walk, walk-total}
-use Rattle.targets.proofs.TotalLaws.{total, total-has, total-less, total-some, when, when-has, when-most, when-up}
+use Rattle.targets.proofs.ForestLaws.{above, by_owner, heard}
+use Rattle.targets.proofs.TotalLaws.{when, when-has, when-most}
 
 -- Owners are tuples, and tuples are facts.
 
@@ -37,7 +37,7 @@ nearest-tuple n (t ∷ around) o e = by (is_tuple here) refl e (nearest-tuple n 
     by true k h later = let same : on_page n (placed_at t around) ≡ o = cc in subst (λ x. is_tuple x ≡ true) same k
     by false k h later = later h
 
-only-one : (xs : List Located) (x : Located) → only xs ≡ Some x → xs ≡ x ∷ []
+pub only-one : {X : Type 0} (xs : List X) (x : X) → only xs ≡ Some x → xs ≡ x ∷ []
 only-one [] x h = absurd (cc)
 only-one (y ∷ []) x h = let same : y ≡ x = cc in ap (λ z. z ∷ []) same
 only-one (y ∷ z ∷ zs) x h = absurd (cc)

@@ -1,6 +1,6 @@
 -- The ids of a content are names, and each stands once.
 use Rattle.std.proofs.Common.{◌≡◌, ◌∙◌, ap, sym, subst, refl, ℕ, ◌+◌, ◌≤◌, nat_lt, Bool, true, false, List, [], ◌∷◌, ◌++◌, map, length, Option, Some, None, arith, ⊎_elim, zero, suc, cond}
-use Rattle.std.specs.Prelude.{◌&&◌, ◌||◌, bytes_eq, not}
+use Rattle.std.specs.Prelude.{bytes_eq, not}
 use Rattle.std.specs.List.{Contains, filter, list_all, list_any}
 use Rattle.std.specs.Option.{option_map_or}
 use Rattle.std.specs.Ordering.{on}
@@ -34,7 +34,8 @@ use Rattle.targets.specs.Clean.{IsClean}
 use Rattle.targets.specs.Contents.{IsContent}
 use Rattle.targets.specs.PageSet.{PageSet, base_at, elements}
 use Rattle.targets.proofs.CleanLaws.{link-keeps}
-use Rattle.targets.proofs.FormLaws.{id-name, such-parts, text-of}
+use Rattle.targets.proofs.FitLaws.{fact-inline}
+use Rattle.targets.proofs.FormLaws.{id-name, or-left, such-parts, text-of}
 use Rattle.targets.proofs.MemberLaws.{all-pass, from-map, passes-any}
 use Rattle.targets.proofs.NoteSums.{IsOfNote, arranged-notes, from-counted, notes-once}
 use Rattle.targets.proofs.PartsFit.{context-names, contexts-once, unit-names, units-once}
@@ -76,13 +77,6 @@ one-kind kind.Tuple n = omega arith
 one-kind kind.Footnote n = omega arith
 one-kind k n = omega arith
 
-fact-inline : (k : Kind) → kinds.is_fact k ≡ true → is_inline k ≡ true
-fact-inline kind.NonFraction h = refl
-fact-inline kind.NonNumeric h = refl
-fact-inline kind.Fraction h = refl
-fact-inline kind.Tuple h = refl
-fact-inline k h = absurd (cc)
-
 note-inline : (k : Kind) → same_kind k kind.Footnote ≡ true → is_inline k ≡ true
 note-inline kind.Footnote h = refl
 note-inline k h = absurd (cc)
@@ -95,10 +89,6 @@ counted p (x ∷ xs) = by (p x) (counted p xs)
         → when b 1 + total (λ y. when (p y) 1) xs ≡ length (cond b (x ∷ filter p xs) (filter p xs))
     by true e = omega arith
     by false e = omega arith
-
-either-none : (b c : Bool) → (b || c) ≡ false → b ≡ false
-either-none true c h = absurd (cc)
-either-none false c h = refl
 
 option-this : (t : List ℕ) (o : Option (List ℕ)) → option_map_or (is_this t) o 0 ≡ when (is_text t o) 1
 option-this t None = refl
@@ -113,7 +103,7 @@ module _ (s : PageSet) (clean : IsClean s) where
   held-by t e at h =
       let a = asks (elements s) in
       let kept : option_map_or (λ id. are_many a (holds_id id)) (id_of e) false ≡ false =
-      either-none _ (option_map_or (λ id. are_many a (holds_tuple_id id)) (tuple_id_of e) false) (link-keeps s clean rule.L1 (0, omega arith, refl) e at) in
+      or-left _ (option_map_or (λ id. are_many a (holds_tuple_id id)) (tuple_id_of e) false) (link-keeps s clean rule.L1 (0, omega arith, refl) e at) in
       let few : nat_lt 1 (length (filter (holds_id t) (elements s))) ≡ false =
       sym (ap (λ o. option_map_or (λ id. are_many a (holds_id id)) o false) (text-of t (id_of e) h)) ∙ kept in
       ltb-false 1 (length (filter (holds_id t) (elements s))) few

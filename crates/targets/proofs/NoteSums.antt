@@ -3,18 +3,18 @@ use Rattle.std.proofs.Common.{◌≡◌, ◌∙◌, ap, sym, subst, refl, ℕ, z
 use Rattle.std.specs.Prelude.{◌&&◌, bytes_eq, not, unwrap_or}
 use Rattle.std.specs.List.{Contains, filter, filter_map, flat_map, list_any}
 use Rattle.std.specs.Ordering.{on}
-use Rattle.std.specs.declared.cmp.Ordering.{Ordering}
 use Rattle.std.proofs.lemmas.Bool.{both_ways}
 use Rattle.std.proofs.lemmas.Slice.Eq.{bytes_eq-Decides}
+use Rattle.continuations.proofs.Walking.{some-inj}
 use Rattle.ix_base.specs.declared.content.Footnote.{Footnote}
 use Rattle.ix_base.specs.declared.content.NoteLink.{NoteLink}
 use Rattle.ix_base.specs.Asks.{asks}
-use Rattle.ix_base.specs.Ids.{holds_id, id_of, one_such}
+use Rattle.ix_base.specs.Ids.{holds_id, one_such}
 use Rattle.ix_base.specs.LinkRules.{is_footnote}
-use Rattle.ix_base.specs.Located.{Located, is_fact}
+use Rattle.ix_base.specs.Located.{Located}
 use Rattle.ix_base.specs.Once.{in_order}
 use Rattle.ix_base.specs.Sorted.{sorted, text_cmp}
-use Rattle.ix_base.proofs.OnceLemmas.{Contains-cases, Contains-first, Contains-from_filter, Contains-later, Contains-nil}
+use Rattle.ix_base.proofs.OnceLemmas.{Contains-cases, Contains-first, Contains-from_filter, Contains-later}
 use Rattle.footnotes.specs.FootnoteLinks.{Between, arcs_in, ends, footnote_of, label, link_of, notes}
 use Rattle.instance_out.specs.Arranged.{arranged_link, firsts}
 use Rattle.instance_out.specs.Elements.{footnote_text}
@@ -51,9 +51,6 @@ note-self : (f : Footnote) → same_note f f ≡ true
 note-self f =
     let self : (x : List ℕ) → bytes_eq x x ≡ true = λ x. (bytes_eq-Decides x x).1 refl in
     λ i. self f.id i && self f.role i && option-self f.title i && self f.lang i && self f.body i
-
-some-same : {X : Type 0} (x y : X) → Some x ≡ Some y → x ≡ y
-some-same x y e = cc
 
 none-left : (n : ℕ) → (1 ≤ n → ⊥) → n ≡ 0
 none-left zero h = refl
@@ -95,7 +92,7 @@ module _ (bases : Located → List ℕ) (es : List Located) where
 
   one-note : (f g : Footnote) → IsOfNote bases es f → IsOfNote bases es g → f.id ≡ g.id → f ≡ g
   one-note f g x y e =
-      let same : x.0 ≡ y.0 = some-same x.0 y.0 (sym x.1 ∙ ap (one_such is_footnote (asks es)) e ∙ y.1) in
+      let same : x.0 ≡ y.0 = some-inj x.0 y.0 (sym x.1 ∙ ap (one_such is_footnote (asks es)) e ∙ y.1) in
       x.2 ∙ ap (footnote_of bases (asks es)) same ∙ sym y.2
 
   abbrev weight_of : List ℕ → Footnote → ℕ

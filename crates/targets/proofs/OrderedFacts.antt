@@ -1,5 +1,5 @@
 -- Facts in another order have the same items and ids, each as often.
-use Rattle.std.proofs.Common.{◌≡◌, ◌∙◌, ap, sym, refl, ℕ, ◌+◌, Bool, List, [], ◌∷◌, ◌++◌, append_assoc, append-nil, rules, Option}
+use Rattle.std.proofs.Common.{◌≡◌, ◌∙◌, ap, sym, refl, ℕ, ◌+◌, List, [], ◌∷◌, ◌++◌, append_assoc, append-nil, rules}
 use Rattle.std.specs.declared.cmp.Ordering.{Ordering}
 use Rattle.ix_base.specs.declared.content.Fact.{Fact, out-Fact, the_lemmas}
 use Rattle.ix_base.specs.declared.content.Fact.TheOpen.{Fact-F}

@@ -1,7 +1,7 @@
 -- The contexts and the units of a content: those that its items name, each once.
-use Rattle.std.proofs.Common.{◌≡◌, ◌∙◌, ap, sym, subst, refl, ℕ, zero, suc, ◌+◌, ◌≤◌, Bool, true, false, cond, List, [], ◌∷◌, map, Option, Some, None, arith, ⊎_elim}
-use Rattle.std.specs.Prelude.{◌&&◌, bytes_eq}
-use Rattle.std.specs.List.{AllByRecursion, Contains, cons_option, filter, filter_map, flat_map}
+use Rattle.std.proofs.Common.{◌≡◌, ◌∙◌, ap, sym, subst, refl, ℕ, ◌+◌, ◌≤◌, Bool, true, false, List, [], ◌∷◌, map, Option, Some, None, arith, ⊎_elim}
+use Rattle.std.specs.Prelude.{bytes_eq}
+use Rattle.std.specs.List.{AllByRecursion, Contains, filter, filter_map, flat_map}
 use Rattle.std.specs.List.Sorted.{IsStrictlySortedBy}
 use Rattle.std.specs.Option.{option_map_or}
 use Rattle.std.specs.Ordering.{ordering_reverse}
@@ -9,6 +9,7 @@ use Rattle.std.specs.declared.cmp.Ordering.TheVariants.{Less, Greater}
 use Rattle.std.proofs.lemmas.Bool.{and_parts}
 use Rattle.std.proofs.lemmas.Cmp.{nat_list_cmp_total}
 use Rattle.std.proofs.lemmas.Slice.Eq.{bytes_eq-Decides}
+use Rattle.continuations.proofs.Walking.{some-inj}
 use Rattle.ix_base.specs.declared.content.Content.{Content}
 use Rattle.ix_base.specs.declared.content.Item.{Item}
 use Rattle.ix_base.specs.declared.kind.Kind.{Kind}
@@ -18,7 +19,6 @@ use Rattle.ix_base.specs.Ids.{holds_id, id_of, one_such}
 use Rattle.ix_base.specs.LinkRules.{target_of}
 use Rattle.ix_base.specs.Located.{Located, is_item, is_kind, is_text}
 use Rattle.ix_base.specs.NcName.{is_ncname}
-use Rattle.ix_base.specs.Once.{in_order}
 use Rattle.ix_base.specs.Sorted.{text_cmp}
 use Rattle.ix_base.proofs.OnceLemmas.{Contains-cases, Contains-filter, Contains-first, Contains-from_filter, Contains-nil, in_order-members, in_order-sorted}
 use Rattle.ix_base.proofs.OnceOrdered.{same_text}
@@ -30,7 +30,7 @@ use Rattle.targets.specs.PageSet.{PageSet, base_at, elements}
 use Rattle.targets.proofs.FormLaws.{of-text, such-parts, text-of}
 use Rattle.targets.proofs.MemberLaws.{from-flat, from-given, from-map, in-flat, in-given, in-map-as}
 use Rattle.targets.proofs.SumLaws.{item-back, item-there}
-use Rattle.targets.proofs.TotalLaws.{total, total-given, total-has, total-less, total-map, total-same, total-some, total-zero, when, when-has, when-most}
+use Rattle.targets.proofs.TotalLaws.{total, total-given, total-has, total-less, total-some, when, when-has, when-most}
 
 in-option : (id : List ℕ) (o : Option (List ℕ)) → o ≡ Some id → Contains (of_option o) id
 in-option id o e = subst (λ r. Contains (of_option r) id) (sym e) (Contains-first id [])
@@ -38,9 +38,6 @@ in-option id o e = subst (λ r. Contains (of_option r) id) (sym e) (Contains-fir
 from-option : (id : List ℕ) (o : Option (List ℕ)) → Contains (of_option o) id → o ≡ Some id
 from-option id None h = absurd (Contains-nil id h)
 from-option id (Some x) h = ⊎_elim (λ (e : x ≡ id). ap Some e) (λ k. absurd (Contains-nil id k)) (Contains-cases x [] id h)
-
-some-same : {X : Type 0} (x y : X) → Some x ≡ Some y → x ≡ y
-some-same x y e = cc
 
 -- what is found by an id holds it
 pub one-holds : (p : Located → Bool) (es : List Located) (t : List ℕ) (x : Located) → one_such p (asks es) t ≡ Some x
@@ -108,7 +105,7 @@ module _ (s : PageSet) (clean : IsClean s) (target : List ℕ) (c : Content) (is
 
   key-is : (id : List ℕ) (x : Located) (y : Y) → one_such (is_kind k) (asks (elements s)) id ≡ Some x → form x ≡ Some y → key y ≡ id
   key-is id x y such made =
-      some-same (key y) id (sym (keyed x y made).0 ∙ (such-parts (is_kind k) (elements s) id x such).1)
+      some-inj (key y) id (sym (keyed x y made).0 ∙ (such-parts (is_kind k) (elements s) id x such).1)
 
   -- an item names each
   part-named : (y : Y) → Contains parts y → (f : Located) × Contains (elements s) f × (is_item_of target f ≡ true) × (ref f ≡ Some (key y))

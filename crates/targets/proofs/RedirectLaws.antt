@@ -1,5 +1,5 @@
 -- Roles that have two addresses.
-use Rattle.std.proofs.Common.{◌≡◌, ◌∙◌, ap, sym, refl, arith, ℕ, Bool, true, false, not, cond, List, [], ◌∷◌, ◌++◌, length, map, Option, Some, None, ⊎_elim}
+use Rattle.std.proofs.Common.{◌≡◌, ◌∙◌, ap, sym, refl, arith, ℕ, Bool, true, false, not, cond, List, [], ◌∷◌, ◌++◌, length, map, Option, Some, None}
 use Rattle.std.specs.List.{Contains, filter, list_any}
 use Rattle.std.specs.Option.{option_map_or}
 use Rattle.std.specs.Prelude.{◌&&◌, ◌||◌, nat_lt, bytes_eq, is_some}
@@ -9,7 +9,7 @@ use Rattle.std.proofs.lemmas.List.{map-append}
 use Rattle.std.proofs.lemmas.List.Elements.{filter-append}
 use Rattle.std.proofs.lemmas.Slice.Eq.{bytes_eq-Decides}
 use Rattle.instance_out.proofs.PrefixLaws.{bytes_eq-sym}
-use Rattle.ix_base.proofs.OnceLemmas.{Contains-cases, Contains-filter, Contains-first, Contains-later, Contains-nil, Contains-same}
+use Rattle.ix_base.proofs.OnceLemmas.{Contains-filter, Contains-first, Contains-nil}
 use Rattle.std.specs.Borrow.{Bor}
 use Rattle.indexmap.specs.IndexMap.{IndexMap}
 use Rattle.ix_base.specs.declared.kind.Kind.{Kind}
@@ -21,6 +21,7 @@ use Rattle.ix_base.specs.Located.{Located, is_kind, is_text}
 use Rattle.targets.specs.declared.addresses.Seen.{Seen}
 use Rattle.targets.specs.declared.addresses.Redirects.{Redirects}
 use Rattle.targets.specs.Redirects.{AreSeen, SeesAll, refers_to, seen_at, seen_from, seen_with}
+use Rattle.targets.proofs.MemberLaws.{any-passes, in-map, passes-any}
 
 -- noting some more addresses behind others
 pub seen-append : (o : Option Seen) (xs ys : List (List ℕ)) → seen_from o (xs ++ ys) ≡ seen_from (seen_from o xs) ys
@@ -45,36 +46,17 @@ seen-some s (x ∷ xs) =
     seen-some (seen_with (Some s) x) xs
     ∙ ap (λ b. Some (record { address = s.address; differs = b })) (or-assoc s.differs (differs s.address x) (list_any (differs s.address) xs))
 
-found-by : {X : Type 0} (p : X → Bool) (x : X) (xs : List X) (b : Bool) → p x ≡ b → (list_any p xs ≡ true → (y : X) × Contains xs y × (p y ≡ true))
-    → (b || list_any p xs) ≡ true → (y : X) × Contains (x ∷ xs) y × (p y ≡ true)
-found-by p x xs true e f h = (x, Contains-first x xs, e)
-found-by p x xs false e f h = let at = f h in (at.0, Contains-later x xs at.0 at.1, at.2)
-
-found-any : {X : Type 0} (p : X → Bool) (xs : List X) → list_any p xs ≡ true → (x : X) × Contains xs x × (p x ≡ true)
-found-any p [] h = absurd (cc)
-found-any p (x ∷ xs) h = found-by p x xs (p x) refl (found-any p xs) h
-
-or-true : (b : Bool) → (b || true) ≡ true
-or-true true = refl
-or-true false = refl
-
-any-found : {X : Type 0} (p : X → Bool) (xs : List X) (x : X) → Contains xs x → p x ≡ true → list_any p xs ≡ true
-any-found p [] x h e = absurd (Contains-nil x h)
-any-found p (y ∷ xs) x h e =
-    ⊎_elim (λ (s : y ≡ x). ap (λ b. b || list_any p xs) (ap p s ∙ e))
-    (λ later. ap (λ b. p y || b) (any-found p xs x later e) ∙ or-true (p y)) (Contains-cases y xs x h)
-
 -- what differs from one of some texts, or from another of them
 half : (xs : List (List ℕ)) (a b : List ℕ) → Contains xs a → Contains xs b → list_any (differs a) xs ≡ true → list_any (differs b) xs ≡ true
 half xs a b at-a at-b h =
-    let w = found-any (differs a) xs h in
+    let w = passes-any (differs a) xs h in
     by w.0 w.1 w.2 (bytes_eq b w.0) refl
   where
     by : (y : List ℕ) → Contains xs y → differs a y ≡ true → (t : Bool) → bytes_eq b y ≡ t → list_any (differs b) xs ≡ true
-    by y at d false e = any-found (differs b) xs y at (ap not e)
+    by y at d false e = any-passes (differs b) xs y at (ap not e)
     by y at d true e =
         let same : b ≡ y = (bytes_eq-Decides b y).0 e in
-        any-found (differs b) xs a at-a (ap not (bytes_eq-sym b a) ∙ ap (differs a) same ∙ d)
+        any-passes (differs b) xs a at-a (ap not (bytes_eq-sym b a) ∙ ap (differs a) same ∙ d)
 
 either : (xs : List (List ℕ)) (a b : List ℕ) → Contains xs a → Contains xs b → list_any (differs a) xs ≡ list_any (differs b) xs
 either xs a b at-a at-b = both_ways (list_any (differs a) xs) (list_any (differs b) xs) (half xs a b at-a at-b) (half xs b a at-b at-a)
@@ -114,12 +96,6 @@ any-agree : {X : Type 0} (p q : X → Bool) → ((x : X) → p x ≡ q x) → (x
 any-agree p q h [] = refl
 any-agree p q h (x ∷ xs) = ap (λ b. b || list_any p xs) (h x) ∙ ap (λ b. q x || b) (any-agree p q h xs)
 
-contains-map : {X Y : Type 0} (f : X → Y) (xs : List X) (x : X) → Contains xs x → Contains (map f xs) (f x)
-contains-map f [] x h = absurd (Contains-nil x h)
-contains-map f (y ∷ xs) x h =
-    ⊎_elim (λ (e : y ≡ x). Contains-same (f y) (map f xs) (f x) (ap f e)) (λ later. Contains-later (f y) (map f xs) (f x) (contains-map f xs x later))
-    (Contains-cases y xs x h)
-
 -- a reference to a role, and another one, to the same role at another address
 redirects-by : (bases : Located → List ℕ) (k : Kind) (q : List ℕ) (e x : Located) → ((l : Kind) → same_kind k l ≡ same_kind l k)
     → kind_of e.placed ≡ k → uri_of e ≡ Some q
@@ -136,7 +112,7 @@ pub two-addresses : (bases : Located → List ℕ) (es : List Located) (k : Kind
 two-addresses bases es k q e turn at is kind uri text =
     let here : refers_to k q e ≡ true = ap (λ b. b && is_text q (uri_of e)) kind ∙ text in
     let kept = Contains-filter (refers_to k q) es e at here in
-    two-is (map (address_of bases) (filter (refers_to k q) es)) (address_of bases e) (contains-map (address_of bases) (filter (refers_to k q) es) e kept)
+    two-is (map (address_of bases) (filter (refers_to k q) es)) (address_of bases e) (in-map (address_of bases) (filter (refers_to k q) es) e kept)
     ∙ any-kept (differs (address_of bases e)) (address_of bases) (refers_to k q) es
     ∙ any-agree _ _ (λ x. sym (redirects-by bases k q e x turn is uri)) es
     ∙ any-filter (redirects bases e) es

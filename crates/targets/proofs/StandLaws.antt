@@ -1,5 +1,5 @@
 -- At each place of sound pages one marked element stands.
-use Rattle.std.proofs.Common.{◌≡◌, ◌∙◌, ap, sym, subst, refl, ℕ, suc, ◌+◌, ◌<◌, ◌≤◌, Bool, true, false, cond, List, [], ◌∷◌, ◌++◌, All, map, arith, ⊎_elim}
+use Rattle.std.proofs.Common.{◌≡◌, ◌∙◌, ap, sym, subst, refl, ℕ, suc, ◌<◌, Bool, true, false, cond, List, [], ◌∷◌, ◌++◌, All, map, arith, ⊎_elim}
 use Rattle.std.specs.Prelude.{◌&&◌, ◌==◌}
 use Rattle.std.specs.List.{Contains, filter}
 use Rattle.std.proofs.lemmas.Bool.{and_from, eq-eqb, eqb-false, eqb-true, ne_eqb}
@@ -73,8 +73,8 @@ none-on : (n : ℕ) (ps : List Placed) → Rise (map offset_at ps) → NoneAgain
 none-on n [] up = tt
 none-on n (p ∷ ps) up = (
   λ x h. let from = from-map (on_page n) ps x h in
-  let less : offset_at p < offset_at from.0 = rise-later offset_at (offset_at p) ps from.0 up from.1 in
-  subst (λ y. same_place (on_page n p) y ≡ false) from.2 (other-offset (n == n) (offset_at p) (offset_at from.0) less),
+      let less : offset_at p < offset_at from.0 = rise-later offset_at (offset_at p) ps from.0 up from.1 in
+      subst (λ y. same_place (on_page n p) y ≡ false) from.2 (other-offset (n == n) (offset_at p) (offset_at from.0) less),
   none-on n ps (rise-rest offset_at (offset_at p) (map offset_at ps) up),
 )
 

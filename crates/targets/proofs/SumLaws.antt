@@ -1,6 +1,6 @@
 -- The items and the ids of a content, from the elements of a clean set.
-use Rattle.std.proofs.Common.{◌≡◌, ◌∙◌, ap, sym, subst, refl, ℕ, ◌≤◌, Bool, true, false, List, [], ◌∷◌, Option, Some, None, arith, cond}
-use Rattle.std.specs.Prelude.{◌&&◌, ◌||◌, bytes_eq, not}
+use Rattle.std.proofs.Common.{◌≡◌, ◌∙◌, ap, sym, subst, refl, ℕ, ◌≤◌, true, false, List, arith}
+use Rattle.std.specs.Prelude.{◌||◌, bytes_eq, not}
 use Rattle.std.specs.List.{Contains, filter}
 use Rattle.std.specs.Option.{option_map_or}
 use Rattle.std.proofs.lemmas.Bool.{and_from, and_parts}
