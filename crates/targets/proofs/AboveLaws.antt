@@ -100,7 +100,7 @@ marked_from-nearest n (p ∷ pages) e o h k =
 pub nearest_marked : (pages : List Paged) (e o : Located) → Contains (marked pages) e → nearest_tuple e.page e.placed.above ≡ Some o → Contains (marked pages) o
 nearest_marked pages e o h k = marked_from-nearest 0 pages e o h k
 
-only-there : {X : Type 0} (xs : List X) (x : X) → only xs ≡ Some x → Contains xs x
+pub only-there : {X : Type 0} (xs : List X) (x : X) → only xs ≡ Some x → Contains xs x
 only-there [] x e = absurd (cc)
 only-there (y ∷ []) x e = Contains-same y [] x (cc)
 only-there (y ∷ z ∷ rest) x e = absurd (cc)

@@ -39,7 +39,7 @@ row-none true x h = absurd (cc)
 row-none false x h = refl
 
 -- an element of a page is its number and one of the elements of its tree
-of-map : (n : ℕ) (ps : List Placed) (e : Located) → Contains (map (on_page n) ps) e → (p : Placed) × Contains ps p × (e ≡ on_page n p)
+pub of-map : (n : ℕ) (ps : List Placed) (e : Located) → Contains (map (on_page n) ps) e → (p : Placed) × Contains ps p × (e ≡ on_page n p)
 of-map n [] e h = absurd (Contains-nil e h)
 of-map n (p ∷ ps) e h =
     ⊎_elim (λ (s : on_page n p ≡ e). (p, Contains-first p ps, sym s))
