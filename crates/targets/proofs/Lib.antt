@@ -41,3 +41,15 @@ pub mod TokenFits
 pub mod TotalLaws
 mod ValueLaws
 pub mod WalkLaws
+pub mod ArcLaws
+pub mod BodiesFit
+pub mod BodyLaws
+pub mod HasLaws
+pub mod LinksFit
+pub mod ListsFit
+pub mod OrderFit
+pub mod RolesFit
+pub mod SpelledLaws
+pub mod SuchLaws
+pub mod TupleFit
+pub mod UnbrokenLaws
