@@ -53,3 +53,4 @@ pub mod SpelledLaws
 pub mod SuchLaws
 pub mod TupleFit
 pub mod UnbrokenLaws
+pub mod NoteTexts
