@@ -1,6 +1,6 @@
 -- The footnote links of a target, arc by arc, and what arranging leaves of them.
-use Rattle.std.proofs.Common.{◌≡◌, ◌∙◌, ap, refl, subst, sym, ℕ, Bool, true, false, cond, not, List, [], ◌∷◌, map, Option, Some, None, unwrap_or, ⊎_elim}
-use Rattle.std.specs.List.{AllByRecursion, Contains, cons_option, filter, filter_map, flat_map}
+use Rattle.std.proofs.Common.{◌≡◌, ◌∙◌, ap, refl, subst, sym, ℕ, Bool, true, false, cond, not, List, [], ◌∷◌, map, Option, Some, None, unwrap_or}
+use Rattle.std.specs.List.{AllByRecursion, Contains, cons_option, filter, filter_map}
 use Rattle.std.specs.List.Sorted.{IsStrictlySortedBy}
 use Rattle.std.specs.Ordering.{on}
 use Rattle.std.specs.Prelude.{bytes_eq}
@@ -13,7 +13,7 @@ use Rattle.ix_base.specs.declared.content.Content.{Content}
 use Rattle.ix_base.specs.declared.content.Footnote.{Footnote}
 use Rattle.ix_base.specs.declared.content.NoteLink.{NoteLink}
 use Rattle.ix_base.specs.Asks.{asks}
-use Rattle.ix_base.specs.Ids.{id_of, one_such}
+use Rattle.ix_base.specs.Ids.{one_such}
 use Rattle.ix_base.specs.LinkRules.{from_ids, is_end, is_footnote, is_relationship, named_by, target_of, to_ids}
 use Rattle.ix_base.specs.Located.{Located, is_fact}
 use Rattle.ix_base.specs.Once.{in_order}
@@ -30,7 +30,8 @@ use Rattle.instance_out.specs.Holds.{all_arcs, all_notes}
 use Rattle.ix_base.specs.Said.{said_of}
 use Rattle.instance_out.proofs.ArrangedLaws.{sorted-risen}
 use Rattle.targets.specs.Contents.{IsGathered}
-use Rattle.targets.proofs.HasLaws.{from-filter_map, from-flat, from-map, from-order, from-sorted, in-map, in-order, in-sorted, strict-rises}
+use Rattle.targets.proofs.HasLaws.{from-order, from-sorted, in-order, strict-rises}
+use Rattle.targets.proofs.MemberLaws.{from-flat, from-given, from-map, in-map, in-sorted}
 use Rattle.targets.proofs.SpelledLaws.{AreAlike, same-arc, same-id}
 use Rattle.targets.proofs.SuchLaws.{IsSuch, such-is}
 
@@ -52,7 +53,7 @@ pub record IsBetween (es : List Located) (target : List ℕ) (x : Between) : Typ
 
 named-from : (es : List Located) (p : Located → Bool) (ids : List (List ℕ)) (x : Located) → Contains (named_by p (asks es) ids) x
     → (id : List ℕ) × Contains ids id × IsSuch es p id x
-named-from es p ids x h = let at = from-filter_map (one_such p (asks es)) ids x h in (at.0, at.1, such-is es p at.0 x at.2)
+named-from es p ids x h = let at = from-given (one_such p (asks es)) ids x h in (at.0, at.1, such-is es p at.0 x at.2)
 
 pub all-between : (es : List Located) (target : List ℕ) (x : Between) → Contains (arcs_in es target) x → IsBetween es target x
 all-between es target x h =
@@ -247,7 +248,7 @@ note-from bases es target c g f h =
     let in_own = subst (λ fs. Contains fs f) (link-notes bases es target m.0 m.1) in_link in
     let ids = in_order text_cmp (map label (filter is_footnote (ends (arcs_of es target m.1.role)))) in
     let e = from-map (footnote_of bases (asks es)) (filter_map (one_such is_footnote (asks es)) ids) f (subst (λ (k : NoteLink). Contains k.footnotes f) m.1.is in_own) in
-    let id = from-filter_map (one_such is_footnote (asks es)) ids e.0 e.1 in
+    let id = from-given (one_such is_footnote (asks es)) ids e.0 e.1 in
     let such = such-is es is_footnote id.0 e.0 id.2 in
     (e.0, such.there, such.such, e.2)
 

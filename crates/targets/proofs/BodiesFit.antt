@@ -1,5 +1,5 @@
 -- In a content the body of each footnote is the markup of sound nodes.
-use Rattle.std.proofs.Common.{◌≡◌, ap, subst, sym, suc, ℕ, List, [], ◌∷◌, Some}
+use Rattle.std.proofs.Common.{subst, sym, suc, ℕ, List, [], ◌∷◌, Some}
 use Rattle.std.specs.List.{Contains}
 use Rattle.ix_base.specs.declared.content.Content.{Content}
 use Rattle.ix_base.specs.declared.content.Footnote.{Footnote}

@@ -1,28 +1,22 @@
 -- What lists have, and tests of all that they have.
-use Rattle.std.proofs.Common.{◌≡◌, ◌∙◌, ap, refl, subst, sym, ℕ, Bool, true, false, cond, List, [], ◌∷◌, ◌++◌, map, Option, Some, None, ⊎_elim, inl, inr, ◌⊎◌}
-use Rattle.std.specs.List.{AllByRecursion, Contains, cons_option, filter, filter_map, flat_map, list_all, list_any}
+use Rattle.std.proofs.Common.{◌≡◌, ◌∙◌, ap, refl, subst, sym, ℕ, Bool, true, false, List, [], ◌∷◌, ⊎_elim, inl, inr, ◌⊎◌}
+use Rattle.std.specs.List.{Contains, list_all, list_any}
 use Rattle.std.specs.List.Sorted.{IsStrictlySortedBy}
 use Rattle.std.specs.Cmp.{IsTotalOrder}
 use Rattle.std.specs.Ordering.{is_gt, is_lt}
-use Rattle.std.specs.Prelude.{bytes_eq, not, ◌&&◌, ◌||◌}
+use Rattle.std.specs.Prelude.{bytes_eq, not, ◌||◌}
 use Rattle.std.specs.declared.cmp.Ordering.{Ordering}
 use Rattle.std.specs.declared.cmp.Ordering.TheVariants.{Less, Equal, Greater}
-use Rattle.std.proofs.lemmas.Cmp.{nat_list_cmp_total, tied_itself}
 use Rattle.std.proofs.lemmas.Bool.{and_from, and_parts, or_from, or_left, or_right}
-use Rattle.std.proofs.lemmas.List.Elements.{Contains-append_cases, Contains-append_left, Contains-append_right}
 use Rattle.std.proofs.lemmas.Slice.Eq.{bytes_eq-Decides}
 use Rattle.ix_base.specs.Once.{in_order, put as put_once, put_by as put_once_by}
 use Rattle.ix_base.specs.Sorted.{put, put_by, sorted, text_cmp}
 use Rattle.ix_base.proofs.OnceLemmas.{Contains-cases, Contains-first, Contains-later, Contains-nil, Contains-same, in_order-members}
 use Rattle.ix_base.proofs.OnceOrdered.{same_text}
-use Rattle.instance_out.specs.Lists.{are_apart, has, is_within, rises, strictly}
-use Rattle.instance_out.proofs.ArrangedLaws.{IsFront, Rises}
+use Rattle.instance_out.specs.Lists.{has, rises, strictly}
+use Rattle.instance_out.proofs.ArrangedLaws.{Rises}
 
 -- Tests.
-
-pub all-is : {X : Type 0} (p : X → Bool) (xs : List X) → ((x : X) → Contains xs x → p x ≡ true) → list_all p xs ≡ true
-all-is p [] h = refl
-all-is p (x ∷ xs) h = and_from (p x) (list_all p xs) (h x (Contains-first x xs)) (all-is p xs (λ y k. h y (Contains-later x xs y k)))
 
 pub all-at : {X : Type 0} (p : X → Bool) (xs : List X) → list_all p xs ≡ true → (x : X) → Contains xs x → p x ≡ true
 all-at p [] h x k = absurd (Contains-nil x k)
@@ -51,64 +45,6 @@ has-is (x ∷ ids) id h = ⊎_elim
     (λ (e : x ≡ id). or_left (bytes_eq x id) (has ids id) ((bytes_eq-Decides x id).1 e))
     (λ k. or_right (bytes_eq x id) (has ids id) (has-is ids id k)) (Contains-cases x ids id h)
 
-pub is-has : (ids : List (List ℕ)) (id : List ℕ) → has ids id ≡ true → Contains ids id
-is-has [] id h = absurd (cc)
-is-has (x ∷ ids) id h = by (bytes_eq x id) refl (is-has ids id) h
-  where
-    by : (b : Bool) → bytes_eq x id ≡ b → (has ids id ≡ true → Contains ids id) → (b || has ids id) ≡ true → Contains (x ∷ ids) id
-    by true e rest g = Contains-same x ids id ((bytes_eq-Decides x id).0 e)
-    by false e rest g = Contains-later x ids id (rest g)
-
-pub within-is : (xs ys : List (List ℕ)) → ((x : List ℕ) → Contains xs x → Contains ys x) → is_within xs ys ≡ true
-within-is xs ys h = all-is (has ys) xs (λ x k. has-is ys x (h x k))
-
--- What lists that are made of others have.
-
-pub in-map : {X Y : Type 0} (f : X → Y) (xs : List X) (x : X) → Contains xs x → Contains (map f xs) (f x)
-in-map f [] x h = absurd (Contains-nil x h)
-in-map f (y ∷ xs) x h = ⊎_elim
-    (λ (e : y ≡ x). Contains-same (f y) (map f xs) (f x) (ap f e))
-    (λ later. Contains-later (f y) (map f xs) (f x) (in-map f xs x later)) (Contains-cases y xs x h)
-
-pub from-map : {X Y : Type 0} (f : X → Y) (xs : List X) (y : Y) → Contains (map f xs) y → (x : X) × Contains xs x × (f x ≡ y)
-from-map f [] y h = absurd (Contains-nil y h)
-from-map f (x ∷ xs) y h = ⊎_elim
-    (λ (e : f x ≡ y). (x, Contains-first x xs, e))
-    (λ later. let at = from-map f xs y later in (at.0, Contains-later x xs at.0 at.1, at.2)) (Contains-cases (f x) (map f xs) y h)
-
-pub in-flat : {X Y : Type 0} (f : X → List Y) (xs : List X) (x : X) (y : Y) → Contains xs x → Contains (f x) y → Contains (flat_map f xs) y
-in-flat f [] x y h k = absurd (Contains-nil x h)
-in-flat f (z ∷ xs) x y h k = ⊎_elim
-    (λ (e : z ≡ x). Contains-append_left (f z) (flat_map f xs) y (subst (λ w. Contains (f w) y) (sym e) k))
-    (λ later. Contains-append_right (f z) (flat_map f xs) y (in-flat f xs x y later k)) (Contains-cases z xs x h)
-
-pub from-flat : {X Y : Type 0} (f : X → List Y) (xs : List X) (y : Y) → Contains (flat_map f xs) y → (x : X) × Contains xs x × Contains (f x) y
-from-flat f [] y h = absurd (Contains-nil y h)
-from-flat f (x ∷ xs) y h = ⊎_elim
-    (λ k. (x, Contains-first x xs, k))
-    (λ later. let at = from-flat f xs y later in (at.0, Contains-later x xs at.0 at.1, at.2)) (Contains-append_cases (f x) (flat_map f xs) y h)
-
-pub in-filter_map : {X Y : Type 0} (f : X → Option Y) (xs : List X) (x : X) (y : Y) → Contains xs x → f x ≡ Some y → Contains (filter_map f xs) y
-in-filter_map f [] x y h e = absurd (Contains-nil x h)
-in-filter_map {X} {Y} f (z ∷ xs) x y h e = ⊎_elim
-    (λ (q : z ≡ x). subst (λ o. Contains (cons_option o (filter_map f xs)) y) (sym (ap f q ∙ e)) (Contains-first y (filter_map f xs)))
-    (λ later. put_behind (f z) (in-filter_map f xs x y later e)) (Contains-cases z xs x h)
-  where
-    put_behind : (o : Option Y) → Contains (filter_map f xs) y → Contains (cons_option o (filter_map f xs)) y
-    put_behind None k = k
-    put_behind (Some w) k = Contains-later w (filter_map f xs) y k
-
-pub from-filter_map : {X Y : Type 0} (f : X → Option Y) (xs : List X) (y : Y) → Contains (filter_map f xs) y → (x : X) × Contains xs x × (f x ≡ Some y)
-from-filter_map f [] y h = absurd (Contains-nil y h)
-from-filter_map {X} {Y} f (x ∷ xs) y h = by (f x) refl h (from-filter_map f xs y)
-  where
-    by : (o : Option Y) → f x ≡ o → Contains (cons_option o (filter_map f xs)) y → (Contains (filter_map f xs) y → (z : X) × Contains xs z × (f z ≡ Some y))
-        → (z : X) × Contains (x ∷ xs) z × (f z ≡ Some y)
-    by None e k rest = let at = rest k in (at.0, Contains-later x xs at.0 at.1, at.2)
-    by (Some w) e k rest = ⊎_elim
-        (λ (q : w ≡ y). (x, Contains-first x xs, e ∙ ap Some q))
-        (λ later. let at = rest later in (at.0, Contains-later x xs at.0 at.1, at.2)) (Contains-cases w (filter_map f xs) y k)
-
 -- Lists in order, with repeats.
 
 module _ {X : Type 0} (R : X → X → Ordering) where
@@ -130,23 +66,6 @@ module _ {X : Type 0} (R : X → X → Ordering) where
   from-sorted (x ∷ xs) z h = ⊎_elim
       (λ e. Contains-same x xs z e)
       (λ k. Contains-later x xs z (from-sorted xs z k)) (put-from x (sorted R xs) z h)
-
-  put_by-in : (r : Ordering) (x y : X) (ys behind : List X) (z : X) → ((x ≡ z) ⊎ Contains ys z → Contains behind z) → (x ≡ z) ⊎ Contains (y ∷ ys) z
-      → Contains (put_by r x y ys behind) z
-  put_by-in Less x y ys behind z f h = ⊎_elim (λ e. Contains-same x (y ∷ ys) z e) (λ k. Contains-later x (y ∷ ys) z k) h
-  put_by-in Equal x y ys behind z f h = ⊎_elim (λ e. Contains-same x (y ∷ ys) z e) (λ k. Contains-later x (y ∷ ys) z k) h
-  put_by-in Greater x y ys behind z f h = ⊎_elim
-      (λ e. Contains-later y behind z (f (inl e)))
-      (λ k. ⊎_elim (λ e. Contains-same y behind z e) (λ c. Contains-later y behind z (f (inr c))) (Contains-cases y ys z k)) h
-
-  put-in : (x : X) (ys : List X) (z : X) → (x ≡ z) ⊎ Contains ys z → Contains (put R x ys) z
-  put-in x [] z h = ⊎_elim (λ e. Contains-same x [] z e) (λ k. Contains-later x [] z k) h
-  put-in x (y ∷ ys) z h = put_by-in (R x y) x y ys (put R x ys) z (put-in x ys z) h
-
-  pub in-sorted : (xs : List X) (z : X) → Contains xs z → Contains (sorted R xs) z
-  unfolding sorted
-  in-sorted [] z h = h
-  in-sorted (x ∷ xs) z h = put-in x (sorted R xs) z (⊎_elim inl (λ k. inr (in-sorted xs z k)) (Contains-cases x xs z h))
 
   -- Lists in order, each once.
 
@@ -231,20 +150,3 @@ module _ {X : Type 0} (R : X → X → Ordering) where
 -- texts in order, each once, have what the texts have
 pub in-texts : (xs : List (List ℕ)) (z : List ℕ) → Contains xs z → Contains (in_order text_cmp xs) z
 in-texts xs z h = (in_order-members same_text xs).there z h
-
--- texts that rise strictly are apart
-pub apart-is : (xs : List (List ℕ)) → IsStrictlySortedBy text_cmp xs → are_apart xs ≡ true
-unfolding IsStrictlySortedBy
-apart-is [] h = refl
-apart-is (x ∷ xs) h = and_from (not (list_any (bytes_eq x) xs)) (are_apart xs) (ap not (none-eq xs h.0)) (apart-is xs h.1)
-  where
-    differ : (y : List ℕ) → text_cmp x y ≡ Less → (b : Bool) → bytes_eq x y ≡ b → b ≡ false
-    differ y e false q = refl
-    differ y e true q =
-        let same : x ≡ y = (bytes_eq-Decides x y).0 q in
-        let tie : text_cmp x y ≡ Equal = ap (text_cmp x) (sym same) ∙ tied_itself nat_list_cmp_total x in
-        absurd (let f : Less ≡ Equal = sym e ∙ tie in cc)
-
-    none-eq : (ys : List (List ℕ)) → AllByRecursion (λ y. text_cmp x y ≡ Less) ys → list_any (bytes_eq x) ys ≡ false
-    none-eq [] k = refl
-    none-eq (y ∷ ys) k = or_from (bytes_eq x y) (list_any (bytes_eq x) ys) (differ y k.0 (bytes_eq x y) refl) (none-eq ys k.1)

@@ -54,3 +54,4 @@ pub mod SuchLaws
 pub mod TupleFit
 pub mod UnbrokenLaws
 pub mod NoteTexts
+pub mod LocatorFit

@@ -1,5 +1,5 @@
 -- In a content the locators and footnotes of a link are what its arcs name, and its locators are ids of facts.
-use Rattle.std.proofs.Common.{◌≡◌, ◌∙◌, ap, refl, subst, sym, ℕ, Bool, true, false, not, List, [], ◌∷◌, ◌++◌, map, Option, Some, None, ⊎_elim, inl, inr, ◌⊎◌, length, arith}
+use Rattle.std.proofs.Common.{◌≡◌, ◌∙◌, ap, refl, subst, sym, ℕ, Bool, true, false, not, List, [], ◌∷◌, ◌++◌, map, Some, ⊎_elim, inl, inr, ◌⊎◌, length, arith}
 use Rattle.std.specs.List.{Contains, filter, filter_map, list_any}
 use Rattle.std.specs.Prelude.{bytes_eq, ◌&&◌, ◌||◌}
 use Rattle.std.proofs.lemmas.Bool.{and_from, lt-ltb}
@@ -30,7 +30,8 @@ use Rattle.targets.specs.Groups.{is_fact_of}
 use Rattle.targets.specs.PageSet.{PageSet, base_at, elements}
 use Rattle.targets.proofs.ArcLaws.{IsBetween, IsLinkOf, all-between, arc-among, arc-in, arc-kept, arc-own, arcs_of, arranged-locs, called, from-links, link-arc, link-notes}
 use Rattle.targets.proofs.UnbrokenLaws.{link-unbroken}
-use Rattle.targets.proofs.HasLaws.{all-is, from-filter_map, from-flat, from-map, from-order, has-is, in-filter_map, in-flat, in-map, in-texts, is-has, none-any, within-is}
+use Rattle.targets.proofs.HasLaws.{from-order, in-texts, none-any}
+use Rattle.targets.proofs.MemberLaws.{all-pass, from-flat, from-given, from-map, in-flat, in-given, in-map, within-from}
 use Rattle.targets.proofs.SuchLaws.{IsSuch, such-is, such-too}
 
 with-true : (b c : Bool) → b ≡ true → (b && c) ≡ false → c ≡ false
@@ -106,7 +107,7 @@ module _ (bases : Located → List ℕ) (es : List Located) (target : List ℕ) 
       let such : one_such is_footnote (asks es) (label x.to) ≡ Some x.to =
       ap (one_such is_footnote (asks es)) (called es is_end b.end x.to b.end_such) ∙ such-too es is_end is_footnote b.end x.to b.end_such f in
       let foot = in-map (footnote_of bases (asks es)) (filter_map (one_such is_footnote (asks es)) ids) x.to
-      (in-filter_map (one_such is_footnote (asks es)) ids (label x.to) x.to id such) in
+      (in-given (one_such is_footnote (asks es)) ids (label x.to) x.to id such) in
       let own : Contains kept.footnotes (footnote_of bases (asks es) x.to) = subst (λ fs. Contains fs (footnote_of bases (asks es) x.to)) (sym (link-notes bases es target l k))
       (subst (λ (m : NoteLink). Contains m.footnotes (footnote_of bases (asks es) x.to)) (sym k.is) foot) in
       in-map (λ (n : Footnote). n.id) kept.footnotes (footnote_of bases (asks es) x.to) own
@@ -118,7 +119,7 @@ module _ (bases : Located → List ℕ) (es : List Located) (target : List ℕ) 
       let ids = in_order text_cmp (map label (filter is_footnote (ends xs))) in
       let own = subst (λ (m : NoteLink). Contains m.footnotes f.0) k.is (subst (λ fs. Contains fs f.0) (link-notes bases es target l k) f.1) in
       let e = from-map (footnote_of bases (asks es)) (filter_map (one_such is_footnote (asks es)) ids) f.0 own in
-      let at = from-filter_map (one_such is_footnote (asks es)) ids e.0 e.1 in
+      let at = from-given (one_such is_footnote (asks es)) ids e.0 e.1 in
       let name = called es is_footnote at.0 e.0 (such-is es is_footnote at.0 e.0 at.2) in
       let foot = from-map label (filter is_footnote (ends xs)) at.0 (from-order text_cmp (map label (filter is_footnote (ends xs))) at.0 at.1) in
       let last : label e.0 ≡ id = ap (λ (n : Footnote). n.id) e.2 ∙ f.2 in
@@ -170,13 +171,13 @@ module _ (bases : Located → List ℕ) (es : List Located) (target : List ℕ) 
   some-arcs = let a = arc-kept l k.some.arc (arc-in bases es target l k k.some k.some_there) in not-empty kept.arcs a.0 a.1
 
   starts-within : is_within (map (λ (a : Arc). a.from_id) kept.arcs) kept.locs ≡ true
-  starts-within = within-is (map (λ (a : Arc). a.from_id) kept.arcs) kept.locs (λ id h.
+  starts-within = within-from (map (λ (a : Arc). a.from_id) kept.arcs) kept.locs (λ id h.
       let a = from-map (λ (a : Arc). a.from_id) kept.arcs id h in
       let x = arc-between a.0 a.1 in
       subst (Contains kept.locs) (sym (from-named es target x.0 (between-of x.0 x.1)) ∙ ap (λ (y : Arc). y.from_id) x.2 ∙ a.2) (from-there x.0 x.1))
 
   ends-within : is_within (arc_ends kept) (kept.locs ++ note_ids kept) ≡ true
-  ends-within = within-is (arc_ends kept) (kept.locs ++ note_ids kept) (λ id h.
+  ends-within = within-from (arc_ends kept) (kept.locs ++ note_ids kept) (λ id h.
       let all = kept.locs ++ note_ids kept in
       let a = from-flat (λ (y : Arc). y.from_id ∷ y.to_id ∷ []) kept.arcs id h in
       let x = arc-between a.0 a.1 in
@@ -190,7 +191,7 @@ module _ (bases : Located → List ℕ) (es : List Located) (target : List ℕ) 
       (Contains-cases a.0.from_id (a.0.to_id ∷ []) id a.2))
 
   all-ends : is_within (kept.locs ++ note_ids kept) (arc_ends kept) ≡ true
-  all-ends = within-is (kept.locs ++ note_ids kept) (arc_ends kept) (λ id h. ⊎_elim
+  all-ends = within-from (kept.locs ++ note_ids kept) (arc_ends kept) (λ id h. ⊎_elim
       (λ c. let e = loc-fact id c in subst (Contains (arc_ends kept)) e.3 (end-in e.0 e.1))
       (λ c. let e = note-end id c in subst (Contains (arc_ends kept)) e.2 (end-in e.0 e.1))
       (Contains-append_cases kept.locs (note_ids kept) id h))
@@ -214,13 +215,13 @@ goes-within s clean target x b f =
     let to_fact : one_such is_fact a b.end ≡ Some x.to = such-too es is_end is_fact b.end x.to b.end_such f in
     let from_fact : one_such is_fact a b.start ≡ Some x.from = such-too es is_fact is_fact b.start x.from b.start_such b.start_such.such in
     let any : are_any (named_by is_fact a (to_ids r)) ≡ true =
-    some-any (named_by is_fact a (to_ids r)) x.to (in-filter_map (one_such is_fact a) (to_ids r) b.end x.to b.end_named to_fact) in
+    some-any (named_by is_fact a (to_ids r)) x.to (in-given (one_such is_fact a) (to_ids r) b.end x.to b.end_named to_fact) in
     let whole = link-unbroken s clean rule.L16 (15, omega arith, refl) r b.there in
     let apart = with-true (is_relationship r && are_any (named_by is_fact a (to_ids r)))
     (list_any (λ y. list_any (λ z. not (same_target y z)) facts) facts)
     (and_from (is_relationship r) (are_any (named_by is_fact a (to_ids r))) b.relates any) whole in
-    let from_in = in-filter_map (one_such is_fact a) ids b.start x.from (Contains-append_left (from_ids r) (to_ids r) b.start b.start_named) from_fact in
-    let to_in = in-filter_map (one_such is_fact a) ids b.end x.to (Contains-append_right (from_ids r) (to_ids r) b.end b.end_named) to_fact in
+    let from_in = in-given (one_such is_fact a) ids b.start x.from (Contains-append_left (from_ids r) (to_ids r) b.start b.start_named) from_fact in
+    let to_in = in-given (one_such is_fact a) ids b.end x.to (Contains-append_right (from_ids r) (to_ids r) b.end b.end_named) to_fact in
     let one = none-any (λ y. list_any (λ z. not (same_target y z)) facts) facts apart x.from from_in in
     let two = none-any (λ z. not (same_target x.from z)) facts one x.to to_in in
     let same : target_of x.from ≡ target_of x.to = (bytes_eq-Decides (target_of x.from) (target_of x.to)).0 (not-not (same_target x.from x.to) two) in
@@ -234,7 +235,7 @@ locs-within : (s : PageSet) → IsClean s → (target : List ℕ) (c : Content) 
 locs-within s clean target c have l k =
     let es = elements s in
     let kept = arranged_link l in
-    all-is (has (fact_ids (said_of c).facts)) kept.locs (λ id h.
+    all-pass (has (fact_ids (said_of c).facts)) kept.locs (λ id h.
     let e = loc-fact (base_at s) es target l k id h in
     let x = end-from (arcs_of es target k.role) e.0 e.1 in
     let b = all-between es target x.0 (arc-among es target k.role x.0 x.1) in
@@ -267,7 +268,7 @@ fits-of : (s : PageSet) → IsClean s → (target : List ℕ) (g : Content) → 
     → links_fit (said_of (arranged g)) ≡ true
 unfolding links_fit
 fits-of s clean target g have from =
-    all-is (is_whole_link (fact_ids (said_of (arranged g)).facts)) (arranged g).notes (λ l h.
+    all-pass (is_whole_link (fact_ids (said_of (arranged g)).facts)) (arranged g).notes (λ l h.
     let m = from l h in
     subst (λ k. is_whole_link (fact_ids (said_of (arranged g)).facts) k ≡ true) m.2 (whole-link s clean target (arranged g) have m.0 m.1))
 

@@ -1,15 +1,12 @@
 -- In a content lists are in order, and what is to stand once stands once.
 use Rattle.std.proofs.Common.{◌≡◌, ◌∙◌, ap, refl, subst, sym, ℕ, true, List, map}
 use Rattle.std.specs.Ordering.{on}
-use Rattle.std.specs.Prelude.{◌&&◌}
-use Rattle.std.specs.List.{Contains}
 use Rattle.std.specs.Cmp.{IsTotalOrder}
 use Rattle.std.proofs.lemmas.Bool.{and_from}
 use Rattle.std.proofs.lemmas.Cmp.{nat_list_cmp_total, on_total}
 use Rattle.ix_base.specs.declared.content.Content.{Content}
 use Rattle.ix_base.specs.declared.content.Context.{Context}
 use Rattle.ix_base.specs.declared.content.Fact.{Fact}
-use Rattle.ix_base.specs.declared.content.Footnote.{Footnote}
 use Rattle.ix_base.specs.declared.content.NoteLink.{NoteLink}
 use Rattle.ix_base.specs.declared.content.Unit.{Unit as UnitContent}
 use Rattle.ix_base.specs.Facts.{facts_of}
@@ -32,7 +29,8 @@ use Rattle.targets.specs.Clean.{IsClean}
 use Rattle.targets.specs.Contents.{IsContent, IsGathered}
 use Rattle.targets.specs.PageSet.{PageSet, base_at, elements}
 use Rattle.targets.proofs.ArcLaws.{IsLinkOf, arranged-arcs, arranged-locs, by_note, from-links, link-notes, link-strict, arcs_of}
-use Rattle.targets.proofs.HasLaws.{all-is, rises-is, strictly-is}
+use Rattle.targets.proofs.HasLaws.{rises-is, strictly-is}
+use Rattle.targets.proofs.MemberLaws.{all-pass}
 
 line_total : IsTotalOrder line_cmp
 line_total = on_total line nat_list_cmp_total
@@ -90,7 +88,7 @@ fits-of bases es target c g =
     (sorted-up (λ (u : UnitContent). u.id) c.units))
     (all-facts-up c))
     (links-up c.notes))
-    (all-is link_in_order (arranged c).notes
+    (all-pass link_in_order (arranged c).notes
     (λ l h. let m = from-links bases es target c g l h in
     subst (λ (k : NoteLink). link_in_order k ≡ true) m.2 (link-up bases es target m.0 m.1)))
 

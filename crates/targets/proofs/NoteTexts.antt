@@ -29,8 +29,8 @@ use Rattle.ix_base.specs.Sound.{AreSound, IsSoundTree}
 use Rattle.ix_base.specs.Token.{is_token, token_of}
 use Rattle.ix_base.specs.Trees.{Nodes, Tree, none, chars, elem}
 use Rattle.ix_base.proofs.OnceLemmas.{Contains-cases, Contains-nil}
-use Rattle.footnotes.specs.FootnoteLinks.{Between, arcrole, footnote_of, footnote_role, label, link_role}
-use Rattle.instance_out.specs.Arranged.{arranged, arranged_link}
+use Rattle.footnotes.specs.FootnoteLinks.{Between, arcrole, footnote_of, footnote_role, label}
+use Rattle.instance_out.specs.Arranged.{arranged}
 use Rattle.instance_out.specs.Holds.{all_arcs, all_notes, arc_texts, link_texts, note_texts}
 use Rattle.instance_out.specs.Lists.{of_option}
 use Rattle.instance_out.specs.Proper.{is_full}
@@ -38,9 +38,10 @@ use Rattle.targets.specs.Clean.{IsClean}
 use Rattle.targets.specs.Contents.{IsContent, IsGathered}
 use Rattle.targets.specs.PageSet.{PageSet, base_at, elements}
 use Rattle.targets.proofs.AllowedLaws.{allowed-nil}
-use Rattle.targets.proofs.ArcLaws.{IsBetween, IsLinkOf, all-between, arc-among, arc-from, arranged-role, arcs_of, from-links, note-from}
+use Rattle.targets.proofs.ArcLaws.{IsBetween, all-between, arc-among, arc-from, arranged-role, arcs_of, from-links, note-from}
 use Rattle.targets.proofs.AsciiLaws.{decimal-allowed, plain-allowed}
-use Rattle.targets.proofs.HasLaws.{all-is, from-flat, from-map, in-flat, none-any}
+use Rattle.targets.proofs.HasLaws.{none-any}
+use Rattle.targets.proofs.MemberLaws.{all-pass, from-flat, from-map, in-flat}
 use Rattle.targets.proofs.HoldLaws.{IsGood, good-token}
 use Rattle.targets.proofs.LinksFit.{end-from, loc-fact}
 use Rattle.targets.proofs.MarkupTexts.{marked-allowed}
@@ -288,7 +289,7 @@ module _ (s : PageSet) (clean : IsClean s) where
         (Contains-cases l.role (l.locs ++ (feet ++ arcs)) t at)
 
     all-allowed : list_all are_allowed (flat_map link_texts (arranged c).notes) ≡ true
-    all-allowed = all-is are_allowed (flat_map link_texts (arranged c).notes) (λ t h.
+    all-allowed = all-pass are_allowed (flat_map link_texts (arranged c).notes) (λ t h.
         let l = from-flat link_texts (arranged c).notes t h in
         link-allowed l.0 l.1 t l.2)
 
@@ -307,7 +308,7 @@ module _ (s : PageSet) (clean : IsClean s) where
         let links = map (λ (l : NoteLink). l.role) d.notes in
         let feet = flat_map (λ (f : Footnote). f.role ∷ f.lang ∷ []) (all_notes d) in
         let arcs = map (λ (a : Arc). a.arcrole) (all_arcs d) in
-        all-is is_full (link_tokens d) (λ t h. ⊎_elim
+        all-pass is_full (link_tokens d) (λ t h. ⊎_elim
         (λ k. let l = from-map (λ (l : NoteLink). l.role) d.notes t k in subst (λ y. is_full y ≡ true) l.2 (link-good l.0 l.1).full)
         (λ k. ⊎_elim
         (λ k. let f = from-flat (λ (f : Footnote). f.role ∷ f.lang ∷ []) (all_notes d) t k in foot-good f.0 f.1 t f.2)

@@ -5,19 +5,15 @@ use Rattle.std.specs.Option.{option_map_or}
 use Rattle.std.specs.Prelude.{◌&&◌}
 use Rattle.ix_base.specs.declared.content.Arc.{Arc}
 use Rattle.ix_base.specs.declared.content.Content.{Content}
-use Rattle.ix_base.specs.declared.content.NoteLink.{NoteLink}
 use Rattle.ix_base.specs.declared.kind.Kind.{Kind}
 use Rattle.ix_base.specs.declared.kind.Kind.TheVariants as kind
 use Rattle.ix_base.specs.declared.rule.Rule.TheVariants as rule
-use Rattle.ix_base.specs.Asks.{asks}
 use Rattle.ix_base.specs.ElementRules.{lacks}
 use Rattle.ix_base.specs.Forms.{is_canonical_decimal, is_negative, is_order, unsigned_of}
 use Rattle.ix_base.specs.Kinds.{is_inline, kind_of, same_kind}
-use Rattle.ix_base.specs.LinkRules.{is_relationship}
-use Rattle.ix_base.specs.Located.{Located}
 use Rattle.ix_base.specs.Readers.{attr}
 use Rattle.ix_base.specs.Token.{token_of}
-use Rattle.footnotes.specs.FootnoteLinks.{Between, arc_order, canonical_order}
+use Rattle.footnotes.specs.FootnoteLinks.{Between, canonical_order}
 use Rattle.footnotes.proofs.OrderLaws.{canonical-is}
 use Rattle.instance_out.specs.Arranged.{arranged}
 use Rattle.instance_out.specs.Holds.{all_arcs}
@@ -31,7 +27,7 @@ use Rattle.targets.specs.PageSet.{PageSet, base_at, elements}
 use Rattle.targets.proofs.ArcLaws.{IsBetween, arc-from}
 use Rattle.targets.proofs.UnbrokenLaws.{element-unbroken}
 use Rattle.targets.proofs.CanonicalLaws.{number-passes}
-use Rattle.targets.proofs.HasLaws.{all-is}
+use Rattle.targets.proofs.MemberLaws.{all-pass}
 
 pub relation-inline : (k : Kind) → same_kind k kind.Relationship ≡ true → is_inline k ≡ true
 relation-inline kind.Relationship h = refl
@@ -68,7 +64,7 @@ fits-of : (s : PageSet) → IsClean s → (target : List ℕ) (g : Content) → 
     → (x : Between) × IsBetween (elements s) target x × (x.arc ≡ a)) → orders_fit (said_of (arranged g)) ≡ true
 unfolding orders_fit
 fits-of s clean target g from =
-    all-is (λ a. is_canonical_decimal a.order) (all_arcs (said_of (arranged g)))
+    all-pass (λ a. is_canonical_decimal a.order) (all_arcs (said_of (arranged g)))
     (λ a h. let x = from a h in ap (λ (b : Arc). is_canonical_decimal b.order) (sym x.2) ∙ arc-passes s clean target x.0 x.1)
 
 pub orders-fit : (s : PageSet) → IsClean s → (target : List ℕ) (c : Content) → IsContent (base_at s) (elements s) target c

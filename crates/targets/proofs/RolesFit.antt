@@ -1,8 +1,8 @@
 -- In a content the references for roles and arcroles are used, and stand once for each.
 use Rattle.std.proofs.Common.{◌≡◌, ◌∙◌, ap, refl, subst, sym, ℕ, Bool, true, false, not, List, [], ◌∷◌, ◌++◌, map, Option, Some, None, option_map, ⊎_elim}
-use Rattle.std.specs.List.{AllByRecursion, Contains, cons_option, filter, filter_map, flat_map, list_any}
+use Rattle.std.specs.List.{AllByRecursion, Contains, cons_option, filter, flat_map, list_any}
 use Rattle.std.specs.List.Sorted.{IsStrictlySortedBy}
-use Rattle.std.specs.Prelude.{bytes_eq, ◌&&◌}
+use Rattle.std.specs.Prelude.{bytes_eq}
 use Rattle.std.specs.declared.cmp.Ordering.{Ordering}
 use Rattle.std.specs.declared.cmp.Ordering.TheVariants.{Less, Equal, Greater}
 use Rattle.std.proofs.lemmas.Bool.{and_from}
@@ -23,9 +23,9 @@ use Rattle.ix_base.specs.Sorted.{text_cmp}
 use Rattle.ix_base.proofs.OnceLemmas.{Contains-cases, Contains-first, Contains-later, Contains-nil, in_order-sorted}
 use Rattle.footnotes.specs.FootnoteLinks.{notes}
 use Rattle.instance_out.specs.Arranged.{arranged, arranged_link, by_line}
-use Rattle.instance_out.specs.Canonical.{arcrole_markup, arc_cmp, role_markup}
+use Rattle.instance_out.specs.Canonical.{arcrole_markup, role_markup}
 use Rattle.instance_out.specs.Holds.{all_arcs, all_notes}
-use Rattle.instance_out.specs.Lists.{are_apart, is_within}
+use Rattle.instance_out.specs.Lists.{are_apart}
 use Rattle.instance_out.specs.Proper.{roles_fit}
 use Rattle.ix_base.specs.Said.{said_of}
 use Rattle.targets.specs.Clean.{IsClean}
@@ -33,7 +33,8 @@ use Rattle.targets.specs.Contents.{IsContent, IsGathered, arcroles_in, first_of,
 use Rattle.targets.specs.PageSet.{PageSet, base_at, elements}
 use Rattle.targets.specs.Redirects.{refers_to}
 use Rattle.targets.proofs.ArcLaws.{all-links, arc-kept, arranged-role, in-links, link-notes}
-use Rattle.targets.proofs.HasLaws.{any-none, from-filter_map, from-flat, from-map, from-order, in-flat, in-map, once-from, within-is}
+use Rattle.targets.proofs.HasLaws.{any-none, from-order, once-from}
+use Rattle.targets.proofs.MemberLaws.{from-flat, from-given, from-map, in-flat, in-map, within-from}
 
 -- no two of these have one text
 module _ {X : Type 0} (f : X → List ℕ) where
@@ -87,7 +88,7 @@ ref-uri uri (Some x) r e = let same : role_to uri x ≡ r = cc in ap (λ (q : Ro
 module _ (bases : Located → List ℕ) (es : List Located) (k : Kind) where
   ref-from : (uris : List (List ℕ)) (r : RoleRef) → Contains (roles_for bases es k uris) r → Contains uris r.uri
   ref-from uris r h =
-      let at = from-filter_map (role_at bases es k) uris r h in
+      let at = from-given (role_at bases es k) uris r h in
       let same = ref-uri at.0 (first_of (map (address_of bases) (filter (refers_to k at.0) es))) r at.2 in
       subst (Contains uris) (sym same) at.1
 
@@ -169,12 +170,12 @@ module _ (bases : Located → List ℕ) (es : List Located) (target : List ℕ) 
   unfolding roles_fit arranged
   fits-of =
       and_from _ _ (and_from _ _ (and_from _ _
-      (within-is (map (λ (r : RoleRef). r.uri) (arranged c).roles)
+      (within-from (map (λ (r : RoleRef). r.uri) (arranged c).roles)
       (map (λ (l : NoteLink). l.role) (arranged c).notes ++ map (λ (f : Footnote). f.role) (all_notes (said_of (arranged c))))
       (λ t h. let r = from-map (λ (r : RoleRef). r.uri) (arranged c).roles t h in
       subst (Contains (map (λ (l : NoteLink). l.role) (arranged c).notes ++ map (λ (f : Footnote). f.role) (all_notes (said_of (arranged c))))) r.2
       (role-used r.0 r.1)))
-      (within-is (map (λ (r : RoleRef). r.uri) (arranged c).arcroles) (map (λ (a : Arc). a.arcrole) (all_arcs (said_of (arranged c))))
+      (within-from (map (λ (r : RoleRef). r.uri) (arranged c).arcroles) (map (λ (a : Arc). a.arcrole) (all_arcs (said_of (arranged c))))
       (λ t h. let r = from-map (λ (r : RoleRef). r.uri) (arranged c).arcroles t h in
       subst (Contains (map (λ (a : Arc). a.arcrole) (all_arcs (said_of (arranged c))))) r.2 (arcrole-used r.0 r.1))))
       (refs-apart kind.RoleRef roles_in (by_line role_markup) c.roles g.roles))

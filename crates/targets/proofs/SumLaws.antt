@@ -80,7 +80,7 @@ module _ (s : PageSet) (clean : IsClean s) (target : List ℕ) (c : Content) (is
       let some = when-has (not (is_tuple f)) (u f) found.4 in
       (f, found.1, and_from (is_item f) (bytes_eq target (target_of f)) (kind-item (kind_of f.placed) found.2 some.0) found.3, some.1)
 
-  ids-sum : (w : List ℕ → ℕ) → total w (fact_ids (facts_of c.facts)) ≡ total (λ e. option_map_or w (id_of e) 0) (told s clean target)
+  pub ids-sum : (w : List ℕ → ℕ) → total w (fact_ids (facts_of c.facts)) ≡ total (λ e. option_map_or w (id_of e) 0) (told s clean target)
   unfolding arranged
   ids-sum w =
       let g = is.0 in

@@ -3,7 +3,7 @@ use Rattle.std.proofs.Common.{◌≡◌, ◌∙◌, ap, refl, subst, sym, ℕ, z
 use Rattle.std.specs.List.{Contains, filter, list_all}
 use Rattle.std.specs.Option.{option_map_or}
 use Rattle.std.specs.Ordering.{on}
-use Rattle.std.specs.Prelude.{nat_le, ◌&&◌, ◌||◌}
+use Rattle.std.specs.Prelude.{nat_le, ◌&&◌}
 use Rattle.std.proofs.lemmas.Bool.{and_from, and_parts, both_ways, le-leb, or_parts}
 use Rattle.ix_base.specs.declared.content.Content.{Content}
 use Rattle.ix_base.specs.declared.content.Fact.{Fact, out-Fact, the_lemmas}
@@ -14,10 +14,9 @@ use Rattle.ix_base.specs.declared.content.Tuple.{Tuple}
 use Rattle.ix_base.specs.declared.rule.Rule.TheVariants as rule
 use Rattle.ix_base.specs.Asks.{asks}
 use Rattle.ix_base.specs.Facts.{Facts, before, facts_of, item, none, tuple}
-use Rattle.ix_base.specs.Ids.{one_tuple}
 use Rattle.ix_base.specs.LinkRules.{lacks_tuple}
 use Rattle.ix_base.specs.Located.{Located, is_fact, is_nil, same_place}
-use Rattle.ix_base.specs.Membership.{deepest, is_owned_by, members, order_of, owner, tuple_ref_of}
+use Rattle.ix_base.specs.Membership.{deepest, is_owned_by, members, order_of, owner}
 use Rattle.ix_base.specs.Orders.{order_cmp}
 use Rattle.ix_base.specs.Sorted.{sorted}
 use Rattle.ix_base.proofs.FactLaws.{before-Item, before-Tuple}
@@ -30,12 +29,13 @@ use Rattle.ix_base.specs.Said.{said_of}
 use Rattle.instance_out.specs.Writable.{depth}
 use Rattle.instance_out.proofs.WritableLaws.{writable-arranged}
 use Rattle.targets.specs.Clean.{IsClean}
-use Rattle.targets.specs.Contents.{IsContent, IsGathered, SaysItem, is_outer}
+use Rattle.targets.specs.Contents.{IsContent, SaysItem, is_outer}
 use Rattle.targets.specs.PageSet.{PageSet, base_at, elements}
 use Rattle.targets.specs.TargetFacts.{AreFacts, members_read, one_less}
 use Rattle.targets.proofs.UnbrokenLaws.{elements-apart, elements-owned, link-unbroken, none-too-deep}
 use Rattle.targets.proofs.ContentLaws.{gathered-writable}
-use Rattle.targets.proofs.HasLaws.{all-at, all-is, from-sorted}
+use Rattle.targets.proofs.HasLaws.{all-at, from-sorted}
+use Rattle.targets.proofs.MemberLaws.{all-pass}
 
 owner-at : (t : Located) (o : Option Located) → option_map_or (same_place t) o false ≡ true → (p : Located) × (o ≡ Some p) × (same_place t p ≡ true)
 owner-at t None h = absurd (cc)
@@ -130,7 +130,7 @@ unfolding arranged
 empty-arranged c h =
     let R = by_line (fact_markup (content_spaces c (facts_of c.facts))) in
     empty-all (sorted R c.facts)
-    ∙ all-is empty_in (sorted R c.facts) (λ f k. all-at empty_in c.facts (sym (empty-all c.facts) ∙ h) f (from-sorted R c.facts f k))
+    ∙ all-pass empty_in (sorted R c.facts) (λ f k. all-at empty_in c.facts (sym (empty-all c.facts) ∙ h) f (from-sorted R c.facts f k))
 
 fits-of : (c : Content) → nil_is_empty (facts_of c.facts) ≡ true → depth (facts_of c.facts) ≤ 100 → tuples_fit (said_of c) ≡ true
 unfolding tuples_fit
