@@ -1,5 +1,5 @@
 -- Texts of printable ASCII characters, such as numbers, are of allowed characters.
-use Rattle.std.proofs.Common.{◌≡◌, ◌∙◌, ap, sym, subst, refl, ℕ, ◌<◌, ◌≤◌, Bool, true, false, cond, not, List, [], ◌∷◌, ◌++◌, Option, None, Some, arith, bytes_eq, codes}
+use Rattle.std.proofs.Common.{◌≡◌, ◌∙◌, ap, refl, ℕ, Bool, true, false, cond, not, List, [], ◌∷◌, ◌++◌, Option, None, Some, arith, bytes_eq, codes}
 use Rattle.std.specs.List.{All, list_all}
 use Rattle.std.specs.Prelude.{◌&&◌, ◌||◌, ◌==◌, nat_le}
 use Rattle.std.specs.Str.{IsAscii}
@@ -51,7 +51,7 @@ plain-allowed t h =
 
 -- Numbers.
 
-digit-plain : (c : ℕ) → is_digit c ≡ true → is_plain c ≡ true
+pub digit-plain : (c : ℕ) → is_digit c ≡ true → is_plain c ≡ true
 digit-plain c h =
     let z = and_parts (nat_le 48 c) (nat_le c 57) h in
     let low = leb-true 48 c z.0 in

@@ -7,7 +7,7 @@ use Rattle.std.specs.declared.cmp.Ordering.{Ordering}
 use Rattle.std.proofs.lemmas.Bool.{and_from, and_parts}
 use Rattle.std.proofs.lemmas.List.Elements.{All-append, All-cons, All-contains_itself, All-head, All-nil, All-tail, All-weaker}
 use Rattle.ix_base.proofs.FactLaws.{before-Item, before-Tuple}
-use Rattle.ix_base.proofs.OnceLemmas.{Contains-first, Contains-from_filter, Contains-later}
+use Rattle.ix_base.proofs.OnceLemmas.{Contains-from_filter}
 use Rattle.ix_base.specs.declared.content.Content.{Content}
 use Rattle.ix_base.specs.declared.content.Context.{Context}
 use Rattle.ix_base.specs.declared.content.Fact.{Fact, out-Fact, the_lemmas}
@@ -26,7 +26,7 @@ use Rattle.ix_base.specs.Kinds as kinds
 use Rattle.ix_base.specs.Kinds.{kind_of, same_kind}
 use Rattle.ix_base.specs.LinkRules.{target_of}
 use Rattle.ix_base.specs.Located.{Located, is_fact, is_item, is_kind, is_tuple}
-use Rattle.ix_base.specs.Membership.{deepest, fact_name, members, owner}
+use Rattle.ix_base.specs.Membership.{deepest, fact_name, owner}
 use Rattle.ix_base.specs.Sorted.{sorted, text_cmp}
 use Rattle.instance_out.specs.Arranged.{arranged, by_line}
 use Rattle.instance_out.specs.Canonical.{content_spaces, fact_names}

@@ -1,5 +1,5 @@
 -- What the normal forms of contexts and units in sound trees hold: names, allowed texts, and tokens that aren't empty.
-use Rattle.std.proofs.Common.{◌≡◌, ◌∙◌, ap, sym, subst, refl, ℕ, Bool, true, false, cond, not, List, [], ◌∷◌, Option, None, Some, map, codes}
+use Rattle.std.proofs.Common.{◌≡◌, ◌∙◌, ap, sym, subst, ℕ, true, not, List, [], ◌∷◌, Option, None, Some, map, codes}
 use Rattle.std.specs.List.{All}
 use Rattle.std.specs.Prelude.{◌&&◌}
 use Rattle.std.proofs.lemmas.Bool.{and_from}
@@ -17,11 +17,10 @@ use Rattle.ix_base.specs.Namespaces.{xbrldi_namespace, xbrli_namespace}
 use Rattle.ix_base.specs.NcName.{are_allowed, is_ncname}
 use Rattle.ix_base.specs.OwnNames.{name_cmp, own}
 use Rattle.ix_base.specs.Readers.{attr, name_at}
-use Rattle.ix_base.specs.Resolving.{name_of}
 use Rattle.ix_base.specs.Sorted.{sorted}
 use Rattle.ix_base.specs.Sound.{AreSound, IsSoundName}
 use Rattle.ix_base.specs.Steps.{each, sole}
-use Rattle.ix_base.specs.Token.{is_token, token_of}
+use Rattle.ix_base.specs.Token.{token_of}
 use Rattle.ix_base.specs.Trees.{Named, Nodes, Tree}
 use Rattle.ix_base.specs.UnitForm.{Ratio, divided, measures_in, ratio_in, unit}
 use Rattle.xbrl_parts.proofs.SmallTimes.{by_side, chosen, step_ok}

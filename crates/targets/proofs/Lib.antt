@@ -1,8 +1,11 @@
 mod AboveLaws
 pub mod AllowedLaws
 mod AmongLaws
+pub mod ArcLaws
 pub mod AsciiLaws
 mod BelowLaws
+pub mod BodiesFit
+pub mod BodyLaws
 pub mod CanonicalLaws
 mod ChainLaws
 pub mod CleanLaws
@@ -17,41 +20,41 @@ pub mod FormFits
 pub mod FormLaws
 pub mod FromElements
 mod GroupLaws
+pub mod HasLaws
 pub mod HeardLaws
 pub mod HoldLaws
 pub mod IdsFit
 mod LinkLaws
+pub mod LinksFit
+pub mod ListsFit
+pub mod LocatorFit
 pub mod MarkupTexts
 pub mod MemberLaws
 pub mod NameFits
 mod NoteLaws
 pub mod NoteSums
+pub mod NoteTexts
 pub mod NumberFits
+pub mod OrderFit
 pub mod OrderedFacts
 pub mod PartLaws
 pub mod PartsFit
 mod PlaceLaws
+pub mod ProperLaws
 mod RedirectLaws
 pub mod RefLaws
+pub mod RolesFit
 pub mod SoundLaws
+pub mod SpelledLaws
 pub mod StandLaws
+pub mod SuchLaws
 pub mod SumLaws
+pub mod TextFits
 mod TimelyLaws
 pub mod TokenFits
 pub mod TotalLaws
-mod ValueLaws
-pub mod WalkLaws
-pub mod ArcLaws
-pub mod BodiesFit
-pub mod BodyLaws
-pub mod HasLaws
-pub mod LinksFit
-pub mod ListsFit
-pub mod OrderFit
-pub mod RolesFit
-pub mod SpelledLaws
-pub mod SuchLaws
 pub mod TupleFit
 pub mod UnbrokenLaws
-pub mod NoteTexts
-pub mod LocatorFit
+mod ValueLaws
+pub mod ValueTexts
+pub mod WalkLaws

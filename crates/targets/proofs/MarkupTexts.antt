@@ -1,11 +1,10 @@
 -- Markup of sound nodes, and their plain text, are of allowed characters.
-use Rattle.std.proofs.Common.{◌≡◌, ◌∙◌, ap, sym, subst, refl, ℕ, zero, suc, ◌<◌, ◌≤◌, Bool, true, false, cond, not, List, [], ◌∷◌, ◌++◌, Option, None, Some, option_map, arith, append-nil, bytes_eq, codes, encode_utf8, inl, inr, ◌⊎◌, length, map}
+use Rattle.std.proofs.Common.{◌≡◌, ◌∙◌, ap, sym, refl, ℕ, ◌<◌, ◌≤◌, Bool, true, false, cond, not, List, [], ◌∷◌, ◌++◌, Option, None, Some, option_map, arith, append-nil, bytes_eq, codes, encode_utf8, inl, inr, ◌⊎◌, length, map}
 use lib.Utf8.{encodes}
 use Rattle.std.proofs.Math.Dec.{leb, ltb}
 use Rattle.std.specs.Char.{IsScalar}
-use Rattle.std.specs.List.{All, Contains, filter, flat_map, list_all}
-use Rattle.std.specs.Prelude.{◌&&◌, ◌||◌, ◌==◌, if◌then◌else◌, is_some, nat_lt, option_and_then}
-use Rattle.std.specs.Option.{option_map_or}
+use Rattle.std.specs.List.{All, filter, list_all}
+use Rattle.std.specs.Prelude.{◌&&◌, ◌||◌, ◌==◌, if◌then◌else◌, is_some, nat_lt}
 use Rattle.std.specs.Str.{chars}
 use Rattle.std.proofs.lemmas.Bool.{and_from, and_parts, le-leb, lt-ltb}
 use Rattle.std.proofs.lemmas.Bool.Decides.{nat_tests}
@@ -14,14 +13,10 @@ use Rattle.std.proofs.lemmas.List.Elements.{All-append, All-cons, All-filter, Al
 use Rattle.std.proofs.lemmas.Str.{IsUtf8-encode, chars-encodes, encodes-chars}
 use Rattle.ix_base.proofs.EscapeLemmas.{IsLow, ae_low, front-next, front-start, te_low}
 use Rattle.ix_base.specs.Address.{is_link, joined_url, link_or, longest_link, resolved, url_of}
-use Rattle.ix_base.specs.Asks.{asks}
-use Rattle.ix_base.specs.Chain.{chain, chain_of, continuation, continued_at, next}
 use Rattle.ix_base.specs.Escapes.{ae, ae_ref, escaped, te, te_ref, written_as}
 use Rattle.ix_base.specs.Located.{Located}
-use Rattle.ix_base.specs.Markup.{Manner, Kept, LeftOut, Opened, attribute_cmp, attribute_of, base_below, body, body_along, declaration, element_by, ends_short, is_link_of, is_silent, is_written, link_at, manner, markup_along, own_attributes, plain, plain_along, plain_by, put_words, raw, value_by, written_name}
-use Rattle.ix_base.specs.Namespaces.{xhtml_namespace}
+use Rattle.ix_base.specs.Markup.{Manner, Kept, LeftOut, Opened, attribute_cmp, attribute_of, base_below, body, body_along, declaration, element_by, ends_short, is_link_of, is_silent, is_written, manner, markup_along, own_attributes, plain, plain_along, plain_by, put_words, value_by, written_name}
 use Rattle.ix_base.specs.NcName.{are_allowed, is_allowed}
-use Rattle.ix_base.specs.Readers.{escapes}
 use Rattle.ix_base.specs.Sound.{AreSound, IsSoundAttribute, IsSoundHead}
 use Rattle.ix_base.specs.Token.{is_token}
 use Rattle.ix_base.specs.Trees.{Head, Named, Nodes, Valued, none, chars as chars_of, elem}

@@ -1,9 +1,9 @@
 -- The names of a content are names, and those of its facts are in no namespace of the standard.
-use Rattle.std.proofs.Common.{◌≡◌, ◌≢◌, ◌∙◌, ap, sym, subst, refl, ℕ, Bool, true, false, cond, not, List, [], ◌∷◌, ◌++◌, Option, None, Some, option_map, codes, arith, bytes_eq}
+use Rattle.std.proofs.Common.{◌≡◌, ◌∙◌, ap, sym, subst, refl, ℕ, Bool, true, false, cond, not, List, [], ◌∷◌, ◌++◌, Option, None, Some, option_map, codes, arith, bytes_eq}
 use Rattle.std.specs.List.{All, Contains, flat_map, list_any}
 use Rattle.std.specs.Option.{option_map_or}
 use Rattle.std.specs.Prelude.{◌&&◌, ◌||◌, Ok, Err, is_none, unwrap_or}
-use Rattle.std.proofs.lemmas.Bool.{and_from, and_parts, or_parts}
+use Rattle.std.proofs.lemmas.Bool.{and_from, or_parts}
 use Rattle.std.proofs.lemmas.List.Elements.{All-append, All-cons, All-nil, All-weaker}
 use Rattle.std.proofs.lemmas.Slice.Eq.{bytes_eq-Decides}
 use Rattle.ix_base.specs.declared.content.Content.{Content}
@@ -23,9 +23,8 @@ use Rattle.ix_base.specs.Facts.{facts_of}
 use Rattle.ix_base.specs.Forms.{are_names, is_name_token, is_qname_token}
 use Rattle.ix_base.specs.Kinds as kinds
 use Rattle.ix_base.specs.Kinds.{is_inline, kind_of, same_kind}
-use Rattle.ix_base.specs.Located.{Located, is_fact, is_item, is_tuple}
+use Rattle.ix_base.specs.Located.{Located, is_fact}
 use Rattle.ix_base.specs.Namespaces.{xmlns_namespace}
-use Rattle.ix_base.specs.NcName.{is_ncname}
 use Rattle.ix_base.specs.OwnNames.{own}
 use Rattle.ix_base.specs.Readers.{attr, fact_name, name_at}
 use Rattle.ix_base.specs.Resolving.{if_ok, is_unbound, name_of}
@@ -42,7 +41,7 @@ use Rattle.targets.specs.Contents.{IsContent}
 use Rattle.targets.specs.PageSet.{PageSet, base_at, elements}
 use Rattle.targets.proofs.BelowLaws.{all-flat}
 use Rattle.targets.proofs.FitLaws.{fact-inline, none-broken, not-not, with-test}
-use Rattle.targets.proofs.FromElements.{Every, FromContext, FromItem, FromTuple, FromUnit, all-pass, contexts-from, every-name, every-weaker, facts-from, units-from}
+use Rattle.targets.proofs.FromElements.{FromContext, FromItem, FromTuple, FromUnit, all-pass, contexts-from, every-name, every-weaker, facts-from, units-from}
 use Rattle.targets.proofs.HoldLaws.{IsSoundContext, IsSoundDim, IsSoundMember, IsSoundOwn, IsSoundUnit, context-sound, own-sound, unit-sound}
 use Rattle.targets.proofs.SoundLaws.{IsSoundAt, name_at-sound, sound-at}
 
@@ -77,6 +76,7 @@ has-name t miss form space = by (attr (codes "name") t) refl miss form space
         ∙ ap (λ x. if_ok (cond x (Err Unbound) (Ok (element_name t.head.scope (token_of v))))) bound
     resolved-by v true true is bound e f = absurd (cc)
     resolved-by v false u is bound e f = absurd (cc)
+
     by : (o : Option (List ℕ)) → attr (codes "name") t ≡ o → is_none o ≡ false → option_map_or (λ v. not (is_qname_token v)) o false ≡ false
         → option_map_or (λ v. is_qname (token_of v) && is_unbound t.head.scope (token_of v)) o false ≡ false → (n : Named) × (name_at (codes "name") t ≡ Some n)
     by None is m f s = absurd (cc)

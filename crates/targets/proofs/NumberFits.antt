@@ -1,5 +1,5 @@
 -- The numbers of a content: how exact each is, its unit and its text, and the parts of fractions.
-use Rattle.std.proofs.Common.{◌≡◌, ◌∙◌, ap, sym, subst, refl, ℕ, Bool, true, false, cond, not, List, [], ◌∷◌, Option, None, Some, option_map, codes, arith, bytes_eq}
+use Rattle.std.proofs.Common.{◌≡◌, ◌∙◌, ap, sym, subst, refl, ℕ, Bool, true, false, cond, not, List, [], ◌∷◌, Option, None, Some, option_map, codes, arith}
 use Rattle.std.specs.List.{Contains, list_any}
 use Rattle.std.specs.Option.{option_map_or, option_or}
 use Rattle.std.specs.Prelude.{◌&&◌, ◌||◌, ◌==◌, is_none, is_some, Result, Ok, Err}
@@ -16,7 +16,7 @@ use Rattle.ix_base.specs.declared.rule.Rule.{Rule}
 use Rattle.ix_base.specs.declared.rule.Rule.TheVariants as rule
 use Rattle.ix_base.specs.Asks.{asks}
 use Rattle.ix_base.specs.ElementRules.{breaks, breaks_accuracy, breaks_required, element_rules, misses, required}
-use Rattle.ix_base.specs.Forms.{integer_form, is_canonical_decimal, is_decimals, is_infinite, is_integer, is_negative, is_precision, is_whole_part, is_zero, size_of}
+use Rattle.ix_base.specs.Forms.{integer_form, is_canonical_decimal, is_decimals, is_infinite, is_integer, is_negative, is_precision, is_zero, size_of}
 use Rattle.ix_base.specs.Kinds.{kind_of}
 use Rattle.ix_base.specs.Located.{Located}
 use Rattle.ix_base.specs.Readers.{attr, is_nil}
@@ -102,7 +102,7 @@ over-is n d v e = by (is_zero d) refl e where
   by true z f = absurd (cc)
   by false z f = (cc, z)
 
-fraction-is : (v : Value) (n d : Result (List ℕ) Rule) → Ok v ≡ fraction n d
+pub fraction-is : (v : Value) (n d : Result (List ℕ) Rule) → Ok v ≡ fraction n d
     → (a : List ℕ) × (b : List ℕ) × (n ≡ Ok a) × (d ≡ Ok b) × (v ≡ value.Fraction a b) × (is_zero b ≡ false)
 fraction-is v (Ok n) (Ok d) e = let is = over-is n d v e in (n, d, refl, refl, is.0, is.1)
 fraction-is v (Ok n) (Err r) e = absurd (cc)
@@ -110,10 +110,10 @@ fraction-is v (Err q) (Ok d) e = absurd (cc)
 fraction-is v (Err q) (Err r) e = absurd (cc)
 
 -- the text of a number passes
-value-passes : (n : Number) (text : List ℕ) → IsNumberValue n (Ok text) → is_canonical_decimal text ≡ true
+pub value-passes : (n : Number) (text : List ℕ) → IsNumberValue n (Ok text) → is_canonical_decimal text ≡ true
 value-passes n text h = number-passes h.0 n.scale n.negative text h.2
 
-ratio-of : (t : Tree) (v : Value) → IsFractionValue t (Ok v) → (is_ratio v ≡ true) × ((u : Option (List ℕ)) → is_number u v None ≡ true)
+pub ratio-of : (t : Tree) (v : Value) → IsFractionValue t (Ok v) → (is_ratio v ≡ true) × ((u : Option (List ℕ)) → is_number u v None ≡ true)
 ratio-of t v (n, (hn, (d, (hd, e)))) =
     let is = fraction-is v n d e in
     let a = is.0 in

@@ -2,7 +2,6 @@
 use Rattle.std.proofs.Common.{◌≡◌, ◌∙◌, ap, sym, subst, refl, ℕ, Bool, true, false, cond, not, List, [], ◌∷◌, Option, None, Some, option_map, map, length, codes, arith, bytes_eq}
 use Rattle.std.specs.List.{All, Contains, cons_option, filter, filter_map}
 use Rattle.std.specs.Option.{option_map_or}
-use Rattle.std.specs.Ordering.{on}
 use Rattle.std.specs.Prelude.{◌&&◌, ◌||◌, ◌==◌, is_some, nat_lt, unwrap_or}
 use Rattle.std.specs.declared.cmp.Ordering.{Ordering}
 use Rattle.std.specs.declared.cmp.Ordering.TheVariants.{Less, Equal, Greater}
@@ -26,7 +25,7 @@ use Rattle.ix_base.specs.Located.{Located, is_kind, is_text}
 use Rattle.ix_base.specs.Namespaces.{xlink_namespace}
 use Rattle.ix_base.specs.NcName.{are_allowed}
 use Rattle.ix_base.specs.Once.{in_order, put, put_by}
-use Rattle.ix_base.specs.Readers.{attr, token_at}
+use Rattle.ix_base.specs.Readers.{token_at}
 use Rattle.ix_base.specs.Token.{is_token, token_of}
 use Rattle.ix_base.specs.Trees.{Tree}
 use Rattle.url.specs.Parts.{Parts, serialize}
@@ -34,10 +33,10 @@ use Rattle.instance_out.specs.Arranged.{arranged, by_line}
 use Rattle.instance_out.specs.Canonical.{arcrole_markup, linkbase_markup, role_markup, schema_markup}
 use Rattle.instance_out.specs.Lists.{of_option}
 use Rattle.targets.specs.Clean.{IsClean}
-use Rattle.targets.specs.Contents.{IsContent, first_of, if_any, is_linkbase_for, linkbase_at, role_at, role_to, roles_for}
+use Rattle.targets.specs.Contents.{IsContent, first_of, if_any, is_linkbase_for, linkbase_at, role_at, role_to}
 use Rattle.targets.specs.PageSet.{PageSet, base_at, elements}
 use Rattle.targets.specs.Redirects.{refers_to}
-use Rattle.targets.proofs.AllowedLaws.{allowed-nil, token-allowed}
+use Rattle.targets.proofs.AllowedLaws.{allowed-nil}
 use Rattle.targets.proofs.FitLaws.{none-broken, not-not}
 use Rattle.targets.proofs.HoldLaws.{IsGood, good-token}
 use Rattle.targets.proofs.SoundLaws.{IsSoundAt, attribute-sound, sound-at}

@@ -1,10 +1,9 @@
 -- What stands in sound trees: sound elements, allowed texts, and names.
-use Rattle.std.proofs.Common.{◌≡◌, ◌≢◌, ◌∙◌, ap, sym, subst, refl, ℕ, suc, Bool, true, false, cond, not, List, [], ◌∷◌, ◌++◌, Option, None, Some, option_map, map, bytes_eq, codes, ⊎_elim}
+use Rattle.std.proofs.Common.{◌≡◌, ◌≢◌, ◌∙◌, ap, sym, subst, refl, ℕ, suc, Bool, true, false, cond, not, List, [], ◌∷◌, ◌++◌, Option, None, Some, option_map, map, bytes_eq, ⊎_elim}
 use Rattle.std.specs.List.{All, Contains, after_first, before_first}
-use Rattle.std.specs.Prelude.{◌&&◌, Ok, Err, is_none, unwrap_or}
+use Rattle.std.specs.Prelude.{◌&&◌, Ok, Err, unwrap_or}
 use Rattle.std.proofs.lemmas.Bool.{and_parts}
 use Rattle.std.proofs.lemmas.List.Elements.{All-append, All-cons, All-contains, All-head, All-nil, All-tail, Contains-append_cases}
-use Rattle.std.proofs.lemmas.Slice.Eq.{bytes_eq-Decides}
 use Rattle.ix_base.proofs.OnceLemmas.{Contains-from_filter, Contains-nil}
 use Rattle.ix_base.specs.Attributes.{is_named, value_of}
 use Rattle.ix_base.specs.Elements.{Placed, below, elements_of, placed_at, tree_at}
@@ -13,7 +12,7 @@ use Rattle.ix_base.specs.Located.{Located, Paged, is_marked, marked_from, on_pag
 use Rattle.ix_base.specs.Namespaces.{xmlns_namespace}
 use Rattle.ix_base.specs.NcName.{are_allowed, is_ncname}
 use Rattle.ix_base.specs.Readers.{attr, name_at, token_at}
-use Rattle.ix_base.specs.Resolving.{if_ok, is_unbound, name_in, name_of}
+use Rattle.ix_base.specs.Resolving.{if_ok, is_unbound, name_of}
 use Rattle.ix_base.specs.declared.name_fault.NameFault.TheVariants.{BadForm, Unbound}
 use Rattle.ix_base.specs.Scope.{element_name, has_prefix, is_colon, is_qname, local_of, namespace_of, prefix_of}
 use Rattle.ix_base.specs.Sound.{AreSound, IsSoundAttribute, IsSoundBinding, IsSoundHead, IsSoundName, IsSoundTree}

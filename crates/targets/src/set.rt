@@ -2,6 +2,7 @@
 ghost use Rattle.std.specs.Prelude.{◌≡◌, ◌++◌, ◌∷◌, [], length, true, false, IfOk, OnOk, OnErr, IsErr};
 ghost use Rattle.ix_base.specs.Sound.{IsSoundRoot};
 ghost use Rattle.ix_base.specs.Trees.{tree_of};
+ghost use Rattle.targets.specs.Clean.{AreProper};
 ghost use Rattle.targets.specs.Outcomes.{CanBeWritten, ComesTo};
 
 use crate::closing::{Page, Pages, closed};
@@ -80,10 +81,11 @@ impl<'a> Set<'a> {
     }
 
     /// What the pages come to: the rules that they break, of the first class that has any, or the targets, each with its
-    /// content.
+    /// content. Each content is proper, so that its instance can be read back.
     pub fn close(self) -> Result<Outcome, NoMemory>
         ensures comes { IfOk result (ComesTo self.entry.held) }
         ensures written { IfOk result CanBeWritten }
+        ensures proper { IfOk result AreProper }
         ensures spent { self.entry.is_spent ≡ true → IsErr result }
     {
         if self.is_spent {
