@@ -7,3 +7,4 @@ pub mod OneItem
 pub mod Renumbered
 pub mod SomeItem
 pub mod ValueLaws
+pub mod PlainLaws

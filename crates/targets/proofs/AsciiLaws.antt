@@ -3,10 +3,9 @@ use Rattle.std.proofs.Common.{◌≡◌, ◌∙◌, ap, refl, ℕ, Bool, true, f
 use Rattle.std.specs.List.{All, list_all}
 use Rattle.std.specs.Prelude.{◌&&◌, ◌||◌, ◌==◌, nat_le}
 use Rattle.std.specs.Str.{IsAscii}
-use Rattle.std.proofs.lemmas.Bool.{and_from, and_parts, eqb-true, le-leb, leb-true}
+use Rattle.std.proofs.lemmas.Bool.{and_from, and_parts, eqb-true, leb-true}
 use Rattle.std.proofs.lemmas.Bool.Decides.{nat_tests}
 use Rattle.std.proofs.lemmas.List.Elements.{All-cons, All-nil}
-use Rattle.std.proofs.lemmas.List.Folds.{list_all-append}
 use Rattle.std.proofs.lemmas.Slice.Eq.{bytes_eq-Decides}
 use Rattle.std.proofs.lemmas.Str.{IsUtf8-from_ascii, chars-IsAscii}
 use Rattle.std.proofs.lemmas.Str.Ascii.{IsAscii-cons, IsAscii-nil}
@@ -17,13 +16,10 @@ use Rattle.ix_base.specs.declared.content.Value.TheVariants as value
 use Rattle.ix_base.specs.Decimals.{back_of, front_of, pointed}
 use Rattle.ix_base.specs.Forms.{is_canonical_decimal, is_canonical_unsigned, is_digit, is_empty, is_fraction_part, is_normal_integer, is_whole_part, is_zero}
 use Rattle.ix_base.specs.NcName.{are_allowed, is_allowed}
+use Rattle.facts.proofs.PlainLaws.{digit-plain, is_plain, plain-append}
 use Rattle.instance_out.specs.Holds.{accuracy_texts}
 use Rattle.instance_out.specs.Proper.{is_exact, is_number}
 use Rattle.targets.proofs.AllowedLaws.{allowed-from}
-
--- a space, or what can be seen
-abbrev pub is_plain : ℕ → Bool
-is_plain c = nat_le 32 c && nat_le c 126
 
 plain-ascii : (t : List ℕ) → list_all is_plain t ≡ true → IsAscii t
 plain-ascii [] h = IsAscii-nil
@@ -51,13 +47,6 @@ plain-allowed t h =
 
 -- Numbers.
 
-pub digit-plain : (c : ℕ) → is_digit c ≡ true → is_plain c ≡ true
-digit-plain c h =
-    let z = and_parts (nat_le 48 c) (nat_le c 57) h in
-    let low = leb-true 48 c z.0 in
-    let high = leb-true c 57 z.1 in
-    and_from _ _ (le-leb 32 c (omega arith)) (le-leb c 126 (omega arith))
-
 pub digits-plain : (t : List ℕ) → list_all is_digit t ≡ true → list_all is_plain t ≡ true
 digits-plain [] h = refl
 digits-plain (c ∷ t) h = let z = and_parts (is_digit c) (list_all is_digit t) h in and_from _ _ (digit-plain c z.0) (digits-plain t z.1)
@@ -79,9 +68,6 @@ fraction-plain (c ∷ d ∷ t) h =
 pointed-plain : (t : List ℕ) → list_all is_plain t ≡ true → list_all is_plain (pointed t) ≡ true
 pointed-plain [] h = refl
 pointed-plain (c ∷ t) h = h
-
-pub plain-append : (a b : List ℕ) → list_all is_plain a ≡ true → list_all is_plain b ≡ true → list_all is_plain (a ++ b) ≡ true
-plain-append a b p q = list_all-append is_plain a b ∙ and_from _ _ p q
 
 unsigned-plain : (t : List ℕ) → is_canonical_unsigned t ≡ true → list_all is_plain t ≡ true
 unsigned-plain t h =

@@ -23,9 +23,10 @@ use Rattle.ix_base.specs.Trees.{Head, Named, Nodes, Valued, none, chars as chars
 use Rattle.ix_base.specs.Written.{Attribute, Markup, attrs_text, close_text, leaf, leaf_text, node, nothing, start_text, verbatim, words, written}
 use Rattle.url.specs.Parts.{Parts, serialize}
 use Rattle.xbrl_parts.proofs.SmallTimes.{by_side}
+use Rattle.facts.proofs.PlainLaws.{is_plain}
 use Rattle.targets.proofs.AllowedLaws.{allowed-append, allowed-from, allowed-nil, allowed-to, ncname-allowed}
 use Rattle.targets.proofs.AmongLaws.{all-sorted}
-use Rattle.targets.proofs.AsciiLaws.{is_plain, plain-allowed}
+use Rattle.targets.proofs.AsciiLaws.{plain-allowed}
 use Rattle.targets.proofs.SoundLaws.{IsSoundAt}
 
 abbrev pub IsAllowed : List ℕ → Type 0

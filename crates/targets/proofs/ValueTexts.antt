@@ -1,9 +1,9 @@
 -- The values of items are of allowed characters: numbers, transformed texts, and the texts of chains.
-use Rattle.std.proofs.Common.{◌≡◌, ◌∙◌, ap, sym, subst, refl, ℕ, zero, suc, ◌+◌, ◌%◌, ◌/◌, Bool, true, false, not, List, [], ◌∷◌, ◌++◌, Option, None, Some, arith, codes, inl, inr}
-use Rattle.std.specs.List.{All, Contains, filter, list_all}
+use Rattle.std.proofs.Common.{◌≡◌, ◌∙◌, ap, sym, subst, refl, ℕ, zero, suc, Bool, true, false, not, List, [], ◌∷◌, Option, None, Some}
+use Rattle.std.specs.List.{All, Contains, filter}
 use Rattle.std.specs.Option.{option_map_or}
 use Rattle.std.specs.Prelude.{◌&&◌, Ok, option_and_then}
-use Rattle.std.proofs.lemmas.Bool.{and_from, and_parts, le-leb}
+use Rattle.std.proofs.lemmas.Bool.{and_parts}
 use Rattle.std.proofs.lemmas.List.Elements.{All-cons, All-nil, All-weaker}
 use Rattle.ix_base.specs.declared.content.Value.{Value}
 use Rattle.ix_base.specs.declared.content.Value.TheVariants as value
@@ -20,15 +20,7 @@ use Rattle.ix_base.specs.NcName.{are_allowed}
 use Rattle.ix_base.specs.Readers.{escapes}
 use Rattle.ix_base.specs.Trees.{Named, Tree}
 use Rattle.ix_base.specs.Viewed.{view}
-use Rattle.tr4_dates.specs.Transformation.{written, two as two_digits, four}
-use Rattle.tr4_numbers.specs.Transformation.{AreCents, AreDigits, Follow, Grouped, IsDecimal, IsNumber, fixed_value, two}
-use Rattle.tr4_numbers.specs.declared.FixedFormat.{FixedFormat}
-use Rattle.tr4_numbers.specs.declared.FixedFormat.TheVariants as fixed
-use Rattle.tr4_numbers.specs.declared.NumberFormat.{NumberFormat}
-use Rattle.tr4_numbers.specs.declared.NumberFormat.TheVariants as number
-use Rattle.facts.specs.declared.format.Format.{Format}
-use Rattle.facts.specs.declared.format.Format.TheVariants.{Date, Fixed, Number}
-use Rattle.facts.specs.Formats.{Transforms}
+use Rattle.facts.proofs.PlainLaws.{said-plain}
 use Rattle.facts.specs.FractionValue.{IsFractionValue}
 use Rattle.facts.specs.ItemValue.{IsPlain, IsTextBy, IsValueBy, ItemText, item_text}
 use Rattle.facts.specs.NumberValue.{IsNumberValue, number_by, number_text}
@@ -36,89 +28,17 @@ use Rattle.instance_out.specs.Holds.{value_texts}
 use Rattle.instance_out.specs.Proper.{is_ratio}
 use Rattle.targets.specs.Clean.{IsClean}
 use Rattle.targets.specs.PageSet.{PageSet, base_at, elements}
-use Rattle.targets.proofs.AsciiLaws.{decimal-allowed, digit-plain, is_plain, plain-allowed, plain-append}
+use Rattle.targets.proofs.AsciiLaws.{decimal-allowed, plain-allowed}
 use Rattle.targets.proofs.FromElements.{such-there}
 use Rattle.targets.proofs.MarkupTexts.{IsAllowed, along-allowed, marked-allowed}
 use Rattle.targets.proofs.NumberFits.{fraction-is, ratio-of, value-passes}
 use Rattle.targets.proofs.SoundLaws.{IsSoundAt, sound-at}
 
--- Dates.
-
-small-plain : (n : ℕ) → is_plain (48 + n % 10) ≡ true
-small-plain n = and_from _ _ (le-leb 32 (48 + n % 10) (omega arith)) (le-leb (48 + n % 10) 126 (omega arith))
-
-two-plain : (n : ℕ) → list_all is_plain (two_digits n) ≡ true
-two-plain n = and_from _ _ (small-plain (n / 10)) (and_from _ _ (small-plain n) refl)
-
-four-plain : (n : ℕ) → list_all is_plain (four n) ≡ true
-four-plain n = and_from _ _ (small-plain (n / 1000)) (and_from _ _ (small-plain (n / 100)) (two-plain n))
-
-day-plain : (m d : ℕ) → list_all is_plain (two_digits m ++ (codes "-" ++ two_digits d)) ≡ true
-day-plain m d = plain-append (two_digits m) (codes "-" ++ two_digits d) (two-plain m) (plain-append (codes "-") (two_digits d) refl (two-plain d))
-
-date-plain : (y m d : Option ℕ) → list_all is_plain (written y m d) ≡ true
-date-plain (Some y) (Some m) (Some d) =
-    plain-append (four y) (codes "-" ++ (two_digits m ++ (codes "-" ++ two_digits d))) (four-plain y)
-    (plain-append (codes "-") (two_digits m ++ (codes "-" ++ two_digits d)) refl (day-plain m d))
-date-plain None (Some m) (Some d) = plain-append (codes "--") (two_digits m ++ (codes "-" ++ two_digits d)) refl (day-plain m d)
-date-plain (Some y) (Some m) None =
-    plain-append (four y) (codes "-" ++ two_digits m) (four-plain y) (plain-append (codes "-") (two_digits m) refl (two-plain m))
-date-plain None (Some m) None = refl
-date-plain None None d = refl
-date-plain (Some y) None d = refl
-
--- Numbers.
-
-follow-plain : (format : NumberFormat) (ds text : List ℕ) → Follow format ds text → list_all is_plain ds ≡ true
-follow-plain format [] text h = refl
-follow-plain format (d ∷ ds) text h = and_from _ _ (digit-plain d h.3) (follow-plain format ds h.1 h.5)
-
-grouped-plain : (format : NumberFormat) (ds text : List ℕ) → Grouped format ds text → list_all is_plain ds ≡ true
-grouped-plain format [] text h = absurd h
-grouped-plain format (d ∷ ds) text h = and_from _ _ (digit-plain d h.1) (follow-plain format ds h.0 h.3)
-
-all-digits : (ds : List ℕ) → AreDigits ds → list_all is_plain ds ≡ true
-all-digits [] h = refl
-all-digits (d ∷ ds) h = and_from _ _ (digit-plain d h.0) (all-digits ds h.1)
-
-cents-plain : (ds : List ℕ) → AreCents ds → list_all is_plain (two ds) ≡ true
-cents-plain [] h = absurd h
-cents-plain (c ∷ []) h = and_from _ _ (digit-plain c h) refl
-cents-plain (c ∷ d ∷ []) h = and_from _ _ (digit-plain c h.0) (and_from _ _ (digit-plain d h.1) refl)
-cents-plain (c ∷ d ∷ e ∷ ds) h = absurd h
-
-point-plain : (ds back : List ℕ) → list_all is_plain ds ≡ true → list_all is_plain back ≡ true → list_all is_plain (ds ++ 46 ∷ back) ≡ true
-point-plain ds back p q = plain-append ds (46 ∷ back) p q
-
-decimal-said : (format : NumberFormat) (text v : List ℕ) → IsDecimal format text v → list_all is_plain v ≡ true
-decimal-said format text v (inl w) = grouped-plain format v text w.grouped
-decimal-said format text v (inr (inl p)) =
-    ap (list_all is_plain) p.value_is ∙ point-plain p.digits p.back (grouped-plain format p.digits p.spelled p.grouped) (all-digits p.back p.fraction)
-decimal-said format text v (inr (inr b)) = ap (list_all is_plain) b.value_is ∙ all-digits b.back b.fraction
-
-number-said : (format : NumberFormat) (text v : List ℕ) → IsNumber format text v → list_all is_plain v ≡ true
-number-said number.Dot text v h = decimal-said number.Dot text v h
-number-said number.Comma text v h = decimal-said number.Comma text v h
-number-said number.Unit text v h =
-    ap (list_all is_plain) h.value_is ∙ point-plain h.digits (two h.cents) (grouped-plain number.Unit h.digits h.spelled h.grouped) (cents-plain h.cents h.are_cents)
-
-fixed-plain : (format : FixedFormat) → list_all is_plain (fixed_value format) ≡ true
-fixed-plain fixed.Empty = refl
-fixed-plain fixed.False = refl
-fixed-plain fixed.True = refl
-fixed-plain fixed.Zero = refl
-
--- what a format makes of a text is printable ASCII
-transformed-plain : (format : Format) (text v : List ℕ) → Transforms format text v → list_all is_plain v ≡ true
-transformed-plain (Date format) text v h = ap (list_all is_plain) h.value_is ∙ date-plain h.said.year h.said.month h.said.day
-transformed-plain (Fixed format) text v h = ap (list_all is_plain) h ∙ fixed-plain format
-transformed-plain (Number format) text v h = number-said format h.number v h.row
-
 -- Texts.
 
 text-allowed : (format : Option Named) (text : ItemText) (v : List ℕ) → IsAllowed text.raw → IsTextBy format text (Ok v) → IsAllowed v
 text-allowed None text v raw h = let same : v ≡ text.raw = cc in ap are_allowed same ∙ raw
-text-allowed (Some name) text v raw h = plain-allowed v (transformed-plain h.0 text.plain v h.2)
+text-allowed (Some name) text v raw h = plain-allowed v (said-plain name text.plain v h)
 
 text-values : (format : Option Named) (text : ItemText) (v : Value) → IsAllowed text.raw → IsPlain (IsTextBy format text) (Ok v) → All IsAllowed (value_texts v)
 text-values format text value.Nil raw h = absurd h
