@@ -1,0 +1,24 @@
+pub mod ApartLaws
+pub mod BackLaws
+pub mod BodyFine
+pub mod BodyLaws
+pub mod ContextLaws
+mod DenotationRows
+pub mod FactLaws
+pub mod GoodLaws
+pub mod LineLaws
+pub mod LinesFine
+pub mod LinkFine
+pub mod LinkLaws
+pub mod NameLaws
+pub mod PrefixReading
+pub mod ProperLaws
+pub mod RootFine
+pub mod RunLaws
+pub mod SeenLaws
+pub mod TheoremLaws
+pub mod TimeLaws
+pub mod TimesFine
+pub mod TokenLaws
+pub mod UnitLaws
+pub mod WrittenLaws

@@ -1,0 +1,4 @@
+pub mod Good
+pub mod Instance
+pub mod Meant
+pub mod Theorem
