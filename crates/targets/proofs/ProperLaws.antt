@@ -62,4 +62,4 @@ pub comes-proper : (s : PageSet) → All (λ p. IsSoundTree p.tree 256) s.pages 
 comes-proper s sound o h =
     first-proper (names s) (element_faults s) (FirstOf (names s) (link_faults s) (ComesOfValues s)) o
     (λ e. first-proper (names s) (link_faults s) (ComesOfValues s) o
-    (λ l v. first-proper (names s) v.0 (IsWhole s) o (λ n w. whole-proper s (record { sound = sound; elements = e; links = l }) o w) v.1.1)) h
+    (λ l v. first-proper (names s) v.0 (IsWhole s) o (λ n w. whole-proper s (record { sound = sound; elements = e; links = l }) o w) v.2)) h
