@@ -13,7 +13,6 @@ of_one_class : (c : Class) (b : Breach) → first_any (map (λ k. filter (λ x. 
 of_one_class class.S b = refl
 of_one_class class.W b = refl
 of_one_class class.N b = refl
-of_one_class class.U b = refl
 of_one_class class.L b = refl
 of_one_class class.V b = refl
 
