@@ -17,7 +17,7 @@ use Rattle.footnotes.specs.FootnoteLinks.{Between, between, label, sources, arcs
 use Rattle.id_table.specs.Moved.{moved}
 use Rattle.id_table.proofs.Renumbered.{map-same, map-twice, filter-same, named-moved, chain-moved}
 
-flat-map : {X Y Z W : Type 0} (f : X → Y) (g : Y → List Z) (h : X → List W) (k : W → Z) → ((x : X) → g (f x) ≡ map k (h x)) → (xs : List X) → flat_map g (map f xs) ≡ map k (flat_map h xs)
+pub flat-map : {X Y Z W : Type 0} (f : X → Y) (g : Y → List Z) (h : X → List W) (k : W → Z) → ((x : X) → g (f x) ≡ map k (h x)) → (xs : List X) → flat_map g (map f xs) ≡ map k (flat_map h xs)
 flat-map f g h k e [] = refl
 flat-map f g h k e (x ∷ xs) = (λ i. e x i ++ flat-map f g h k e xs i) ∙ sym (map-append k (h x) (flat_map h xs))
 

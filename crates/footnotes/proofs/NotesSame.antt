@@ -21,7 +21,7 @@ use Rattle.id_table.proofs.Rearranged.{asks-same}
 use Rattle.footnotes.proofs.OnceLaws.{arc_total, same_arc}
 use Rattle.footnotes.proofs.RoleLaws.{map-same}
 
-swap_parts : {A : Type 0} (front u v back : List A) → IsPermutation (front ++ (u ++ (v ++ back))) (front ++ (v ++ (u ++ back)))
+pub swap_parts : {A : Type 0} (front u v back : List A) → IsPermutation (front ++ (u ++ (v ++ back))) (front ++ (v ++ (u ++ back)))
 swap_parts front u v back =
     IsPermutation-append front front (u ++ (v ++ back)) (v ++ (u ++ back)) (IsPermutation-refl front)
     (subst (λ l. IsPermutation l (v ++ (u ++ back))) (append_assoc u v back)
@@ -29,7 +29,7 @@ swap_parts front u v back =
     (IsPermutation-append (u ++ v) (v ++ u) back back (IsPermutation-append_comm u v) (IsPermutation-refl back))))
 
 -- the parts of a rearranged list, joined, are rearranged
-IsPermutation-flat_map : {X A : Type 0} (f : X → List A) (xs ys : List X) → IsPermutation xs ys → IsPermutation (flat_map f xs) (flat_map f ys)
+pub IsPermutation-flat_map : {X A : Type 0} (f : X → List A) (xs ys : List X) → IsPermutation xs ys → IsPermutation (flat_map f xs) (flat_map f ys)
 IsPermutation-flat_map f xs ys m = by_exchanges (λ l. IsPermutation (flat_map f xs) (flat_map f l))
     (λ front back a b h. IsPermutation-trans (flat_map f xs) (flat_map f (front ++ a ∷ b ∷ back)) (flat_map f (front ++ b ∷ a ∷ back)) h
     (subst (λ l. IsPermutation l (flat_map f (front ++ b ∷ a ∷ back))) (sym (flat_map-append f front (a ∷ b ∷ back)))
@@ -44,12 +44,12 @@ filter-flat p (x ∷ xs) = ap (λ l. cond (p x) (x ∷ l) l) (filter-flat p xs) 
   by true x l = refl
   by false x l = refl
 
-filter-moved : {X : Type 0} (p : X → Bool) (xs ys : List X) → IsPermutation xs ys → IsPermutation (filter p xs) (filter p ys)
+pub filter-moved : {X : Type 0} (p : X → Bool) (xs ys : List X) → IsPermutation xs ys → IsPermutation (filter p xs) (filter p ys)
 filter-moved p xs ys m =
     subst (λ l. IsPermutation l (filter p ys)) (sym (filter-flat p xs))
     (subst (IsPermutation (flat_map (λ x. cond (p x) (x ∷ []) []) xs)) (sym (filter-flat p ys)) (IsPermutation-flat_map (λ x. cond (p x) (x ∷ []) []) xs ys m))
 
-texts-same : (xs ys : List (List ℕ)) → IsPermutation xs ys → in_order text_cmp xs ≡ in_order text_cmp ys
+pub texts-same : (xs ys : List (List ℕ)) → IsPermutation xs ys → in_order text_cmp xs ≡ in_order text_cmp ys
 texts-same xs ys m = in_order-same same_text nat_list_cmp_total xs ys (SameMembers-permutation xs ys m)
 
 arcs-same : (xs ys : List Arc) → IsPermutation xs ys → in_order arc_cmp xs ≡ in_order arc_cmp ys

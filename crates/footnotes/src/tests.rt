@@ -27,21 +27,22 @@ type Page = (&'static str, Attrs, &'static str);
 type Row = (&'static [Page], &'static str, &'static str);
 
 fn name_of(local: &'static str) -> Name<'static> {
-    if local == "xml:lang" {
-        Name {
+    match local {
+        "xml:lang" => Name {
             ns: XML,
             local: "lang",
-        }
-    } else {
-        Name { ns: "", local }
+        },
+        _ => Name { ns: "", local },
     }
 }
 
 fn attrs_of<'a>(alloc: Global, arena: &'a Bump, pairs: Attrs) -> Result<&'a [Attr<'a>], NoMemory> {
     let mut attrs = Vec::new(alloc);
     for &(local, value) in pairs {
-        let name = name_of(local);
-        attrs.push(Attr { name, value })?;
+        attrs.push(Attr {
+            name: name_of(local),
+            value,
+        })?;
     }
     Ok(arena.try_alloc_slice_copy(attrs.as_slice())?)
 }

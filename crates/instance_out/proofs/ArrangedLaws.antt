@@ -125,7 +125,7 @@ spaces-apart xs ys zs =
 spaces-exchanged : (xs ys zs : List OwnName) → spaces_of (xs ++ (ys ++ zs)) ≡ spaces_of (ys ++ (xs ++ zs))
 spaces-exchanged xs ys zs = spaces-apart xs ys zs ∙ exchanged (own_spaces xs) (own_spaces ys) (own_spaces zs) ∙ sym (spaces-apart ys xs zs)
 
-spaces-behind : (xs ms ns : List OwnName) → spaces_of ms ≡ spaces_of ns → spaces_of (xs ++ ms) ≡ spaces_of (xs ++ ns)
+pub spaces-behind : (xs ms ns : List OwnName) → spaces_of ms ≡ spaces_of ns → spaces_of (xs ++ ms) ≡ spaces_of (xs ++ ns)
 spaces-behind [] ms ns e = e
 spaces-behind (x ∷ xs) ms ns e = ap (λ ss. cond (is_known x.ns) ss (with_space x.ns ss)) (spaces-behind xs ms ns e)
 
@@ -155,7 +155,7 @@ module _ {X : Type 0} (names : X → List OwnName) (R : X → X → Ordering) wh
       ∙ spaces-behind (names x) (flat_map names (sorted R xs) ++ more) (flat_map names xs ++ more) (spaces-sorted xs more)
       ∙ ap spaces_of (sym (append_assoc (names x) (flat_map names xs) more))
 
-abbrev names_in : Fact → List OwnName
+abbrev pub names_in : Fact → List OwnName
 names_in f = fact_names (before f none)
 
 name_front : (n : OwnName) (ms ns : List OwnName) → n ∷ (ms ++ ns) ≡ (n ∷ (ms ++ [])) ++ ns
@@ -172,7 +172,7 @@ names-by f rest (Fact-F.Tuple t) e =
 names-before : (f : Fact) (rest : Facts) → fact_names (before f rest) ≡ names_in f ++ fact_names rest
 names-before f rest = names-by f rest (out-Fact f) refl
 
-names_of : (fs : List Fact) → fact_names (facts_of fs) ≡ flat_map names_in fs
+pub names_of : (fs : List Fact) → fact_names (facts_of fs) ≡ flat_map names_in fs
 names_of [] = refl
 names_of (f ∷ fs) = names-before f (facts_of fs) ∙ ap (λ l. names_in f ++ l) (names_of fs)
 

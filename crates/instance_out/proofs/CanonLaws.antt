@@ -1,5 +1,5 @@
 -- The lines of a content, kind by kind.
-use Rattle.std.proofs.Common.{◌≡◌, ◌∙◌, ap, sym, ℕ, List, [], ◌∷◌, ◌++◌, map, append_assoc, refl}
+use Rattle.std.proofs.Common.{◌≡◌, ◌∙◌, ap, sym, ℕ, List, [], ◌∷◌, ◌++◌, map, refl}
 use Rattle.std.specs.Ordering.{on}
 use Rattle.ix_base.specs.Facts.{facts_of}
 use Rattle.ix_base.specs.Once.{in_order}

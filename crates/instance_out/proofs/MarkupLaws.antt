@@ -1,5 +1,5 @@
 -- What markup writes, one part at a time.
-use Rattle.std.proofs.Common.{◌≡◌, ◌∙◌, ap, sym, refl, ℕ, Bool, true, false, List, [], ◌∷◌, ◌++◌, Option, Some, None, map, length, ◌≤◌, codes, arith}
+use Rattle.std.proofs.Common.{◌≡◌, ◌∙◌, ap, refl, ℕ, Bool, true, false, List, [], ◌∷◌, Option, map, length, ◌≤◌, codes, arith}
 use Rattle.ix_base.specs.declared.content.Dim.{Dim}
 use Rattle.ix_base.specs.declared.content.Fact.{Fact, out-Fact}
 use Rattle.ix_base.specs.declared.content.Fact.TheOpen.{Fact-F}
@@ -12,7 +12,7 @@ use Rattle.ix_base.specs.declared.content.OwnName.{OwnName}
 use Rattle.ix_base.specs.declared.content.Tuple.{Tuple}
 use Rattle.ix_base.specs.declared.content.Value.{Value}
 use Rattle.ix_base.specs.declared.content.Value.TheVariants as value
-use Rattle.ix_base.specs.Facts.{Facts, none, item, tuple, before, facts_of}
+use Rattle.ix_base.specs.Facts.{Facts, none, before, facts_of}
 use Rattle.ix_base.specs.Written.{Attribute, Markup, nothing, node, written}
 use Rattle.ix_base.proofs.FactLaws.{before-Item, before-Tuple}
 use Rattle.instance_out.specs.Canonical.{Spaces, dim_markup, member_markup, each_markup, facts_markup, fact_markups, measures_markup, ratio_markup, item_markup, value_markup, tuple_markup, item_attrs}

@@ -1,5 +1,5 @@
 -- Days that are printed.
-use Rattle.std.proofs.Common.{◌≡◌, ℕ, ◌+◌, pos, neg_ℤ, ◌+ℤ◌, refl}
+use Rattle.std.proofs.Common.{◌≡◌, ℕ, pos, neg_ℤ, ◌+ℤ◌, refl}
 use Rattle.jiff.specs.Words.{epoch_day, date_text as printed}
 use Rattle.jiff.specs.Types.{Date}
 use Rattle.ix_base.specs.Days.{day_at}

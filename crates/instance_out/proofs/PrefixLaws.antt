@@ -3,9 +3,9 @@ use Rattle.std.proofs.Common.{◌≡◌, ◌∙◌, ap, sym, refl, ℕ, Bool, tr
 use Rattle.std.proofs.lemmas.Slice.Eq.{bytes_eq-Decides}
 use Rattle.std.specs.declared.cmp.Ordering.{Ordering}
 use Rattle.std.specs.declared.cmp.Ordering.TheVariants.{Less, Equal, Greater}
-use Rattle.std.specs.Ordering.{is_eq, is_lt}
+use Rattle.std.specs.Ordering.{is_eq}
 use Rattle.std.proofs.lemmas.Map.Text.{is_eq-slice_cmp}
-use Rattle.ix_base.specs.Once.{put_by, put, in_order}
+use Rattle.ix_base.specs.Once.{put, in_order}
 use Rattle.ix_base.specs.Sorted.{text_cmp}
 use Rattle.ix_base.specs.declared.content.OwnName.{OwnName}
 use Rattle.instance_out.specs.Prefixes.{Bound, prefix_in, is_known, with_space, spaces_of}

@@ -1,7 +1,6 @@
 -- The root's start tag.
-use Rattle.std.proofs.Common.{◌≡◌, ◌∙◌, ap, sym, ℕ, ◌+◌, List, [], ◌∷◌, ◌++◌, map, append_assoc, add-one}
+use Rattle.std.proofs.Common.{◌≡◌, ◌∙◌, ap, ℕ, ◌+◌, List, [], ◌∷◌, ◌++◌, map, append_assoc, add-one}
 use Rattle.ix_base.specs.Namespaces.{iso4217_namespace, link_namespace, xbrldi_namespace, xbrli_namespace, xlink_namespace, xsi_namespace}
-use Rattle.ix_base.specs.Escapes.{ae}
 use Rattle.ix_base.specs.Written.{Attribute, attrs_text}
 use Rattle.instance_out.specs.declared.prefix.TheConstants.{ROOT}
 use Rattle.instance_out.specs.Canonical.{root_line}

@@ -1,18 +1,16 @@
 -- What the tree of an instance denotes (XBRL 2.1, sections 3 and 4; XLink 1.0). Nothing here looks at an offset.
-use Rattle.std.specs.Prelude.{◌≡◌, ℕ, Bool, true, false, not, ◌==◌, ◌&&◌, ◌||◌, List, [], ◌∷◌, ◌++◌, map, Option, Some, None, if◌then◌else◌, bytes_eq, codes}
+use Rattle.std.specs.Prelude.{◌≡◌, ℕ, Bool, true, false, ◌==◌, ◌&&◌, ◌||◌, List, [], ◌∷◌, ◌++◌, map, Option, Some, None, if◌then◌else◌, bytes_eq, codes}
 use Rattle.std.specs.List.{list_any}
 use Rattle.std.specs.Option.{option_map_or}
 use Rattle.ix_base.specs.declared.content.Accuracy.{Accuracy}
 use Rattle.ix_base.specs.declared.content.Accuracy.TheVariants as accuracy
 use Rattle.ix_base.specs.declared.content.Arc.{Arc}
 use Rattle.ix_base.specs.declared.content.Content.{Content}
-use Rattle.ix_base.specs.declared.content.Context.{Context}
 use Rattle.ix_base.specs.declared.content.Footnote.{Footnote}
 use Rattle.ix_base.specs.declared.content.Item.{Item}
 use Rattle.ix_base.specs.declared.content.Linkbase.{Linkbase}
 use Rattle.ix_base.specs.declared.content.NoteLink.{NoteLink}
 use Rattle.ix_base.specs.declared.content.RoleRef.{RoleRef}
-use Rattle.ix_base.specs.declared.content.Unit.{Unit as UnitContent}
 use Rattle.ix_base.specs.declared.content.Value.{Value}
 use Rattle.ix_base.specs.declared.content.Value.TheVariants as value
 use Rattle.ix_base.specs.Attributes.{value_of}

@@ -3,12 +3,16 @@ pub mod Canonical
 pub mod Denotation
 pub mod Elements
 pub mod Gaining
+pub mod Good
 pub mod Holds
+pub mod Instance
 pub mod Keys
 pub mod Lists
+pub mod Meant
 pub mod Moments
 pub mod Prefixes
 pub mod Proper
 pub mod Tables
 pub mod Tags
+pub mod Theorem
 pub mod Writable

@@ -1,17 +1,20 @@
 //! The lines of facts.
 ghost use Rattle.std.specs.Prelude.{◌≡◌, map, option_map, IfOk, OnOk};
 ghost use Rattle.ix_base.specs.Facts.{facts_of};
+ghost use Rattle.ix_base.specs.Said.{said_of};
 ghost use Rattle.ix_base.specs.Sorted.{sorted, text_cmp};
 ghost use Rattle.ix_base.specs.Written.{written, nothing};
-ghost use Rattle.instance_out.specs.Canonical.{facts_markup, item_markup};
+ghost use Rattle.instance_out.specs.Canonical.{fact_markups, facts_markup, item_markup, line};
 ghost use Rattle.instance_out.specs.Elements.{decimals, fact_line, fact_markup, nil_text, precision, value_element};
 ghost use Rattle.instance_out.specs.Gaining.{Gains};
+ghost use Rattle.instance_out.specs.Holds.{said_spaces};
 ghost use Rattle.instance_out.specs.Tags.{attrs_of};
 
 use crate::markup::{Valued, push_close, push_element, push_leaf, push_start};
+use crate::names::spaces_in;
 use crate::prefix::Prefixes;
 use crate::sort::sort_texts;
-use ix_base::{Accuracy, Fact, Item, NoMemory, Text, Tuple, Value};
+use ix_base::{Accuracy, Content, Fact, Item, NoMemory, Text, Tuple, Value};
 use std::alloc::Global;
 
 /// A text, if there is one.
@@ -199,6 +202,22 @@ pub fn line_of(alloc: Global, prefixes: &Prefixes<'_>, fact: &Fact) -> Result<Te
     Ok(out)
 }
 
+/// The lines of facts, as the facts stand.
+pub fn lines_of(
+    alloc: Global,
+    prefixes: &Prefixes<'_>,
+    facts: &[Fact],
+) -> Result<Vec<Text>, NoMemory>
+    ensures { IfOk result (λ v. v.items ≡ map (fact_line prefixes.now) facts.now) }
+{
+    let mut lines = Vec::new(alloc);
+    for fact in facts {
+        let line = line_of(alloc, prefixes, fact)?;
+        lines.push(line)?;
+    }
+    Ok(lines)
+}
+
 /// The lines of facts, in order.
 pub fn fact_lines(
     alloc: Global,
@@ -207,11 +226,17 @@ pub fn fact_lines(
 ) -> Result<Vec<Text>, NoMemory>
     ensures { IfOk result (λ v. v.items ≡ sorted text_cmp (map (fact_line prefixes.now) facts.now)) }
 {
-    let mut lines = Vec::new(alloc);
-    for fact in facts {
-        let line = line_of(alloc, prefixes, fact)?;
-        lines.push(line)?;
-    }
+    let mut lines = lines_of(alloc, prefixes, facts)?;
     sort_texts(&mut lines);
+    Ok(lines)
+}
+
+/// The lines of the facts of a content, as the facts stand.
+pub fn fact_lines_in(alloc: Global, content: &Content) -> Result<Vec<Text>, NoMemory>
+    ensures { IfOk result (λ v. v.items ≡ map line (fact_markups (said_spaces (said_of content.now)) (facts_of content.now.facts))) }
+{
+    let spaces = spaces_in(alloc, content)?;
+    let prefixes = Prefixes::of(alloc, spaces)?;
+    let lines = lines_of(alloc, &prefixes, content.facts.as_slice())?;
     Ok(lines)
 }

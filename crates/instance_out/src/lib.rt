@@ -1,11 +1,15 @@
 //! The canonical text of a content, line by line, and its writing.
 #![tactic(auto)]
 
-ghost use Rattle.std.specs.Prelude.{◌≡◌, ◌+◌, ◌^◌, ◌<◌, IsTrue, length, OnOk, OnErr, IfOk, IfSome, option_map};
+ghost use Rattle.std.specs.Prelude.{◌≡◌, ◌+◌, ◌^◌, ◌<◌, IsTrue, bytes_eq, length, OnOk, OnErr, IfOk, IfSome, option_map};
 ghost use Rattle.std.specs.List.{concat};
+ghost use Rattle.ix_base.specs.declared.content.Content.{Content};
+ghost use Rattle.ix_base.specs.Said.{said_of};
 ghost use Rattle.ix_base.specs.Outside.{HasCause, last_grown, GainsFront};
 ghost use Rattle.instance_out.specs.Arranged.{arranged};
 ghost use Rattle.instance_out.specs.Canonical.{canon_lines};
+ghost use Rattle.instance_out.specs.Proper.{Proper};
+ghost use Rattle.instance_out.specs.Theorem.{GainsReadBack, IsReadBack};
 ghost use Rattle.instance_out.specs.Writable.{IsWritable};
 
 use ix_base::{Content, Failed, List, NoMemory, TargetSink, Text};
@@ -16,6 +20,7 @@ mod arranged_laws;
 mod arranged_note;
 mod arrangement;
 mod context;
+mod denotation_laws;
 mod fact;
 mod lines;
 mod markup;
@@ -28,6 +33,11 @@ mod sort;
 mod unit;
 
 pub use arranged_laws::{arranged_lines, arranged_twice, arranged_writable};
+pub use denotation_laws::{canonical_markup, one_content, read_back};
+pub use fact::fact_lines_in;
+pub use names::names_in;
+pub use note::arc_of;
+pub use reference::{linkbase_line, role_line, schema_line};
 
 /// The canonical text of a content, ready to be written: its lines, each with its line feed.
 #[derive(Drop)]
@@ -54,12 +64,21 @@ impl Prepared {
     {
         self.len
     }
+
+    /// Whether the whole text is these bytes. It takes no memory.
+    pub fn is(&self, bytes: &[u8]) -> bool
+        ensures { result ≡ bytes_eq (concat self.now) bytes.now }
+    {
+        are_bytes(self.lines.as_slice(), bytes)
+    }
 }
 
-/// Prepares the canonical text of a content.
+/// Prepares the canonical text of a content. That of a proper content is a page of one tree, which denotes this content and no
+/// other.
 pub fn prepare(alloc: Global, content: &Content) -> Result<Prepared, NoMemory>
     requires { IsWritable content.now }
-    ensures { IfOk result (λ p. p ≡ canon_lines content.now) }
+    ensures lines { IfOk result (λ p. p ≡ canon_lines content.now) }
+    ensures read_back { Proper (said_of content.now) → IfOk result (λ p. IsReadBack (concat p) content.now) }
 {
     let lines = lines::lines(alloc, content)?;
     match total_len(lines.as_slice()) {
@@ -107,12 +126,29 @@ fn total_len(lines: &[Text]) -> Option<u64>
     Some(total)
 }
 
-/// Puts each line into the target begun last, one piece for each line. It takes no memory.
+/// Whether lines, one behind another, are these bytes.
+fn are_bytes(lines: &[Text], bytes: &[u8]) -> bool
+    ensures { result ≡ bytes_eq (concat lines.now) bytes.now }
+{
+    let mut left = bytes;
+    for line in lines {
+        let Some(rest) = left.strip_prefix(line.as_str().as_bytes()) else {
+            return false;
+        };
+        left = rest;
+    }
+    left.is_empty()
+}
+
+/// Puts each line into the target begun last, one piece for each line. What is put of a proper content's lines denotes this
+/// content and no other. It takes no memory.
 pub fn write<S: TargetSink>(prepared: &Prepared, sink: &mut S) -> Result<(), Failed>
     requires count { S.faults sink.old + 1 < 2 ^ 64 }
     requires opened { IsTrue (S.is_open sink.old) }
     ensures cause { HasCause (S.faults sink.old) (S.faults sink.new) result }
     ensures ok { OnOk result (S.targets sink.new ≡ option_map (last_grown (concat prepared.now)) (S.targets sink.old)) }
+    ensures read_back { (c : Content) → Proper (said_of c) → prepared.now ≡ canon_lines c
+        → OnOk result (GainsReadBack c (S.targets sink.old) (S.targets sink.new)) }
     ensures err { OnErr result (GainsFront (concat prepared.now) (S.targets sink.old) (S.targets sink.new)) }
     ensures opened { IsTrue (S.is_open sink.new) }
     ensures asked { S.asked sink.new ≡ S.asked sink.old }

@@ -1,8 +1,10 @@
 //! The names of a content.
 ghost use Rattle.std.specs.Prelude.{◌≡◌, ◌++◌, ◌∷◌, [], flat_map, IfOk, OnOk};
 ghost use Rattle.ix_base.specs.Facts.{before, facts_of, none};
+ghost use Rattle.ix_base.specs.Said.{said_of};
 ghost use Rattle.instance_out.specs.Canonical.{content_spaces, context_names, dim_names, fact_names, member_names, unit_names};
 ghost use Rattle.instance_out.specs.Gaining.{Gains};
+ghost use Rattle.instance_out.specs.Holds.{all_names};
 ghost use Rattle.instance_out.specs.Prefixes.{spaces_of};
 ghost use Rattle.instance_out.specs.Tables.{own_spaces, values_of};
 
@@ -108,14 +110,22 @@ fn own_spaces_of<'a>(alloc: Global, names: &[&'a OwnName]) -> Result<Vec<&'a str
     Ok(spaces)
 }
 
-/// The namespaces of a content that need prefixes of their own, in order, each once.
-pub fn spaces_in<'a>(alloc: Global, content: &'a Content) -> Result<Vec<&'a str>, NoMemory>
-    ensures { IfOk result (λ v. values_of v.items ≡ content_spaces content.now (facts_of content.now.facts)) }
+/// The names in a content, as often as they stand: those in contexts, then those in units, then those of facts.
+pub fn names_in<'a>(alloc: Global, content: &'a Content) -> Result<Vec<&'a OwnName>, NoMemory>
+    ensures { IfOk result (λ v. values_of v.items ≡ all_names (said_of content.now)) }
 {
     let mut names = Vec::new(alloc);
     add_contexts(content.contexts.as_slice(), &mut names)?;
     add_units(content.units.as_slice(), &mut names)?;
     add_facts(content.facts.as_slice(), &mut names)?;
+    Ok(names)
+}
+
+/// The namespaces of a content that need prefixes of their own, in order, each once.
+pub fn spaces_in<'a>(alloc: Global, content: &'a Content) -> Result<Vec<&'a str>, NoMemory>
+    ensures { IfOk result (λ v. values_of v.items ≡ content_spaces content.now (facts_of content.now.facts)) }
+{
+    let names = names_in(alloc, content)?;
     let mut spaces = own_spaces_of(alloc, names.as_slice())?;
     each_once(&mut spaces);
     Ok(spaces)

@@ -100,13 +100,13 @@ fn may_stand(kind: Kind, up: Option<&Spot>) -> bool
             is_beside_facts(near(up)),
         Kind::NonFraction => is_beside_numbers(near(up)),
         Kind::Exclude => is_in_excludable(near(up)),
-        Kind::Context
+        Kind::Other
         | Kind::Unit
-        | Kind::SchemaRef
-        | Kind::LinkbaseRef
-        | Kind::RoleRef
+        | Kind::Context
         | Kind::ArcroleRef
-        | Kind::Other => true,
+        | Kind::RoleRef
+        | Kind::LinkbaseRef
+        | Kind::SchemaRef => true,
     }
 }
 

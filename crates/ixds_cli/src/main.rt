@@ -46,9 +46,9 @@ fn run_handed<P: PageSource, S: TargetSink, T: TextSink>(
     sink: &mut S,
     out: &mut T,
 ) -> Status
-    requires pages { P.faults pages.old + 1 < 2 ^ 64 }
-    requires sink { S.faults sink.old + 1 < 2 ^ 64 }
     requires out { T.faults out.old + 1 < 2 ^ 64 }
+    requires sink { S.faults sink.old + 1 < 2 ^ 64 }
+    requires pages { P.faults pages.old + 1 < 2 ^ 64 }
 
     // What a run of these words answers.
     ensures answers { Answers (command_in handed)

@@ -293,10 +293,10 @@ const BROKEN: [&str; 7] = [
 const MISSING: [&str; 7] = [
     "ixds",
     "extract",
-    "--base",
-    "http://example.com/",
     "--out",
     "d",
+    "--base",
+    "http://example.com/",
     "b.html",
 ];
 

@@ -82,13 +82,13 @@ fn doubled(alloc: Global, pages: &[(&str, &str)]) -> Result<String, Fail> {
 
 /// The report on continuations.
 fn linked(alloc: Global, pages: &[(&str, &str)]) -> Result<String, Fail> {
+    let mut breaches = Breaches::new(alloc);
     let arena = Bump::new(alloc);
-    let index = index_of(alloc, &arena, pages)?;
     let names = names_of(alloc, pages)?;
+    let index = index_of(alloc, &arena, pages)?;
     if !are_within(index.spots(), names.len()) {
         return Err(Fail::from("another page"));
     }
-    let mut breaches = Breaches::new(alloc);
     let _ = link(alloc, &arena, &index, &mut breaches)?;
     lines_of(alloc, breaches, names.as_slice())
 }

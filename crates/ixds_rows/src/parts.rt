@@ -260,16 +260,14 @@ fn dims_of(alloc: Global, text: &str, is_segment: bool) -> Result<String, Fail> 
 /// The first scenario of these that isn't read so; empty where each is.
 fn wrong_scenario(alloc: Global, rows: &[(&'static str, &str)]) -> Result<&'static str, Fail> {
     for &(inner, due) in rows {
-        let text = joined(
-            alloc,
-            &[
-                "<xbrli:context id=\"c\">",
-                WHOM,
-                FOREVER,
-                inner,
-                "</xbrli:context>",
-            ],
-        )?;
+        let parts = [
+            "<xbrli:context id=\"c\">",
+            WHOM,
+            FOREVER,
+            inner,
+            "</xbrli:context>",
+        ];
+        let text = joined(alloc, &parts)?;
         if dims_of(alloc, text.as_str(), false)?.as_str() != due {
             return Ok(inner);
         }

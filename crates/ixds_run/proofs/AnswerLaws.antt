@@ -2,12 +2,11 @@
 use Rattle.std.proofs.Common.{◌≡◌, ◌⊎◌, ◌∙◌, sym, refl, ℕ, ◌<◌, List, Option, Some, None, IfSome, subst, inl, inr, arith}
 use Rattle.ix_base.specs.Outside.{TextGainsFront}
 use Rattle.ixds_run.specs.Answers.{Answers, Outside}
-use Rattle.ixds_run.specs.Commands.{pages_of}
+use Rattle.ixds_run.specs.Commands.{number_of, pages_of}
 use Rattle.ixds_run.specs.Gains.{GainsStarts, GainsText}
-use Rattle.ixds_run.specs.Outcomes.{AreSome, IfTold}
+use Rattle.ixds_run.specs.Outcomes.{AreSome, IfTold, bytes_told}
 use Rattle.ixds_run.specs.Reading.{IsAmong}
 use Rattle.ixds_run.specs.Texts.{cannot_read_line, usage_text}
-use Rattle.ixds_run.specs.Told.{told}
 use Rattle.ixds_run.specs.declared.command.Command.{Command}
 use Rattle.ixds_run.specs.declared.status.Status.{Status}
 use Rattle.ixds_run.specs.declared.status.Status.TheVariants.{Done, Broken, Usage, ReadFault, WriteFault, NoMemory}
@@ -19,7 +18,7 @@ some_all (Some x) P h = h x
 -- what is so of all commands and pages is so of those that are told
 told_all : (o : Option Command) (page : List ℕ → Option (List ℕ)) (P : Command → List (List ℕ) → Type 0)
     → ((c : Command) (bs : List (List ℕ)) → P c bs) → IfTold o page P
-told_all o page P h = some_all o (λ c. IfSome (told page (pages_of c)) (P c)) (λ c. some_all (told page (pages_of c)) (P c) (h c))
+told_all o page P h = some_all o (λ c. IfSome (bytes_told page c) (P c)) (λ c. some_all (bytes_told page c) (P c) (h c))
 
 -- what is so of these bytes, where there are any, since it is so of some
 pub told_of : {P : List (List ℕ) → Type 0} (all : Option (List (List ℕ))) → AreSome all P → IfSome all P
@@ -32,15 +31,16 @@ of_some all step some = (some.0, some.1, step some.0 some.2)
 
 -- want of memory
 pub memory_answer : (o : Option Command) (old new : Outside) (A B C : Type 0) → B → C → new.page ≡ old.page → new.page_faults ≡ old.page_faults
-    → IfSome o (λ c. GainsStarts (pages_of c) old.page_starts new.page_starts)
+    → IfSome o (λ c. IfSome (number_of c) (λ n. A)) → IfSome o (λ c. GainsStarts (pages_of c) old.page_starts new.page_starts)
     → IfSome o (λ c. A ⊎ ((name : List ℕ) × IsAmong old.page (pages_of c) new.page_asked name)) → Answers o old new A B C NoMemory
-memory_answer o old new A B C b d page faults starts asked = record {
+memory_answer o old new A B C b d page faults sample starts asked = record {
   complete = told_all o old.page _ (λ c bs e f g. inr (refl, b, d));
   done = λ e. cc;
   broken = λ e. cc;
   broken_targets = λ e. b;
   broken_pages = told_all o old.page _ (λ c bs h. b);
   check = some_all o _ (λ c e. b);
+  sample = sample;
   usage = λ e. cc;
   usage_exactly = λ e. inr (inr refl);
   read_fault = λ e. cc;
@@ -79,6 +79,7 @@ usage_answer o old new A B C s none a b page faults same either gains quiet caus
       broken_targets = λ e. b;
       broken_pages = tt;
       check = tt;
+      sample = tt;
       usage = λ e. (refl, a, b, gains e);
       usage_exactly = λ e. elim either [ inl x ↦ inl x | inr x ↦ inr (inl x) ];
       read_fault = λ e. absurd (not_one s Usage WriteFault ReadFault either (λ x. cc) (λ x. cc) e);
@@ -100,18 +101,19 @@ usage_answer o old new A B C s none a b page faults same either gains quiet caus
 
 -- a page can't be read
 pub fault_answer : (c : Command) (old new : Outside) (A B C : Type 0) (s : Status) (name : List ℕ) → B → new.page ≡ old.page
-    → old.page_faults < new.page_faults → new.target_faults ≡ old.target_faults → IsAmong old.page (pages_of c) new.page_asked name
+    → IfSome (number_of c) (λ n. A) → old.page_faults < new.page_faults → new.target_faults ≡ old.target_faults → IsAmong old.page (pages_of c) new.page_asked name
     → GainsStarts (pages_of c) old.page_starts new.page_starts → (s ≡ ReadFault) ⊎ (s ≡ WriteFault)
     → (s ≡ ReadFault → GainsText (cannot_read_line name) old.taken new.taken) → (s ≡ ReadFault → new.text_faults ≡ old.text_faults)
     → (s ≡ WriteFault → old.text_faults < new.text_faults) → (s ≡ WriteFault → TextGainsFront (cannot_read_line name) old.taken new.taken)
     → Answers (Some c) old new A B C s
-fault_answer c old new A B C s name b page rose same among starts either gains quiet cause front = record {
-  complete = some_all (told old.page (pages_of c)) _ (λ bs e f g. absurd (omega arith));
+fault_answer c old new A B C s name b page sample rose same among starts either gains quiet cause front = record {
+  complete = some_all (bytes_told old.page c) _ (λ bs e f g. absurd (omega arith));
   done = λ e. absurd (not_one s ReadFault WriteFault Done either (λ x. cc) (λ x. cc) e);
   broken = λ e. absurd (not_one s ReadFault WriteFault Broken either (λ x. cc) (λ x. cc) e);
   broken_targets = λ e. b;
-  broken_pages = some_all (told old.page (pages_of c)) _ (λ bs h. b);
+  broken_pages = some_all (bytes_told old.page c) _ (λ bs h. b);
   check = λ e. b;
+  sample = sample;
   usage = λ e. absurd (not_one s ReadFault WriteFault Usage either (λ x. cc) (λ x. cc) e);
   usage_exactly = λ e. cc;
   read_fault = λ e. (rose, b, (name, among, gains e));

@@ -57,6 +57,15 @@ reads_on page left n t sums f g fed whole same gained = record {
       record { found = h.found; root = h.root };
 }
 
+-- a page that lies in memory was built and ended
+pub built_on : (b : List ℕ) (n : ℕ) (t : TreeBuilder) (sums : Sums) (f g : Forest)
+    → StandsFor t b → sums.bytes ≡ f.sums.bytes + length b → sums.tags ≡ f.sums.tags + tags_in b → g.sums ≡ sums
+    → (sums.bytes ≤ 268435456 → (c : List ℕ) → StandsFor t c → HasGained n c (record f { sums = sums }) g) → ReadsOn (Some b) (Some []) n f g
+built_on b n t sums f g built bytes tags same gained =
+    let fed : HasFed (Some b) (Some []) t f.sums sums =
+    record { front = b; built = built; bytes = bytes; tags = tags; told = ([], sym (append-nil b), refl) } in
+    reads_on (Some b) (Some []) n t sums f g fed (λ most. refl) same gained
+
 -- what is told of names and one more
 told_more : (page : List ℕ → Option (List ℕ)) (xs : List (List ℕ)) (n : List ℕ)
     → IfSome (told page (xs ++ n ∷ [])) (λ all. (front : List (List ℕ)) × (told page xs ≡ Some front) × ((b : List ℕ) × (page n ≡ Some b) × (all ≡ front ++ b ∷ [])))

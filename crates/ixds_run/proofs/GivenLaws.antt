@@ -1,18 +1,21 @@
 -- What is so of each command that words give.
-use Rattle.std.proofs.Common.{◌≡◌, sym, refl, ℕ, ◌≤◌, ◌&&◌, Bool, true, false, not, nat_le, nat_lt, List, [], ◌∷◌, length, Option, Some, None, cond, bytes_eq, codes, Result, Ok, Err, IfOk, IfSome, subst}
+use Rattle.std.proofs.Common.{◌≡◌, sym, refl, ℕ, ◌≤◌, ◌&&◌, Bool, true, false, not, nat_le, nat_lt, List, [], ◌∷◌, length, Option, Some, None, cond, bytes_eq, codes, Result, Ok, Err, IfOk, IfSome, option_map, subst}
 use Rattle.std.specs.List.{list_all}
 use Rattle.std.specs.Option.{option_and_then}
 use Rattle.ix_base.specs.declared.NoMemory.{NoMemory}
 use Rattle.std.proofs.lemmas.Bool.{leb-true, ltb-true}
 use Rattle.std.proofs.lemmas.List.Elements.{All-weaker}
 use Rattle.std.proofs.lemmas.List.Sums.{AllPass-from_list_all}
+use Rattle.url.proofs.OnLiterals.{url_on_literals}
 use Rattle.clap.specs.Walk.{Row, all_of, first_of}
-use Rattle.ixds_run.specs.Bases.{is_base}
-use Rattle.ixds_run.specs.Commands.{command_of, extract_from, extract_in, check_from, check_in, AreNames, IsGiven}
+use Rattle.ix_base.specs.Decimals.{number_in}
+use Rattle.ixds_run.specs.Bases.{is_base, is_web_scheme}
+use Rattle.ixds_run.specs.Commands.{command_of, extract_from, extract_in, check_from, check_in, sample_in, AreNames, IsGiven}
 use Rattle.ixds_run.specs.Names.{are_pages, has_repeat, is_page_name, may_stand_in_name}
+use Rattle.ixds_run.specs.Sample.{is_number, sample_names, sample_number}
 use Rattle.ixds_run.specs.Simple.{check_app, extract_app, rows_taken}
 use Rattle.ixds_run.specs.declared.command.Command.{Command}
-use Rattle.ixds_run.specs.declared.command.Command.TheVariants.{Extract, Check}
+use Rattle.ixds_run.specs.declared.command.Command.TheVariants.{Extract, Check, Sample}
 
 both : (a b : Bool) → (a && b) ≡ true → (a ≡ true) × (b ≡ true)
 both true b e = (refl, e)
@@ -54,7 +57,7 @@ given_extract (Some base) (Some dir) (Some pages) c e =
     let h = where_holds (is_base base && nat_lt 0 (length dir) && are_pages pages) (Extract base dir pages) c e in
     let all = both (is_base base && nat_lt 0 (length dir)) (are_pages pages) h.0 in
     let two = both (is_base base) (nat_lt 0 (length dir)) all.0 in
-    subst IsGiven h.1 (record { base = two.0; dir = ltb-true 0 (length dir) two.1; pages = are_names pages all.1 })
+    subst IsGiven h.1 (record { base = two.0; dir = ltb-true 0 (length dir) two.1; pages = are_names pages all.1; number = tt })
 
 given_check : (b : Option (List ℕ)) (p : Option (List (List ℕ))) (c : Command) → check_from b p ≡ Some c → IsGiven c
 given_check None p c e = cc
@@ -62,7 +65,29 @@ given_check (Some base) None c e = cc
 given_check (Some base) (Some pages) c e =
     let h = where_holds (is_base base && are_pages pages) (Check base pages) c e in
     let two = both (is_base base) (are_pages pages) h.0 in
-    subst IsGiven h.1 (record { base = two.0; dir = tt; pages = are_names pages two.1 })
+    subst IsGiven h.1 (record { base = two.0; dir = tt; pages = are_names pages two.1; number = tt })
+
+-- a sample has a base, pages and a number that it may have
+sample_given : (n : ℕ) → 1 ≤ n → n ≤ 200000 → IsGiven (Sample n)
+unfolding url_on_literals is_web_scheme has_repeat
+sample_given n some most = record { base = refl; dir = tt; pages = are_names sample_names refl; number = (some, most) }
+
+number_by : (a b c : Bool) (m n : ℕ) → cond (a && b && c) (Some m) None ≡ Some n → (b ≡ true) × (c ≡ true) × (m ≡ n)
+number_by true true true m n e = (refl, refl, let f = e in cc)
+number_by true true false m n e = cc
+number_by true false c m n e = cc
+number_by false b c m n e = cc
+
+sample_by : (o : Option ℕ) (c : Command) → ((n : ℕ) → o ≡ Some n → IsGiven (Sample n)) → option_map Sample o ≡ Some c → IsGiven c
+sample_by None c h e = cc
+sample_by (Some n) c h e = subst IsGiven (let f : Some (Sample n) ≡ Some c = e in let g : Sample n ≡ c = cc in g) (h n refl)
+
+given_sample : (rest : List (List ℕ)) (c : Command) → sample_in rest ≡ Some c → IsGiven c
+given_sample [] c e = cc
+given_sample (word ∷ []) c e = sample_by (sample_number word) c (λ n is.
+    let h = number_by (is_number word) (nat_le 1 (number_in word)) (nat_le (number_in word) 200000) (number_in word) n is in
+    subst (λ (k : ℕ). IsGiven (Sample k)) h.2 (sample_given (number_in word) (le_is 1 (number_in word) h.0) (le_is (number_in word) 200000 h.1))) e
+given_sample (word ∷ next ∷ rest) c e = cc
 
 given_rows : (f : List Row → Option Command) → ((rows : List Row) (c : Command) → f rows ≡ Some c → IsGiven c)
     → (rows : Option (List Row)) (c : Command) → option_and_then f rows ≡ Some c → IsGiven c
@@ -82,9 +107,9 @@ given [] c e = cc
 given (first ∷ rest) c e =
     either (bytes_eq first (codes "extract")) (option_and_then extract_in (rows_taken extract_app (first ∷ rest))) _ c
     (given_rows extract_in (λ rows. given_extract (first_of (codes "base") rows) (first_of (codes "out") rows) (all_of (codes "PAGE") rows)) (rows_taken extract_app (first ∷ rest)) c)
-    (either (bytes_eq first (codes "check")) (option_and_then check_in (rows_taken check_app (first ∷ rest))) None c
+    (either (bytes_eq first (codes "check")) (option_and_then check_in (rows_taken check_app (first ∷ rest))) _ c
     (given_rows check_in (λ rows. given_check (first_of (codes "base") rows) (all_of (codes "PAGE") rows)) (rows_taken check_app (first ∷ rest)) c)
-    (none_given c)) e
+    (either (bytes_eq first (codes "sample")) (sample_in rest) None c (given_sample rest c) (none_given c))) e
 
 pub given_of : (o : Option Command) (words : List (List ℕ)) → o ≡ command_of words → IfSome o IsGiven
 given_of None words e = tt

@@ -6,7 +6,7 @@ use Rattle.ixds_run.specs.Bases.{is_web_scheme}
 use Rattle.ixds_run.specs.Commands.{command_of}
 use Rattle.ixds_run.specs.Names.{has_repeat}
 use Rattle.ixds_run.specs.Simple.{rows_taken}
-use Rattle.ixds_run.specs.declared.command.Command.TheVariants.{Extract, Check}
+use Rattle.ixds_run.specs.declared.command.Command.TheVariants.{Extract, Check, Sample}
 
 options_in_front : command_of (codes "extract" ∷ codes "--base" ∷ codes "http://e/r/" ∷ codes "--out" ∷ codes "d" ∷ codes "a" ∷ [])
     ≡ Some (Extract (codes "http://e/r/") (codes "d") (codes "a" ∷ []))
@@ -42,3 +42,23 @@ no_page = refl
 page_twice : command_of (codes "check" ∷ codes "--base=http://e/" ∷ codes "a" ∷ codes "a" ∷ []) ≡ None
 unfolding clap_on_literals url_on_literals rows_taken command_of has_repeat is_web_scheme
 page_twice = refl
+
+one_fact : command_of (codes "sample" ∷ codes "1" ∷ []) ≡ Some (Sample 1)
+unfolding command_of
+one_fact = refl
+
+most_facts : command_of (codes "sample" ∷ codes "200000" ∷ []) ≡ Some (Sample 200000)
+unfolding command_of
+most_facts = refl
+
+too_many_facts : command_of (codes "sample" ∷ codes "200001" ∷ []) ≡ None
+unfolding command_of
+too_many_facts = refl
+
+zero_in_front : command_of (codes "sample" ∷ codes "01" ∷ []) ≡ None
+unfolding command_of
+zero_in_front = refl
+
+two_numbers : command_of (codes "sample" ∷ codes "1" ∷ codes "2" ∷ []) ≡ None
+unfolding command_of
+two_numbers = refl

@@ -14,7 +14,7 @@ abbrev pub trees_of : List (Bor Element) → List Tree
 trees_of es = map (λ e. tree_of e.now) es
 
 -- the element at this index and those behind it
-cut_at : {X : Type 0} (xs : List X) (n : ℕ) (x : X) → n < length xs → x ≡ get_or xs n x → drop n xs ≡ x ∷ drop (n + 1) xs
+pub cut_at : {X : Type 0} (xs : List X) (n : ℕ) (x : X) → n < length xs → x ≡ get_or xs n x → drop n xs ≡ x ∷ drop (n + 1) xs
 cut_at xs n x h e = drop-cons xs n x h ∙ (λ i. sym e i ∷ drop (sym (add-one n) i) xs)
 
 sound_cut : (es : List (Bor Element)) (n : ℕ) (e : Bor Element) → n < length es → e ≡ get_or es n e → AreSoundRoots n (drop n es) → AreSoundRoots n (e ∷ drop (n + 1) es)

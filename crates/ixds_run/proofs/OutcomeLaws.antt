@@ -24,30 +24,29 @@ use Rattle.targets.specs.TargetFacts.{AreFacts, members_read, one_less}
 use Rattle.targets.specs.declared.outcome.Outcome.{Outcome}
 use Rattle.targets.specs.declared.outcome.Outcome.TheVariants.{Broken, Whole}
 use Rattle.targets.specs.declared.outcome.Target.{Target}
-use Rattle.ixds_run.specs.Commands.{base_of, dir_of, pages_of}
+use Rattle.ixds_run.specs.Commands.{base_of, dir_of, number_of, pages_of}
 use Rattle.ixds_run.specs.Made.{Made, paged}
-use Rattle.ixds_run.specs.Outcomes.{AreTrees, DueOutcome, IsOutcome, Says, due_of, targets_under}
-use Rattle.ixds_run.specs.Summary.{summary_of}
+use Rattle.ixds_run.specs.Outcomes.{AreTrees, DueOutcome, IsOutcome, Says, due_of, targets_under, text_of}
 use Rattle.ixds_run.specs.Texts.{breach_line}
 use Rattle.ixds_run.specs.Told.{fault_row, on_page, text_faults}
 use Rattle.ixds_run.specs.declared.command.Command.{Command}
 use Rattle.ixds_run.specs.declared.status.Status.TheVariants as status
 
 -- what is due of a report is due of its lines
-same_report : (dir : Option (List ℕ)) (names : List (List ℕ)) (found : List Found) (o p : Outcome) → IsReport names found o → IsReport names found p → due_of dir o ≡ due_of dir p
-same_report dir names found (Broken r) (Broken s) h k =
+same_report : (dir : Option (List ℕ)) (number : Option ℕ) (names : List (List ℕ)) (found : List Found) (o p : Outcome) → IsReport names found o → IsReport names found p → due_of dir number o ≡ due_of dir number p
+same_report dir number names found (Broken r) (Broken s) h k =
     ap (λ (ls : List Breach). record { status = status.Broken; text = flat_map breach_line ls; targets = [] }) (h ∙ sym k)
-same_report dir names found (Broken r) (Whole ts) h k = absurd k
-same_report dir names found (Whole ts) p h k = absurd h
+same_report dir number names found (Broken r) (Whole ts) h k = absurd k
+same_report dir number names found (Whole ts) p h k = absurd h
 
 -- what is due of the first of some reports is due of it, or of what follows where there is nothing to report
-same_first : (dir : Option (List ℕ)) (names : List (List ℕ)) (found : List Found) (Else : Outcome → Type 0)
-    → ((o p : Outcome) → Else o → Else p → due_of dir o ≡ due_of dir p)
-    → (o p : Outcome) → FirstOf names found Else o → FirstOf names found Else p → due_of dir o ≡ due_of dir p
-same_first dir names found Else same o p (inl (some, report)) (inl (some', report')) = same_report dir names found o p report report'
-same_first dir names found Else same o p (inl (some, report)) (inr (empty, more)) = absurd (some empty)
-same_first dir names found Else same o p (inr (empty, more)) (inl (some, report)) = absurd (some empty)
-same_first dir names found Else same o p (inr (empty, more)) (inr (empty', more')) = same o p more more'
+same_first : (dir : Option (List ℕ)) (number : Option ℕ) (names : List (List ℕ)) (found : List Found) (Else : Outcome → Type 0)
+    → ((o p : Outcome) → Else o → Else p → due_of dir number o ≡ due_of dir number p)
+    → (o p : Outcome) → FirstOf names found Else o → FirstOf names found Else p → due_of dir number o ≡ due_of dir number p
+same_first dir number names found Else same o p (inl (some, report)) (inl (some', report')) = same_report dir number names found o p report report'
+same_first dir number names found Else same o p (inl (some, report)) (inr (empty, more)) = absurd (some empty)
+same_first dir number names found Else same o p (inr (empty, more)) (inl (some, report)) = absurd (some empty)
+same_first dir number names found Else same o p (inr (empty, more)) (inr (empty', more')) = same o p more more'
 
 -- the facts of some elements are the same, where each element says one item
 same_tree : (Says : Located → Item → Type 0) → ((e : Located) (i j : Item) → Says e i → Says e j → i ≡ j) → (all : List Located) (n : ℕ) (es : List Located) (f g : Facts)
@@ -142,36 +141,36 @@ module _
         let rest = same_targets bases es ts us names (All-tail P t ts h) (All-tail P u us k) in
         λ i. record { name = name i; content = content i } ∷ rest i
 
-    same_whole : (dir : Option (List ℕ)) (s : PageSet) (o p : Outcome) → IsWhole s o → IsWhole s p → due_of dir o ≡ due_of dir p
-    same_whole dir s (Broken r) p h k = absurd h
-    same_whole dir s (Whole ts) (Broken r) h k = absurd k
-    same_whole dir s (Whole ts) (Whole us) h k =
-        ap (λ (xs : List Target). record { status = status.Done; text = summary_of xs; targets = targets_under dir xs })
+    same_whole : (dir : Option (List ℕ)) (number : Option ℕ) (s : PageSet) (o p : Outcome) → IsWhole s o → IsWhole s p → due_of dir number o ≡ due_of dir number p
+    same_whole dir number s (Broken r) p h k = absurd h
+    same_whole dir number s (Whole ts) (Broken r) h k = absurd k
+    same_whole dir number s (Whole ts) (Whole us) h k =
+        ap (λ (xs : List Target). record { status = status.Done; text = text_of number xs; targets = targets_under dir xs })
         (same_targets (base_at s) (elements s) ts us (h.names ∙ sym k.names) h.contents k.contents)
 
-    same_valued : (dir : Option (List ℕ)) (s : PageSet) (o p : Outcome) → ComesOfValues s o → ComesOfValues s p → due_of dir o ≡ due_of dir p
-    same_valued dir s o p (found, are, first) (more, are', first') =
+    same_valued : (dir : Option (List ℕ)) (number : Option ℕ) (s : PageSet) (o p : Outcome) → ComesOfValues s o → ComesOfValues s p → due_of dir number o ≡ due_of dir number p
+    same_valued dir number s o p (found, are, first) (more, are', first') =
         let e : more ≡ found = same_broken (IsItem (base_at s) (asked s)) (says (base_at s) (asked s)) (filter is_item (elements s)) more found are' are in
-        same_first dir (names_of s) found (IsWhole s) (same_whole dir s) o p first (subst (λ (xs : List Found). FirstOf (names_of s) xs (IsWhole s) p) e first')
+        same_first dir number (names_of s) found (IsWhole s) (same_whole dir number s) o p first (subst (λ (xs : List Found). FirstOf (names_of s) xs (IsWhole s) p) e first')
 
-    same_set : (dir : Option (List ℕ)) (s : PageSet) (o p : Outcome) → ComesTo s o → ComesTo s p → due_of dir o ≡ due_of dir p
-    same_set dir s =
-        same_first dir (names_of s) (element_faults s) (FirstOf (names_of s) (link_faults s) (ComesOfValues s))
-        (same_first dir (names_of s) (link_faults s) (ComesOfValues s) (same_valued dir s))
+    same_set : (dir : Option (List ℕ)) (number : Option ℕ) (s : PageSet) (o p : Outcome) → ComesTo s o → ComesTo s p → due_of dir number o ≡ due_of dir number p
+    same_set dir number s =
+        same_first dir number (names_of s) (element_faults s) (FirstOf (names_of s) (link_faults s) (ComesOfValues s))
+        (same_first dir number (names_of s) (link_faults s) (ComesOfValues s) (same_valued dir number s))
 
-    same_saying : (dir : Option (List ℕ)) (base : List ℕ) (names bs : List (List ℕ)) (o p : Outcome) → Says base names bs o → Says base names bs p → due_of dir o ≡ due_of dir p
-    same_saying dir base names bs o p (inl (rule, set, report)) (inl (other, set', report')) =
+    same_saying : (dir : Option (List ℕ)) (number : Option ℕ) (base : List ℕ) (names bs : List (List ℕ)) (o p : Outcome) → Says base names bs o → Says base names bs p → due_of dir number o ≡ due_of dir number p
+    same_saying dir number base names bs o p (inl (rule, set, report)) (inl (other, set', report')) =
         let z : other ≡ rule = cc in
-        same_report dir names (on_page 0 0 rule ∷ []) o p report (subst (λ (r : Rule). IsReport names (on_page 0 0 r ∷ []) p) z report')
-    same_saying dir base names bs o p (inl (rule, set, report)) (inr (kept, more)) = absurd (let z = kept in cc)
-    same_saying dir base names bs o p (inr (kept, more)) (inl (rule, set, report)) = absurd (let z = kept in cc)
-    same_saying dir base names bs o p (inr (kept, inl (some, report))) (inr (kept', inl (some', report'))) = same_report dir names (text_faults 0 bs) o p report report'
-    same_saying dir base names bs o p (inr (kept, inl (some, report))) (inr (kept', inr (ts, trees, made))) = absurd (some (no_faults 0 bs ts trees))
-    same_saying dir base names bs o p (inr (kept, inr (ts, trees, made))) (inr (kept', inl (some, report))) = absurd (some (no_faults 0 bs ts trees))
-    same_saying dir base names bs o p (inr (kept, inr (ts, trees, made))) (inr (kept', inr (us, trees', made'))) =
-        same_set dir (record { base = base; pages = paged names ts }) o p made
+        same_report dir number names (on_page 0 0 rule ∷ []) o p report (subst (λ (r : Rule). IsReport names (on_page 0 0 r ∷ []) p) z report')
+    same_saying dir number base names bs o p (inl (rule, set, report)) (inr (kept, more)) = absurd (let z = kept in cc)
+    same_saying dir number base names bs o p (inr (kept, more)) (inl (rule, set, report)) = absurd (let z = kept in cc)
+    same_saying dir number base names bs o p (inr (kept, inl (some, report))) (inr (kept', inl (some', report'))) = same_report dir number names (text_faults 0 bs) o p report report'
+    same_saying dir number base names bs o p (inr (kept, inl (some, report))) (inr (kept', inr (ts, trees, made))) = absurd (some (no_faults 0 bs ts trees))
+    same_saying dir number base names bs o p (inr (kept, inr (ts, trees, made))) (inr (kept', inl (some, report))) = absurd (some (no_faults 0 bs ts trees))
+    same_saying dir number base names bs o p (inr (kept, inr (ts, trees, made))) (inr (kept', inr (us, trees', made'))) =
+        same_set dir number (record { base = base; pages = paged names ts }) o p made
         (subst (λ (xs : List Tree). Made base names xs p) (one_trees bs us ts trees' trees) made')
 
     pub outcome_one : (c : Command) (bs : List (List ℕ)) (due other : DueOutcome) → IsOutcome c bs due → IsOutcome c bs other → due ≡ other
-    outcome_one c bs due other (o, says, is) (p, says', is') =
-        is ∙ same_saying (dir_of c) (base_of c) (pages_of c) bs o p says says' ∙ sym is'
+    outcome_one c bs due other h k =
+        h.is.due_is ∙ same_saying (dir_of c) (number_of c) (base_of c) (pages_of c) bs h.outcome k.outcome h.is.says k.is.says ∙ sym k.is.due_is

@@ -4,7 +4,7 @@ use Rattle.ix_base.specs.Outside.{Begun, TextGainsFront}
 use Rattle.ix_base.specs.declared.outside.PageSource as source
 use Rattle.ix_base.specs.declared.outside.TargetSink as sink
 use Rattle.ix_base.specs.declared.outside.TextSink as text
-use Rattle.ixds_run.specs.Commands.{dir_of, pages_of}
+use Rattle.ixds_run.specs.Commands.{dir_of, number_of, pages_of}
 use Rattle.ixds_run.specs.Gains.{GainsStarts, GainsText}
 use Rattle.ixds_run.specs.Outcomes.{Gives, GivesFront, GivesPart, IfTold, OfBytes, SaysNothing}
 use Rattle.ixds_run.specs.Reading.{IsAmong, StopsInTime}
@@ -66,6 +66,8 @@ pub record Answers (command : Option Command) (old new : Outside) (SamePages Sam
   pub broken_pages : IfTold command old.page (λ c bs. SaysNothing c bs → SameTargets)
   -- A command without a directory leaves the targets, whatever the status.
   pub check : IfSome command (λ c. dir_of c ≡ None → SameTargets)
+  -- A sample, whose pages are made, leaves the pages of the outside, too.
+  pub sample : IfSome command (λ c. IfSome (number_of c) (λ n. SamePages))
   -- Usage: the words give no command, and then no other status comes but for a failed put and want of memory.
   pub usage : s ≡ Usage → (command ≡ None) × SamePages × SameTargets × GainsText usage_text old.taken new.taken
   pub usage_exactly : command ≡ None → (s ≡ Usage) ⊎ ((s ≡ WriteFault) ⊎ (s ≡ NoMemory))
@@ -92,7 +94,8 @@ pub record Answers (command : Option Command) (old new : Outside) (SamePages Sam
   pub starts : IfSome command (λ c. GainsStarts (pages_of c) old.page_starts new.page_starts)
   pub asked_page : IfSome command (λ c. SamePages ⊎ ((name : List ℕ) × IsAmong old.page (pages_of c) new.page_asked name))
   pub same_pages : new.page ≡ old.page
-  pub stops : (s ≡ Done) ⊎ (s ≡ Broken) → IfSome command (λ c. StopsInTime old.page (pages_of c) new.left new.page_asked)
+  pub stops : (s ≡ Done) ⊎ (s ≡ Broken)
+      → IfSome command (λ c. number_of c ≡ None → StopsInTime old.page (pages_of c) new.left new.page_asked)
   -- A failed call ends the run: each other status comes with no fault but its own.
   pub quiet_done : s ≡ Done → (new.page_faults ≡ old.page_faults)
       × (new.target_faults ≡ old.target_faults) × (new.text_faults ≡ old.text_faults)

@@ -1,10 +1,11 @@
 -- What the words of a command line ask for.
-use Rattle.std.specs.Prelude.{◌≡◌, ℕ, ◌<◌, ◌≤◌, true, false, All, IfSome, ◌&&◌, nat_lt, List, [], ◌∷◌, length, bytes_eq, codes, Option, Some, None, option_and_then, if◌then◌else◌}
+use Rattle.std.specs.Prelude.{◌≡◌, ℕ, ◌<◌, ◌≤◌, true, false, All, IfSome, ◌&&◌, nat_lt, List, [], ◌∷◌, length, bytes_eq, codes, Option, Some, None, option_and_then, option_map, if◌then◌else◌}
 use Rattle.clap.specs.Walk.{Row, all_of, first_of}
 use Rattle.ixds_run.specs.declared.command.Command.{Command}
-use Rattle.ixds_run.specs.declared.command.Command.TheVariants.{Extract, Check}
+use Rattle.ixds_run.specs.declared.command.Command.TheVariants.{Extract, Check, Sample}
 use Rattle.ixds_run.specs.Bases.{is_base}
 use Rattle.ixds_run.specs.Names.{are_pages, has_repeat}
+use Rattle.ixds_run.specs.Sample.{sample_base, sample_names, sample_number}
 use Rattle.ixds_run.specs.Simple.{check_app, extract_app, rows_taken}
 
 -- the extraction with this base, directory and pages, where they may stand for these
@@ -26,30 +27,45 @@ extract_in rows = extract_from (first_of (codes "base") rows) (first_of (codes "
 abbrev pub check_in : List Row → Option Command
 check_in rows = check_from (first_of (codes "base") rows) (all_of (codes "PAGE") rows)
 
--- the first word picks the command, whose simple command reads the words from there on
+-- the sample that the words behind `sample` ask for: one number
+abbrev pub sample_in : List (List ℕ) → Option Command
+sample_in (number ∷ []) = option_map Sample (sample_number number)
+sample_in words = None
+
+-- the first word picks the command, whose simple command reads the words from there on, but for a sample
 abbrev pub command_by : List ℕ → List (List ℕ) → Option Command
-command_by first words =
-    if bytes_eq first (codes "extract") then option_and_then extract_in (rows_taken extract_app words)
-    else (if bytes_eq first (codes "check") then option_and_then check_in (rows_taken check_app words) else None)
+command_by first rest =
+    if bytes_eq first (codes "extract") then option_and_then extract_in (rows_taken extract_app (first ∷ rest))
+    else (if bytes_eq first (codes "check") then option_and_then check_in (rows_taken check_app (first ∷ rest))
+    else (if bytes_eq first (codes "sample") then sample_in rest else None))
 
 -- the command that the words give, where they give one
 unfoldable pub command_of : List (List ℕ) → Option Command
 command_of [] = None
-command_of (first ∷ rest) = command_by first (first ∷ rest)
+command_of (first ∷ rest) = command_by first rest
 
 -- the names of the pages of a command
 abbrev pub pages_of : Command → List (List ℕ)
 pages_of (Extract base dir pages) = pages
 pages_of (Check base pages) = pages
+pages_of (Sample number) = sample_names
 
 abbrev pub base_of : Command → List ℕ
 base_of (Extract base dir pages) = base
 base_of (Check base pages) = base
+base_of (Sample number) = sample_base
 
 -- the directory word, where the command has one
 abbrev pub dir_of : Command → Option (List ℕ)
 dir_of (Extract base dir pages) = Some dir
 dir_of (Check base pages) = None
+dir_of (Sample number) = None
+
+-- how many facts a sample has, whose pages are made and not read
+abbrev pub number_of : Command → Option ℕ
+number_of (Extract base dir pages) = None
+number_of (Check base pages) = None
+number_of (Sample number) = Some number
 
 -- Names of pages as a command has them: few enough, none too long for a source, and none twice.
 pub record AreNames (names : List (List ℕ)) : Type 0 where
@@ -58,8 +74,10 @@ pub record AreNames (names : List (List ℕ)) : Type 0 where
   pub short : All (λ n. length n ≤ 4096) names
   pub once : has_repeat names ≡ false
 
--- A command as words give it: its base is a URL of the web, its directory word isn't empty, and its pages can be asked for.
+-- A command as words give it: its base is a URL of the web, its directory word isn't empty, its pages can be asked for, and a sample
+-- has from 1 to 200000 facts.
 pub record IsGiven (c : Command) : Type 0 where
   pub base : is_base (base_of c) ≡ true
   pub dir : IfSome (dir_of c) (λ d. 0 < length d)
   pub pages : AreNames (pages_of c)
+  pub number : IfSome (number_of c) (λ n. (1 ≤ n) × (n ≤ 200000))

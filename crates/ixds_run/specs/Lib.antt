@@ -6,6 +6,8 @@ pub mod Made
 pub mod Names
 pub mod Outcomes
 pub mod Reading
+pub mod Rearrangement
+pub mod Sample
 pub mod Simple
 pub mod Sizes
 pub mod Summary

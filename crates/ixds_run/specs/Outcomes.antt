@@ -1,18 +1,23 @@
 -- What a run gives: a status, a text for `out`, and targets.
-use Rattle.std.specs.Prelude.{◌≡◌, ◌≢◌, ◌⊎◌, ℕ, Bool, true, false, List, [], ◌∷◌, map, Option, Some, None, IfSome}
+use Rattle.std.specs.Prelude.{◌≡◌, ◌≢◌, ◌⊎◌, ℕ, Bool, true, false, List, [], ◌∷◌, All, length, map, Option, Some, None, IfSome, if◌then◌else◌}
 use Rattle.std.specs.List.{concat, flat_map}
+use Rattle.ix_base.specs.Forms.{is_empty}
 use Rattle.ix_base.specs.Outside.{Begun, TextGainsFront}
 use Rattle.ix_base.specs.Trees.{Tree}
 use Rattle.ix_base.specs.declared.rule.Rule.{Rule}
-use Rattle.instance_out.specs.Canonical.{canon_lines}
+use Rattle.instance_out.specs.Canonical.{canon, canon_lines}
+use Rattle.instance_out.specs.Theorem.{IsReadBack}
 use Rattle.page_tree.specs.Page.{page}
-use Rattle.ixds_run.specs.Commands.{base_of, dir_of, pages_of}
+use Rattle.ixds_run.specs.Commands.{base_of, dir_of, number_of, pages_of}
 use Rattle.ixds_run.specs.Gains.{GainsAll, GainsPart, GainsText}
 use Rattle.ixds_run.specs.Made.{Made}
+use Rattle.ixds_run.specs.Rearrangement.{IsRearranged}
+use Rattle.ixds_run.specs.Sample.{sample_bytes}
 use Rattle.ixds_run.specs.Summary.{summary_of}
-use Rattle.ixds_run.specs.Texts.{breach_line}
+use Rattle.ixds_run.specs.Texts.{breach_line, sample_text}
 use Rattle.ixds_run.specs.Told.{on_page, set_rule, text_faults, told}
 use Rattle.ixds_run.specs.declared.command.Command.{Command}
+use Rattle.ixds_run.specs.declared.command.Command.TheVariants.{Extract, Check, Sample}
 use Rattle.ixds_run.specs.declared.due.Due.{Due}
 use Rattle.ixds_run.specs.declared.due.DueTarget.{DueTarget}
 use Rattle.ixds_run.specs.declared.status.Status.{Status}
@@ -53,29 +58,69 @@ Says base names bs o =
 
 -- a target under a directory word, with its instance, finished
 abbrev pub whole_target : List ℕ → Target → Begun
-whole_target dir t = record { dir = dir; name = t.name; bytes = concat (canon_lines t.content); finished = true }
+whole_target dir t = record { dir = dir; name = t.name; bytes = canon t.content; finished = true }
 
 -- the targets that are written, which are none without a directory
 abbrev pub targets_under : Option (List ℕ) → List Target → List Begun
 targets_under None ts = []
 targets_under (Some dir) ts = map (whole_target dir) ts
 
--- what is due of what pages come to
-abbrev pub due_of : Option (List ℕ) → Outcome → DueOutcome
-due_of dir (Broken report) = record { status = status.Broken; text = flat_map breach_line report.lines; targets = [] }
-due_of dir (Whole ts) = record { status = status.Done; text = summary_of ts; targets = targets_under dir ts }
+-- a target by its name and the lines of its instance
+pub record Bare : Type 0 where
+  pub name : List ℕ
+  pub lines : List (List ℕ)
 
--- what is due from a command whose pages have these bytes
-abbrev pub IsOutcome : Command → List (List ℕ) → DueOutcome → Type 0
-IsOutcome c bs due = (o : Outcome) × Says (base_of c) (pages_of c) bs o × (due ≡ due_of (dir_of c) o)
+abbrev pub bare : Target → Bare
+bare t = record { name = t.name; lines = canon_lines t.content }
+
+-- how many bytes the instance of the default target has, 0 where there is none
+abbrev pub default_len : List Bare → ℕ
+default_len [] = 0
+default_len (t ∷ ts) = if is_empty t.name then length (concat t.lines) else default_len ts
+
+-- what is told of targets: their summary, of a sample with its number and the length of its instance
+abbrev pub text_of : Option ℕ → List Target → List ℕ
+text_of None ts = summary_of ts
+text_of (Some number) ts = sample_text number (summary_of ts) (default_len (map bare ts))
+
+-- what is due of what pages come to, under this directory or none, and where this is the number of a sample
+abbrev pub due_of : Option (List ℕ) → Option ℕ → Outcome → DueOutcome
+due_of dir number (Broken report) = record { status = status.Broken; text = flat_map breach_line report.lines; targets = [] }
+due_of dir number (Whole ts) = record { status = status.Done; text = text_of number ts; targets = targets_under dir ts }
+
+-- The instance of each target is read back: its bytes have a tree that denotes the content of the target, and none that denotes
+-- another.
+abbrev pub AreReadBack : Outcome → Type 0
+AreReadBack (Broken report) = Unit {0}
+AreReadBack (Whole ts) = All (λ t. IsReadBack (canon t.content) t.content) ts
+
+-- this is due from a command whose pages have these bytes and say this
+pub record IsDue (outcome : Outcome) (c : Command) (bs : List (List ℕ)) (due : DueOutcome) : Type 0 where
+  pub says : Says (base_of c) (pages_of c) bs outcome
+  pub due_is : due ≡ due_of (dir_of c) (number_of c) outcome
+
+-- What is due from a command whose pages have these bytes: what is due of what the pages say. It is due from the same command with its
+-- pages in any other order, too: the same status, the same text, the same bytes of each target. The bytes of each target denote exactly
+-- the content that the pages mark for it.
+pub record IsOutcome (c : Command) (bs : List (List ℕ)) (due : DueOutcome) : Type 0 where
+  pub outcome : Outcome
+  pub is : IsDue outcome c bs due
+  pub any_order : (d : Command) (cs : List (List ℕ)) → IsRearranged c bs d cs → IsDue outcome d cs due
+  pub read_back : AreReadBack outcome
 
 -- pages with these bytes break a rule, so that nothing of them is written
 abbrev pub SaysNothing : Command → List (List ℕ) → Type 0
 SaysNothing c bs = (targets : List Target) → ¬ Says (base_of c) (pages_of c) bs (Whole targets)
 
+-- the bytes of the pages of a command, where the source tells them all; those of a sample are made
+abbrev pub bytes_told : (List ℕ → Option (List ℕ)) → Command → Option (List (List ℕ))
+bytes_told page (Extract base dir pages) = told page pages
+bytes_told page (Check base pages) = told page pages
+bytes_told page (Sample number) = Some (sample_bytes number)
+
 -- a fact of the command and of the bytes of its pages, where the words give one and the source tells them all
 abbrev pub IfTold : Option Command → (List ℕ → Option (List ℕ)) → (Command → List (List ℕ) → Type 0) → Type 0
-IfTold command page fact = IfSome command (λ c. IfSome (told page (pages_of c)) (fact c))
+IfTold command page fact = IfSome command (λ c. IfSome (bytes_told page c) (fact c))
 
 -- a fact of some bytes, which are these, where there are any
 abbrev pub AreSome : Option (List (List ℕ)) → (List (List ℕ) → Type 0) → Type 0
@@ -84,7 +129,7 @@ AreSome all fact = (bs : List (List ℕ)) × IfSome all (λ told. told ≡ bs) �
 -- A fact of the command and of the bytes of its pages, where the words give one. The source may not tell these bytes; where it
 -- tells them all, they are those that it tells.
 abbrev pub OfBytes : Option Command → (List ℕ → Option (List ℕ)) → (Command → List (List ℕ) → Type 0) → Type 0
-OfBytes command page fact = IfSome command (λ c. AreSome (told page (pages_of c)) (fact c))
+OfBytes command page fact = IfSome command (λ c. AreSome (bytes_told page c) (fact c))
 
 -- what is due with this status was given, all of it
 abbrev pub Gives : Status → (targets targets' : Option (List Begun)) → (taken taken' : Option (List ℕ))
@@ -125,13 +170,5 @@ targets_due dir due = ready_under dir due.targets.items
 abbrev pub outcome_of : Option (List ℕ) → Due → DueOutcome
 outcome_of dir due = record { status = status_of due.is_broken; text = due.text.items; targets = targets_due dir due }
 
--- a target by its name and the lines of its instance
-pub record Bare : Type 0 where
-  pub name : List ℕ
-  pub lines : List (List ℕ)
-
 abbrev pub bare_ready : DueTarget → Bare
 bare_ready t = record { name = t.name; lines = t.prepared }
-
-abbrev pub bare : Target → Bare
-bare t = record { name = t.name; lines = canon_lines t.content }

@@ -1,5 +1,5 @@
 -- Reading pages one behind another, each piece by piece.
-use Rattle.std.specs.Prelude.{◌≡◌, ◌⊎◌, ℕ, suc, ◌+◌, ◌≤◌, ◌<◌, List, [], ◌∷◌, ◌++◌, length, Option, Some, None, IfSome}
+use Rattle.std.specs.Prelude.{◌≡◌, ◌⊎◌, ℕ, suc, ◌+◌, ◌≤◌, ◌<◌, List, [], ◌∷◌, ◌++◌, length, Option, Some, None, IfSome, Result, Ok, Err}
 use Rattle.std.specs.Borrow.{Bor}
 use Rattle.ix_base.specs.Elements.{pages_of}
 use Rattle.ix_base.specs.Trees.{tree_of}
@@ -15,7 +15,15 @@ use Rattle.ixds_run.specs.Told.{told, all_tags_in, bytes_in, set_rule, text_faul
 use Rattle.ixds_run.specs.declared.forest.Forest.{Forest}
 use Rattle.ixds_run.specs.declared.forest.Stopped.{Stopped}
 use Rattle.ixds_run.specs.declared.forest.Stopped.TheVariants as stopped
+use Rattle.ixds_run.specs.declared.reading.ReadError.{ReadError}
+use Rattle.ixds_run.specs.declared.reading.ReadError.TheVariants as read_error
 use Rattle.ixds_run.specs.declared.reading.Sums.{Sums}
+
+-- A read that failed raised the count of faults; any other answer left it.
+abbrev pub HasReadCause : {X : Type 0} → (before now : ℕ) → Result X ReadError → Type 0
+HasReadCause before now (Ok x) = now ≡ before
+HasReadCause before now (Err read_error.Failed) = before < now
+HasReadCause before now (Err read_error.NoMemory) = now ≡ before
 
 -- Of a page a front was read, which the builder was given and by which the sums grew. Where the source tells the page, it
 -- is that page's front, and the rest is left.

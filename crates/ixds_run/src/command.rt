@@ -3,15 +3,18 @@ ghost use Rattle.std.specs.Prelude.{◌≡◌, IfOk, IfSome, Some, map, option_a
 ghost use Rattle.ixds_run.specs.Commands as spec;
 ghost use Rattle.ixds_run.specs.Simple.{check_app, extract_app, rows_of_matches, rows_taken};
 
+use crate::sample::sample_names;
 use base::is_base;
 use clap::ArgMatches;
 use ix_base::{List, NoMemory, Text};
 use names::are_pages;
+use number::sample_number;
 use simple::{check_words, extract_words, matched};
 use std::alloc::Global;
 
 mod base;
 mod names;
+mod number;
 mod simple;
 #[cfg(test)]
 mod tests;
@@ -23,16 +26,19 @@ pub enum Command {
     Extract(Text, Text, List<Text>),
     /// To tell what extracting would: the base, and the names of the pages.
     Check(Text, List<Text>),
+    /// To make a sample of so many facts, and to tell what extracting it would and how long its instance is.
+    Sample(u32),
 }
 
 impl Command {
     /// The names of the pages.
-    pub fn pages(&self) -> &[Text]
-        ensures { result.now ≡ spec.pages_of self.now }
+    pub fn names(&self, alloc: Global) -> Result<Vec<Text>, NoMemory>
+        ensures { IfOk result (λ v. v.items ≡ spec.pages_of self.now) }
     {
         match self {
-            Command::Extract(_, _, pages) => pages.as_slice(),
-            Command::Check(_, pages) => pages.as_slice(),
+            Command::Extract(_, _, pages) => copied(alloc, pages.as_slice()),
+            Command::Check(_, pages) => copied(alloc, pages.as_slice()),
+            Command::Sample(_) => sample_names(alloc),
         }
     }
 
@@ -43,6 +49,7 @@ impl Command {
         match self {
             Command::Extract(base, _, _) => base.as_str(),
             Command::Check(base, _) => base.as_str(),
+            Command::Sample(_) => "http://sample.example/",
         }
     }
 
@@ -53,12 +60,35 @@ impl Command {
         match self {
             Command::Extract(_, dir, _) => Some(dir.as_str()),
             Command::Check(_, _) => None,
+            Command::Sample(_) => None,
+        }
+    }
+
+    /// How many facts a sample has.
+    pub fn number(&self) -> Option<u32>
+        ensures { result ≡ spec.number_of self.now }
+    {
+        match self {
+            Command::Extract(_, _, _) => None,
+            Command::Check(_, _) => None,
+            Command::Sample(number) => Some(*number),
         }
     }
 }
 
-/// Copies of the words.
-fn copied(alloc: Global, words: &[&str]) -> Result<Vec<Text>, NoMemory>
+/// Copies of texts.
+fn copied(alloc: Global, texts: &[Text]) -> Result<Vec<Text>, NoMemory>
+    ensures { IfOk result (λ v. v.items ≡ texts.now) }
+{
+    let mut copies = Vec::new(alloc);
+    for text in texts {
+        copies.push(Text::of(alloc, text.as_str())?)?;
+    }
+    Ok(copies)
+}
+
+/// The words as texts.
+fn texts_of(alloc: Global, words: &[&str]) -> Result<Vec<Text>, NoMemory>
     ensures { IfOk result (λ v. v.items ≡ map (λ s. s.now) words.now) }
 {
     let mut texts = Vec::new(alloc);
@@ -79,7 +109,7 @@ fn extract_from(
     ensures { IfOk result (λ r. r ≡ spec.extract_from (Some base.now) (Some dir.now) (Some (map (λ s. s.now) words.now))) }
 {
     let is_base = is_base(alloc, base)?;
-    let pages = copied(alloc, words)?;
+    let pages = texts_of(alloc, words)?;
     if is_base && !dir.is_empty() && are_pages(pages.as_slice()) {
         let base = Text::of(alloc, base)?;
         let dir = Text::of(alloc, dir)?;
@@ -93,7 +123,7 @@ fn check_from(alloc: Global, base: &str, words: &[&str]) -> Result<Option<Comman
     ensures { IfOk result (λ r. r ≡ spec.check_from (Some base.now) (Some (map (λ s. s.now) words.now))) }
 {
     let is_base = is_base(alloc, base)?;
-    let pages = copied(alloc, words)?;
+    let pages = texts_of(alloc, words)?;
     if is_base && are_pages(pages.as_slice()) {
         let base = Text::of(alloc, base)?;
         return Ok(Some(Command::Check(base, List::of(pages))));
@@ -150,12 +180,22 @@ fn check_of<'a>(alloc: Global, words: &'a [Text]) -> Result<Option<Command>, NoM
     }
 }
 
+/// The sample that the words behind `sample` ask for.
+fn sample_in(words: &[Text]) -> Option<Command>
+    ensures { result ≡ spec.sample_in words.now }
+{
+    match words {
+        [number] => sample_number(number.as_str()).map(Command::Sample),
+        _ => None,
+    }
+}
+
 /// The command that the first word picks, and the words from there on give.
 #[tactic(auto, unfolding(crate::specs::Commands::command_of))]
 fn picked(alloc: Global, words: &[Text]) -> Result<Option<Command>, NoMemory>
     ensures { IfOk result (λ c. c ≡ spec.command_of words.now) }
 {
-    let [first, ..] = words else {
+    let [first, rest @ ..] = words else {
         return Ok(None);
     };
     if first.as_str() == "extract" {
@@ -163,6 +203,9 @@ fn picked(alloc: Global, words: &[Text]) -> Result<Option<Command>, NoMemory>
     }
     if first.as_str() == "check" {
         return check_of(alloc, words);
+    }
+    if first.as_str() == "sample" {
+        return Ok(sample_in(rest));
     }
     Ok(None)
 }

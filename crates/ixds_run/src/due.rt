@@ -1,11 +1,12 @@
 //! What is due, ready to be given.
-ghost use Rattle.std.specs.Prelude.{◌≡◌, ◌<◌, [], List, ℕ, Option, All, IfOk, map, true, false};
+ghost use Rattle.std.specs.Prelude.{◌≡◌, ◌<◌, [], List, ℕ, Option, All, IfOk, None, map, true, false};
 ghost use Rattle.instance_out.specs.Writable.{IsWritable};
 ghost use Rattle.targets.specs.Outcomes.{CanBeWritten};
 ghost use Rattle.targets.specs.declared.outcome.Outcome.TheVariants.{Broken, Whole};
-ghost use Rattle.ixds_run.specs.Outcomes.{bare, bare_ready, status_of, due_of, outcome_of};
+ghost use Rattle.ixds_run.specs.Outcomes.{bare, bare_ready, default_len, due_of, outcome_of, status_of, text_of};
 
 use crate::Status;
+use crate::lines::sample_text;
 use crate::report::lines_of;
 use crate::summary::summary;
 use instance_out::{Prepared, prepare};
@@ -55,14 +56,46 @@ fn prepared(alloc: Global, targets: &[Target]) -> Result<Vec<DueTarget>, NoMemor
     Ok(ready)
 }
 
+/// How many bytes the instance of the default target has, 0 where there is none.
+fn default_len(targets: &[DueTarget]) -> u64
+    ensures { result ≡ default_len (map bare_ready targets.now) }
+{
+    for target in targets {
+        if target.name.as_str().is_empty() {
+            return target.prepared.len();
+        }
+    }
+    0
+}
+
+/// What is told of targets, with the number of a sample.
+fn text_of(
+    alloc: Global,
+    targets: &[Target],
+    ready: &[DueTarget],
+    number: Option<u32>,
+) -> Result<Vec<u8>, NoMemory>
+    requires { map bare_ready ready.now ≡ map bare targets.now }
+    ensures { IfOk result (λ v. v.items ≡ text_of number targets.now) }
+{
+    let summary = summary(alloc, targets)?;
+    match number {
+        None => Ok(summary),
+        Some(number) => {
+            let len = default_len(ready);
+            Ok(sample_text(alloc, number, summary.as_slice(), len)?)
+        }
+    }
+}
+
 /// What is due of targets.
-fn due_of_targets(alloc: Global, targets: &[Target]) -> Result<Due, NoMemory>
+fn due_of_targets(alloc: Global, targets: &[Target], number: Option<u32>) -> Result<Due, NoMemory>
     requires { All (λ t. IsWritable t.content) targets.now }
-    ensures due { IfOk result (λ due. (dir : Option (List ℕ)) → outcome_of dir due ≡ due_of dir (Whole targets.now)) }
+    ensures due { IfOk result (λ due. (dir : Option (List ℕ)) → outcome_of dir due ≡ due_of dir number (Whole targets.now)) }
     ensures whole { IfOk result (λ due. due.is_broken ≡ false) }
 {
     let ready = prepared(alloc, targets)?;
-    let text = summary(alloc, targets)?;
+    let text = text_of(alloc, targets, ready.as_slice(), number)?;
     Ok(Due {
         is_broken: false,
         targets: ready,
@@ -72,7 +105,7 @@ fn due_of_targets(alloc: Global, targets: &[Target]) -> Result<Due, NoMemory>
 
 /// What is due of a report.
 fn due_of_report(alloc: Global, report: &Report) -> Result<Due, NoMemory>
-    ensures due { IfOk result (λ due. (dir : Option (List ℕ)) → outcome_of dir due ≡ due_of dir (Broken report.now)) }
+    ensures due { IfOk result (λ due. (dir : Option (List ℕ)) → outcome_of dir due ≡ due_of dir None (Broken report.now)) }
     ensures none { IfOk result (λ due. due.targets.items ≡ []) }
 {
     let text = lines_of(alloc, report)?;
@@ -83,14 +116,14 @@ fn due_of_report(alloc: Global, report: &Report) -> Result<Due, NoMemory>
     })
 }
 
-/// What is due of what pages come to.
-pub fn ready(alloc: Global, outcome: &Outcome) -> Result<Due, NoMemory>
+/// What is due of what pages come to, where this is the number of a sample.
+pub fn ready(alloc: Global, outcome: &Outcome, number: Option<u32>) -> Result<Due, NoMemory>
     requires { CanBeWritten outcome.now }
-    ensures due { IfOk result (λ due. (dir : Option (List ℕ)) → outcome_of dir due ≡ due_of dir outcome.now) }
+    ensures due { IfOk result (λ due. (dir : Option (List ℕ)) → outcome_of dir due ≡ due_of dir number outcome.now) }
     ensures none { IfOk result (λ due. due.is_broken ≡ true → due.targets.items ≡ []) }
 {
     match outcome {
         Outcome::Broken(report) => due_of_report(alloc, report),
-        Outcome::Whole(targets) => due_of_targets(alloc, targets.as_slice()),
+        Outcome::Whole(targets) => due_of_targets(alloc, targets.as_slice(), number),
     }
 }

@@ -11,13 +11,15 @@ use crate::Status;
 use crate::command::Command;
 use crate::deliver::deliver;
 use crate::due::{Due, ready};
-use crate::forest::{Forest, Stopped, read_all};
+use crate::forest::{Forest, Stopped};
+use crate::gather::gathered;
 use crate::judge::judge;
+use crate::laws::{said_in_any_order, said_read_back};
 use bumpalo::Bump;
 use ix_base::{NoMemory, PageSource, TargetSink, TextSink};
 use std::alloc::Global;
 
-/// What is due from a command whose pages were read.
+/// What is due from a command whose pages were read or made.
 fn due_from<'a>(
     alloc: Global,
     arena: &'a Bump,
@@ -32,11 +34,14 @@ fn due_from<'a>(
     ensures nothing { IfOk result (λ due. (bs : List (List ℕ)) → IsRead bs forest.entry → SaysNothing command.now bs
         → due.targets.items ≡ []) }
 {
-    let outcome = judge(alloc, arena, command.base(), command.pages(), forest)?;
-    ready(alloc, &outcome)
+    said_read_back();
+    said_in_any_order();
+    let names = command.names(alloc)?;
+    let outcome = judge(alloc, arena, command.base(), names.as_slice(), forest)?;
+    ready(alloc, &outcome, command.number())
 }
 
-/// Answers a command whose pages were read.
+/// Answers a command whose pages were read or made.
 pub fn answer<'a, S: TargetSink, T: TextSink>(
     alloc: Global,
     arena: &'a Bump,
@@ -76,7 +81,7 @@ pub fn answer<'a, S: TargetSink, T: TextSink>(
     }
 }
 
-/// Reads the command's pages and answers it.
+/// Reads the command's pages, or makes them, and answers it.
 pub fn extract<P: PageSource, S: TargetSink, T: TextSink>(
     alloc: Global,
     command: &Command,
@@ -94,7 +99,7 @@ pub fn extract<P: PageSource, S: TargetSink, T: TextSink>(
         (pages.new ≡ pages.old) (sink.new ≡ sink.old) (out.new ≡ out.old) result }
 {
     let arena = Bump::new(alloc);
-    match read_all(alloc, &arena, pages, command.pages()) {
+    match gathered(alloc, &arena, command, pages) {
         Err(Stopped::NoMemory) => Status::NoMemory,
         Err(Stopped::Failed(line)) => put_read_fault(line.as_slice(), out),
         Ok(forest) => answer(alloc, &arena, command, forest, sink, out),

@@ -1,12 +1,11 @@
 //! Reading the pages of a command.
 ghost use Rattle.std.specs.Prelude.{◌≡◌, ◌+◌, ◌^◌, ◌<◌, ◌≤◌, ◌⊎◌, ◌++◌, ◌∷◌, [], ℕ, List, All, length, vec_len, None};
-ghost use Rattle.std.specs.Prelude.{IfOk, IfErr, IfSome, IsErrOf, OnOk, OnErr, option_map};
+ghost use Rattle.std.specs.Prelude.{IfOk, IfErr, IfSome, OnOk, OnErr, option_map};
 ghost use Rattle.ixds_run.specs.Gains.{GainsStarts};
 ghost use Rattle.ixds_run.specs.Outcomes.{AreSome};
 ghost use Rattle.page_tree.specs.Standing.{StandsFor, limit, page_number};
-ghost use Rattle.ixds_run.specs.Reading.{HasGained, IsAmong, IsRead, IsSound, ReadsOn, StopsAt, StopsInTime, WhyStopped};
+ghost use Rattle.ixds_run.specs.Reading.{HasGained, HasReadCause, IsAmong, IsRead, IsSound, ReadsOn, StopsAt, StopsInTime, WhyStopped};
 ghost use Rattle.ixds_run.specs.Told.{told};
-ghost use Rattle.ixds_run.specs.declared.reading.ReadError.TheVariants.{Failed as ReadFailed, NoMemory as ReadNoMemory};
 
 use crate::lines::cannot_read;
 use crate::reading::{MOST_BYTES, ReadError, Sums, read_page};
@@ -16,7 +15,7 @@ use page_tree::{PageFault, TreeBuilder};
 use std::alloc::{AllocError, Global};
 
 /// The most levels of elements of a page.
-const DEPTH: u32 = 256;
+pub const DEPTH: u32 = 256;
 
 /// How many bytes a read asks for at most.
 const BUFFER: usize = 65_536;
@@ -37,33 +36,22 @@ pub enum Stopped {
     NoMemory,
 }
 
-/// Ends a page that was read, and keeps its root or its break.
-fn add_page<'a>(
-    builder: TreeBuilder<'a>,
-    number: u32,
-    forest: &mut Forest<'a>,
-) -> Result<(), NoMemory>
-    requires depth { limit builder ≡ 256 }
-    requires page { page_number builder ≡ number }
-    ensures gained { OnOk result ((b : List ℕ) → StandsFor builder.entry b → HasGained number b forest.old forest.new) }
-    ensures sums { forest.new.sums ≡ forest.old.sums }
+/// What stands before the first page.
+pub fn no_pages<'a>(alloc: Global) -> Forest<'a>
+    ensures bytes { result.sums.bytes ≡ 0 }
+    ensures tags { result.sums.tags ≡ 0 }
+    ensures found { result.found ≡ [] }
+    ensures roots { result.roots.items ≡ [] }
 {
-    match builder.finish() {
-        Ok(root) => forest.roots.push(root)?,
-        Err(PageFault::Broken { offset, rule }) => forest.found.add(
-            Place {
-                page: number,
-                offset,
-            },
-            rule,
-        )?,
-        Err(PageFault::NoMemory) => return Err(NoMemory),
+    Forest {
+        sums: Sums { bytes: 0, tags: 0 },
+        roots: Vec::new(alloc),
+        found: Breaches::new(alloc),
     }
-    Ok(())
 }
 
-/// Ends a page that was read, unless the sums have passed the limit.
-fn end_page<'a>(
+/// Ends a page, and keeps its root or its break, unless the sums have passed the limit.
+pub fn end_page<'a>(
     builder: TreeBuilder<'a>,
     number: u32,
     forest: &mut Forest<'a>,
@@ -74,8 +62,19 @@ fn end_page<'a>(
         → (b : List ℕ) → StandsFor builder.entry b → HasGained number b forest.old forest.new) }
     ensures sums { forest.new.sums ≡ forest.old.sums }
 {
-    if forest.sums.bytes <= MOST_BYTES {
-        return add_page(builder, number, forest);
+    if forest.sums.bytes > MOST_BYTES {
+        return Ok(());
+    }
+    match builder.finish() {
+        Ok(root) => forest.roots.push(root)?,
+        Err(PageFault::Broken { offset, rule }) => forest.found.add(
+            Place {
+                page: number,
+                offset,
+            },
+            rule,
+        )?,
+        Err(PageFault::NoMemory) => return Err(NoMemory),
     }
     Ok(())
 }
@@ -101,9 +100,7 @@ fn read_on<'a, P: PageSource>(
     ensures named { IfSome (P.asked pages.new) (λ n. n ≡ name.now) }
     ensures starts { P.starts pages.new ≡ option_map (λ names. names ++ name.now ∷ []) (P.starts pages.old) }
     ensures pages { P.page pages.new ≡ P.page pages.old }
-    ensures ok { OnOk result (P.faults pages.new ≡ P.faults pages.old) }
-    ensures failed { IsErrOf result ReadFailed → P.faults pages.old < P.faults pages.new }
-    ensures memory { IsErrOf result ReadNoMemory → P.faults pages.new ≡ P.faults pages.old }
+    ensures cause { HasReadCause (P.faults pages.old) (P.faults pages.new) result }
 {
     let mut builder = TreeBuilder::new(alloc, arena, number, DEPTH);
     read_page(pages, name, buffer, &mut builder, &mut forest.sums)?;
@@ -144,11 +141,7 @@ pub fn read_all<'a, P: PageSource>(
     let Ok(mut buffer) = zeros(alloc, BUFFER) else {
         return Err(Stopped::NoMemory);
     };
-    let mut forest = Forest {
-        sums: Sums { bytes: 0, tags: 0 },
-        roots: Vec::new(alloc),
-        found: Breaches::new(alloc),
-    };
+    let mut forest = no_pages(alloc);
     for (number, name) in names.iter().enumerate() {
         read_next(
             alloc,
@@ -181,9 +174,9 @@ fn read_next<'a, P: PageSource>(
     requires room { length buffer.old ≡ 65536 }
     requires most { forest.old.sums.bytes ≤ 268435456 }
     requires tags { forest.old.sums.tags ≤ forest.old.sums.bytes }
-    ensures reads { OnOk result (ReadsOn (P.page pages.old name.now) (P.left pages.new) number forest.old forest.new) }
     ensures most { OnOk result (forest.new.sums.bytes ≤ 268435456 + 65536) }
     ensures tags { OnOk result (forest.new.sums.tags ≤ forest.new.sums.bytes) }
+    ensures reads { OnOk result (ReadsOn (P.page pages.old name.now) (P.left pages.new) number forest.old forest.new) }
     ensures named { OnOk result (IfSome (P.asked pages.new) (λ n. n ≡ name.now)) }
     ensures asked { (pages.new ≡ pages.old) ⊎ IfSome (P.asked pages.new) (λ n. n ≡ name.now) }
     ensures started { OnOk result (P.starts pages.new ≡ option_map (λ names. names ++ name.now ∷ []) (P.starts pages.old)) }

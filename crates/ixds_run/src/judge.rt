@@ -49,9 +49,9 @@ fn too_large(alloc: Global, names: &[Text], rule: Rule) -> Result<Outcome, NoMem
 fn judge_kept<'a>(
     alloc: Global,
     arena: &'a Bump,
+    forest: Forest<'a>,
     base: &str,
     names: &[Text],
-    forest: Forest<'a>,
 ) -> Result<Outcome, NoMemory>
     requires some { 0 < length names.now }
     requires most { length names.now ≤ 64 }
@@ -85,6 +85,6 @@ pub fn judge<'a>(
 {
     match size_rule_of(forest.sums) {
         Some(rule) => too_large(alloc, names, rule),
-        None => judge_kept(alloc, arena, base, names, forest),
+        None => judge_kept(alloc, arena, forest, base, names),
     }
 }

@@ -1,15 +1,19 @@
 //! Laws of what words give and of what a run gives.
 ghost use Rattle.std.specs.Prelude.{◌≡◌, ◌∷◌, [], ℕ, List, Some};
 ghost use Rattle.std.specs.List.{flat_map};
+ghost use Rattle.std.specs.List.Sorted.{IsPermutation};
 ghost use Rattle.ix_base.specs.Breaches.{report_of};
 ghost use Rattle.ix_base.specs.declared.breach.Breach.{Breach};
 ghost use Rattle.ixds_run.specs.Commands.{command_of, IsGiven};
-ghost use Rattle.ixds_run.specs.Outcomes.{DueOutcome, IsOutcome};
+ghost use Rattle.ixds_run.specs.Outcomes.{AreReadBack, DueOutcome, IsOutcome, Says};
+ghost use Rattle.ixds_run.specs.Rearrangement.{Handed, bytes_of, names_of};
 ghost use Rattle.ixds_run.specs.Texts.{breach_line};
 ghost use Rattle.ixds_run.specs.declared.command.Command.{Command};
+ghost use Rattle.targets.specs.declared.outcome.Outcome.{Outcome};
 
 use facts::laws::one_item;
-use page_tree::laws::{no_tree, one_tree};
+use instance_out::read_back;
+use page_tree::laws::{no_tree, one_tree, sound_tree};
 
 /// A command that words give has a base, a directory and pages that it may have.
 pub fn given_command()
@@ -20,6 +24,22 @@ pub fn given_command()
 pub fn one_line()
     ensures { (b : Breach) → flat_map breach_line (report_of (b ∷ [])) ≡ breach_line b }
 {}
+
+/// The targets that pages mark are read back: the bytes of each denote its content, and nothing else.
+pub fn said_read_back()
+    ensures { (base : List ℕ) (names bs : List (List ℕ)) (o : Outcome) → Says base names bs o → AreReadBack o }
+{
+    sound_tree();
+    read_back();
+}
+
+/// Pages that are handed over in another order say the same.
+pub fn said_in_any_order()
+    ensures { (base : List ℕ) (o : Outcome) (pages others : List Handed) → IsPermutation pages others
+        → Says base (names_of pages) (bytes_of pages) o → Says base (names_of others) (bytes_of others) o }
+{
+    sound_tree();
+}
 
 /// For the pages of a command at most one outcome is due.
 pub fn one_outcome()

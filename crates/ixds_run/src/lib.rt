@@ -10,12 +10,15 @@ mod deliver;
 mod due;
 mod extract;
 mod forest;
+mod gather;
+mod held;
 mod judge;
 pub mod laws;
 mod lines;
 mod made;
 mod reading;
 mod report;
+mod sample;
 mod status;
 mod summary;
 
@@ -23,6 +26,7 @@ pub use command::{Command, command_of};
 use extract::extract;
 use ix_base::{PageSource, TargetSink, Text, TextSink};
 use lines::put_usage;
+pub use sample::sample_pages;
 pub use status::Status;
 use std::alloc::Global;
 

@@ -2,7 +2,7 @@
 ghost use Rattle.std.specs.Prelude.{◌≡◌, ◌⊎◌, ◌+◌, ◌^◌, ◌<◌, ◌++◌, IfOk};
 ghost use Rattle.ix_base.specs.Outside.{TextGainsFront};
 ghost use Rattle.ixds_run.specs.Gains.{GainsText};
-ghost use Rattle.ixds_run.specs.Texts.{cannot_read_line, usage_text};
+ghost use Rattle.ixds_run.specs.Texts.{cannot_read_line, sample_text, usage_text};
 
 use crate::Status;
 use ix_base::TextSink;
@@ -26,12 +26,27 @@ fn joined(alloc: Global, a: &[u8], b: &[u8], c: &[u8]) -> Result<Vec<u8>, AllocE
     Ok(v)
 }
 
+/// What is told of a sample of so many facts, which has this summary, and an instance of so many bytes.
+#[tactic(auto, unfolding(crate::specs::Texts::sample_text))]
+pub fn sample_text(
+    alloc: Global,
+    number: u32,
+    summary: &[u8],
+    len: u64,
+) -> Result<Vec<u8>, AllocError>
+    ensures { IfOk result (λ v. v.items ≡ sample_text number summary.now len) }
+{
+    let first = format!(in alloc; "sample {number}\n")?;
+    let last = format!(in alloc; "{len} bytes\n")?;
+    joined(alloc, first.as_bytes(), summary, last.as_bytes())
+}
+
 /// How the program is used.
 #[tactic(auto, unfolding(crate::specs::Texts::usage_text))]
 fn usage() -> &'static [u8]
     ensures { result.now ≡ usage_text }
 {
-    b"usage: ixds extract --base URL --out DIR PAGE...\n       ixds check --base URL PAGE...\n"
+    b"usage: ixds extract --base URL --out DIR PAGE...\n       ixds check --base URL PAGE...\n       ixds sample N\n"
 }
 
 /// Tells how the program is used.

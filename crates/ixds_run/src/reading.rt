@@ -1,11 +1,10 @@
 //! Reading a page into a builder of its tree.
 ghost use Rattle.std.specs.Prelude.{◌≡◌, ◌+◌, ◌^◌, ◌<◌, ◌≤◌, ◌++◌, ◌∷◌, [], ℕ, List, Option, length, vec_len, true, false};
-ghost use Rattle.std.specs.Prelude.{IsTrue, IsErrOf, IfOk, IfSome, OnOk, option_map};
+ghost use Rattle.std.specs.Prelude.{IsTrue, IfOk, IfSome, OnOk, option_map};
 ghost use Rattle.page_tree.specs.Standing.{StandsFor, fed_bytes, limit, page_number};
 ghost use Rattle.ixds_run.specs.Sizes.{tags_in};
-ghost use Rattle.ixds_run.specs.Reading.{HasFed, IsWhole};
+ghost use Rattle.ixds_run.specs.Reading.{HasFed, HasReadCause, IsWhole};
 ghost use Rattle.ixds_run.specs.declared.reading.Sums.{Sums as SumsOf};
-ghost use Rattle.ixds_run.specs.declared.reading.ReadError.TheVariants.{Failed as ReadFailed, NoMemory as ReadNoMemory};
 
 use ix_base::PageSource;
 use page_tree::TreeBuilder;
@@ -31,7 +30,7 @@ pub struct Sums {
 pub const MOST_BYTES: u64 = 268_435_456;
 
 /// How many bytes of a piece are `<`.
-fn count_tags(piece: &[u8]) -> u64
+pub fn count_tags(piece: &[u8]) -> u64
     ensures value { result ≡ tags_in piece.now }
     ensures most { result ≤ length piece.now }
 {
@@ -64,9 +63,7 @@ fn read_piece<P: PageSource>(
     ensures asked { P.asked pages.new ≡ P.asked pages.old }
     ensures starts { P.starts pages.new ≡ P.starts pages.old }
     ensures pages { P.page pages.new ≡ P.page pages.old }
-    ensures ok { OnOk result (P.faults pages.new ≡ P.faults pages.old) }
-    ensures failed { IsErrOf result ReadFailed → P.faults pages.old < P.faults pages.new }
-    ensures memory { IsErrOf result ReadNoMemory → P.faults pages.new ≡ P.faults pages.old }
+    ensures cause { HasReadCause (P.faults pages.old) (P.faults pages.new) result }
 {
     let n = match pages.read(buffer) {
         Ok(n) => n,
@@ -105,9 +102,7 @@ pub fn read_page<P: PageSource>(
     ensures named { IfSome (P.asked pages.new) (λ n. n ≡ name.now) }
     ensures starts { P.starts pages.new ≡ option_map (λ names. names ++ name.now ∷ []) (P.starts pages.old) }
     ensures pages { P.page pages.new ≡ P.page pages.old }
-    ensures ok { OnOk result (P.faults pages.new ≡ P.faults pages.old) }
-    ensures failed { IsErrOf result ReadFailed → P.faults pages.old < P.faults pages.new }
-    ensures memory { IsErrOf result ReadNoMemory → P.faults pages.new ≡ P.faults pages.old }
+    ensures cause { HasReadCause (P.faults pages.old) (P.faults pages.new) result }
 {
     if pages.start(name).is_err() {
         return Err(ReadError::Failed);

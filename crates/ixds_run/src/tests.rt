@@ -3,7 +3,7 @@ ghost use Rattle.std.specs.Prelude.{◌≡◌, ◌<◌};
 
 use crate::{Status, run};
 use counted::{Counted, watched};
-use ix_base::{List, MemPage, MemPages, MemTargets, MemText, Text};
+use ix_base::{List, MemPage, MemPages, MemTargets, MemText, NoMemory, Text};
 use std::alloc::Global;
 use std::test::Fail;
 
@@ -12,12 +12,13 @@ mod elements;
 mod made;
 mod memory;
 mod pages;
+mod sample;
 mod set;
 
 const SUMMARY: &[u8] = b"(default): 1 facts, 0 tuples, 1 contexts, 0 units, 0 footnotes\n";
 
 const USAGE: &[u8] =
-    b"usage: ixds extract --base URL --out DIR PAGE...\n       ixds check --base URL PAGE...\n";
+    b"usage: ixds extract --base URL --out DIR PAGE...\n       ixds check --base URL PAGE...\n       ixds sample N\n";
 
 const CANNOT_READ: &[u8] = b"ixds: cannot read a.html\n";
 
@@ -125,6 +126,28 @@ fn texts_of(alloc: Global, words: &[&str]) -> Result<Vec<Text>, Fail> {
     Ok(texts)
 }
 
+/// Runs words over these pages.
+fn run_held(
+    alloc: Global,
+    words: &[Text],
+    held: Vec<MemPage>,
+    step: usize,
+    faults: Faults,
+) -> Result<Ended, NoMemory>
+    requires { 0 < step }
+{
+    let mut pages = watched(MemPages::new(held, step, faults.pages.to_vec(alloc)?));
+    let mut sink = watched(MemTargets::new(alloc, 4, 4000, faults.sink.to_vec(alloc)?)?);
+    let mut out = watched(MemText::new(alloc, faults.room, faults.out.to_vec(alloc)?)?);
+    let status = run(alloc, words, &mut pages, &mut sink, &mut out);
+    Ok(Ended {
+        status,
+        pages,
+        sink,
+        out,
+    })
+}
+
 /// Runs words over pages with these names and bytes.
 fn run_set(
     alloc: Global,
@@ -143,16 +166,7 @@ fn run_set(
             bytes: List::of(bytes.to_vec(alloc)?),
         })?;
     }
-    let mut pages = watched(MemPages::new(held, step, faults.pages.to_vec(alloc)?));
-    let mut sink = watched(MemTargets::new(alloc, 4, 4000, faults.sink.to_vec(alloc)?)?);
-    let mut out = watched(MemText::new(alloc, faults.room, faults.out.to_vec(alloc)?)?);
-    let status = run(alloc, texts.as_slice(), &mut pages, &mut sink, &mut out);
-    Ok(Ended {
-        status,
-        pages,
-        sink,
-        out,
-    })
+    Ok(run_held(alloc, texts.as_slice(), held, step, faults)?)
 }
 
 /// Runs words over one page, `a.html`.
@@ -261,14 +275,16 @@ fn real_days_and_texts_are_taken(rt: HostRuntime) -> Result<(), Fail> {
 #[test]
 fn other_words_are_usage(rt: HostRuntime) -> Result<(), Fail> {
     let alloc = rt.alloc();
-    let rows: [&[&str]; 8] = [
+    let rows: [&[&str]; 10] = [
         &[],
         &["toast"],
         &["extract"],
         &["extract", "--base", "http://example.com/r/", "--out", "d"],
         &["extract", "--base", "mailto:x", "--out", "d", "a.html"],
         &["check", "--base=http://example.com/r/", "a.html", "a.html"],
+        &["sample"],
         &["sample", "0"],
+        &["sample", "1", "2"],
         &["extract", "--help"],
     ];
     for words in rows {

@@ -1,3 +1,5 @@
 pub mod Pieces
 pub mod Scans
 pub mod Readings
+pub mod PlainRuns
+pub mod Plain

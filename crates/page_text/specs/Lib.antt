@@ -3,3 +3,4 @@ pub mod Characters
 pub mod Reading
 pub mod Growth
 pub mod Cuts
+pub mod Plain

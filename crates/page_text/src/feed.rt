@@ -1,12 +1,14 @@
 //! A reader of a page's bytes that keeps none of them but those of a character that isn't whole.
 
-ghost use Rattle.std.specs.Prelude.{◌≡◌, ◌≢◌, ◌++◌, ◌∷◌, [], ◌+◌, ◌<◌, ◌≤◌, ◌^◌, ℕ, List, length, take, option_to_list, OnOk, OnErr, Some, None, Ok, Err};
+ghost use Rattle.std.specs.Prelude.{◌≡◌, ◌≢◌, ◌++◌, ◌∷◌, [], ◌+◌, ◌<◌, ◌≤◌, ◌^◌, ℕ, List, length, take, option_to_list, is_some, true, OnOk, OnErr, Some, None, Ok, Err};
 ghost use Rattle.page_text.specs.Characters.{chars, stop, begun, first_break, shown};
 ghost use Rattle.page_text.specs.Reading.{begin, Stands, after, due, answer};
+ghost use Rattle.std.specs.List.{list_all};
+ghost use Rattle.page_text.specs.Plain.{is_plain, marks_from};
 ghost use Rattle.page_text.specs.Growth.{Gains, GainsFront};
 
-use crate::fronts::{Front, front_of, is_allowed_char};
-use crate::{Mark, TextFault};
+use crate::fronts::{Front, front_of, is_allowed_char, plain_size};
+use crate::{Mark, Run, TextFault};
 use std::alloc::AllocError;
 use std::marker::Model;
 
@@ -60,6 +62,14 @@ fn keep(marks: &mut Vec<Mark>, mark: Option<Mark>) -> Result<(), AllocError>
     Ok(())
 }
 
+/// The bytes at the front that are plain characters, as a text.
+fn plain_front(piece: &[u8]) -> &str
+    ensures front { result.now ≡ take (length result.now) piece.now }
+    ensures plain { list_all is_plain result.now ≡ true }
+{
+    std::str::from_utf8(&piece[..plain_size(piece)]).unwrap_or("")
+}
+
 impl Feed {
     /// A feed of a page of which nothing was read.
     pub fn new() -> Feed
@@ -75,11 +85,13 @@ impl Feed {
         }
     }
 
-    /// Takes one byte more.
-    fn step(&mut self, byte: u8) -> Option<Mark>
+    /// Takes one byte more, and gives the character that it makes certain.
+    pub fn step(&mut self, byte: u8) -> Option<Mark>
         requires { self.old.pushed + 1 < 2 ^ 64 }
         ensures state { self.new ≡ after self.old (byte ∷ []) }
         ensures given { option_to_list result ≡ due self.old (byte ∷ []) }
+        ensures counts { self.new.pushed ≡ self.old.pushed + 1 }
+        ensures waits { length self.old.part ≤ self.old.pushed }
     {
         if self.fault.is_some() {
             self.pushed += 1;
@@ -89,6 +101,26 @@ impl Feed {
         } else {
             self.step_behind_part(byte)
         }
+    }
+
+    /// Takes bytes from the front of a piece that are characters by themselves and are shown as they are. There may be none:
+    /// behind a fault, behind a carriage return, and within a character.
+    pub fn take_plain<'p>(&mut self, piece: &'p [u8]) -> Run<'p>
+        requires { self.old.pushed + length piece.now < 2 ^ 64 }
+        ensures front { result.text.now ≡ take (length result.text.now) piece.now }
+        ensures plain { list_all is_plain result.text.now ≡ true }
+        ensures offset { result.offset ≡ self.old.pushed }
+        ensures state { self.new ≡ after self.old result.text.now }
+        ensures counts { self.new.pushed ≡ self.old.pushed + length result.text.now }
+        ensures shown { due self.old result.text.now ≡ marks_from self.old.pushed result.text.now }
+    {
+        let offset = self.pushed;
+        if self.fault.is_some() || self.held > 0 || self.after_cr {
+            return Run { text: "", offset };
+        }
+        let text = plain_front(piece);
+        self.pushed += text.len() as u64;
+        Run { text, offset }
     }
 
     /// Takes a byte that is a character by itself.
@@ -191,6 +223,13 @@ impl Feed {
             None => Ok(()),
             Some(fault) => Err(fault),
         }
+    }
+
+    /// Whether the bytes so far have a break in any case, or memory was wanting.
+    pub fn is_broken(&self) -> bool
+        ensures { result ≡ is_some self.now.fault }
+    {
+        self.fault.is_some()
     }
 
     /// Ends the page, and appends its last characters.

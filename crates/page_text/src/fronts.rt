@@ -1,6 +1,8 @@
 //! What stands at the front of some bytes.
 
-ghost use Rattle.std.specs.Prelude.{◌≡◌, ◌<◌, length};
+ghost use Rattle.std.specs.Prelude.{◌≡◌, ◌<◌, ◌≤◌, true, length, take};
+ghost use Rattle.std.specs.List.{list_all};
+ghost use Rattle.page_text.specs.Plain.{is_plain};
 ghost use Rattle.page_text.specs.Fronts.{is_allowed, front};
 
 use bstr::decode_utf8;
@@ -43,4 +45,30 @@ pub(crate) fn front_of(bytes: &[u8]) -> Front
             }
         }
     }
+}
+
+/// A byte that is a character by itself, which a page may have, and no carriage return.
+fn is_plain_byte(byte: u8) -> bool
+    ensures { result ≡ is_plain byte }
+{
+    matches!(byte, b'\t' | b'\n' | 0x20..=0x7F)
+}
+
+/// How many plain characters are taken in one go.
+const MOST_PLAIN: usize = 65_536;
+
+/// How many bytes at the front are plain characters, as far as they are taken in one go.
+pub(crate) fn plain_size(bytes: &[u8]) -> usize
+    ensures within { result ≤ length bytes.now }
+    ensures plain { list_all is_plain (take result bytes.now) ≡ true }
+{
+    for (at, byte) in bytes.iter().enumerate() {
+        if at == MOST_PLAIN {
+            return at;
+        }
+        if !is_plain_byte(*byte) {
+            return at;
+        }
+    }
+    bytes.len()
 }

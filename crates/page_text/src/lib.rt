@@ -16,6 +16,13 @@ pub struct Mark {
     pub offset: u64,
 }
 
+/// Plain characters of a page, one behind another, and the offset of the first.
+#[derive(Clone, Copy, Debug)]
+pub struct Run<'p> {
+    pub text: &'p str,
+    pub offset: u64,
+}
+
 /// Why the characters of a page end before its bytes do.
 #[derive(Clone, Copy, Debug, PartialEq, Eq, Error)]
 pub enum TextFault {

@@ -21,7 +21,7 @@ stays-map : (f : ℕ → ℕ) (o p : Option ℕ) → Stays o p → Stays (option
 stays-map f None p s k e = absurd (cc)
 stays-map f (Some j) p s k e = ap (option_map f) (s j refl) ∙ e
 
-starts-append : (p cs more : List ℕ) → length p ≤ length cs → starts p (cs ++ more) ≡ starts p cs
+pub starts-append : (p cs more : List ℕ) → length p ≤ length cs → starts p (cs ++ more) ≡ starts p cs
 starts-append [] cs more h = refl
 starts-append (p ∷ ps) [] more h = absurd (omega arith)
 starts-append (p ∷ ps) (c ∷ cs) more h = ap (λ b. c == p && b) (starts-append ps cs more (omega arith))
@@ -31,7 +31,7 @@ starts-length [] cs h = omega arith
 starts-length (p ∷ ps) [] h = absurd (cc)
 starts-length (p ∷ ps) (c ∷ cs) h = let l = starts-length ps cs (and_parts (c == p) (starts ps cs) h).1 in omega arith
 
-after-length : (ends cs : List ℕ) (k : ℕ) → after ends cs ≡ Some k → (length ends ≤ k) × (k ≤ length cs)
+pub after-length : (ends cs : List ℕ) (k : ℕ) → after ends cs ≡ Some k → (length ends ≤ k) × (k ≤ length cs)
 after-length ends [] k e = absurd (cc)
 after-length ends (c ∷ cs) k e =
     elim (starts ends (c ∷ cs)) as (λ b. starts ends (c ∷ cs) ≡ b → (if b then Some (length ends) else option_map suc (after ends cs)) ≡ Some k → (length ends ≤ k) × (k ≤ suc (length cs))) [

@@ -1,13 +1,11 @@
 -- Where the code cuts a page's text.
 use Rattle.std.proofs.Common.{◌≡◌, ℕ, suc, ◌+◌, ◌<◌, ◌≤◌, inl, inr, Bool, List, [], ◌∷◌, ◌++◌, length, take, drop, get_or, Some, sym, ap, ◌∙◌, subst, arith, append_assoc, length-append, length-drop, take-append-drop}
-use Rattle.std.proofs.lemmas.List.{length-take-le, take-map}
+use Rattle.std.proofs.lemmas.List.{length-take-le}
 use Rattle.std.specs.Str.{IsUtf8, IsCharBoundary}
 use Rattle.std.proofs.lemmas.Str.{IsCharBoundary-end, IsCharBoundary-before_ascii, IsCharBoundary-after_ascii}
-use Rattle.page_tree.specs.Constructs.{values, kind_of, whole_size, construct, offset_of}
-use Rattle.page_tree.specs.Placing.{placed}
+use Rattle.page_tree.specs.Constructs.{whole_size}
 use Rattle.page_tree.proofs.AllowedText.{at-seam}
 use Rattle.page_tree.proofs.PieceLaws.{whole-takes}
-use Rattle.page_tree.proofs.PlacingLaws.{values-placed}
 use Rattle.page_tree.proofs.SoundCuts.{PartsWell, whole-parts}
 
 -- a construct ends where a character does
@@ -35,13 +33,3 @@ whole-boundary ended first t k u e = by_parts (whole-parts ended first t k e) wh
       let more : length (drop k t) ≡ 0 = ap length d in
       let same : length t ≡ k = omega (arith, length-drop k t) in
       subst (IsCharBoundary t) same (IsCharBoundary-end t)
-
--- the construct at the front of a text with offsets
-pub placed-construct : (first : Bool) (k : ℕ) (xs os : List ℕ) (o : ℕ) → length xs ≡ length os → offset_of (placed xs os) ≡ o
-    → record { kind = kind_of first xs; start = o; text = take k xs } ≡ construct first k (placed xs os)
-placed-construct first k xs os o l e = λ i. record { kind = kind i; start = sym e i; text = text i } where
-  kind : kind_of first xs ≡ kind_of first (values (placed xs os))
-  kind = ap (kind_of first) (sym (values-placed xs os l))
-
-  text : take k xs ≡ values (take k (placed xs os))
-  text = ap (take k) (sym (values-placed xs os l)) ∙ take-map (λ u. u.value) k (placed xs os)

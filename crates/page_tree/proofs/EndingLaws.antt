@@ -1,16 +1,16 @@
 -- What is left at the end of a page.
-use Rattle.std.proofs.Common.{◌≡◌, ℕ, Bool, true, false, List, [], ◌∷◌, length, map, drop, Option, Some, None, is_none, Ok, refl, sym, ap, ◌∙◌, subst, append-nil}
-use Rattle.std.proofs.lemmas.List.{drop-map}
+use Rattle.std.proofs.Common.{◌≡◌, ℕ, Bool, true, false, List, [], ◌∷◌, length, drop, Option, Some, None, is_none, Ok, refl, sym, ap, ◌∙◌, subst, append-nil}
 use Rattle.page_text.specs.Reading.{answer}
 use Rattle.page_text.specs.declared.TextFault.{TextFault}
 use Rattle.page_text.specs.declared.TextFault.TheVariants.{BadBytes, BadChar, NoMemory}
 use Rattle.ix_base.specs.Trees.{Tree}
 use Rattle.page_tree.specs.Acting.{acted_on, acted, MayFollow, Leads, Breaks, ended_by, end_of}
 use Rattle.page_tree.specs.Break.{Fault, behind_constructs, ended}
-use Rattle.page_tree.specs.Constructs.{Byte, values, whole_size, cut_at, cut_from, finished}
+use Rattle.page_tree.specs.Constructs.{Byte, values, first_offset, whole_size, cut_at, cut_from, finished}
 use Rattle.page_tree.specs.Machine.{Frame, State, outline_of, whole}
-use Rattle.page_tree.specs.Placing.{placed}
-use Rattle.page_tree.proofs.PlacingLaws.{values-placed, offsets-placed}
+use Rattle.page_tree.specs.Placing.{IsPlaced}
+use Rattle.page_tree.specs.declared.pending.Places.{Places}
+use Rattle.page_tree.proofs.PlacingLaws.{says-behind}
 use Rattle.page_tree.proofs.Spelled.{st}
 
 pub may-end : (z : Option TextFault) → MayFollow (is_none z) (is_none z) []
@@ -71,37 +71,23 @@ behind-none size (Some NoMemory) us s e = absurd (cc)
 behind-none size None (u ∷ us) s e = absurd (cc)
 behind-none size None [] s e = record { good = refl; none_left = refl; whole = ended-none size s.frames s.text s.root s.doctyped e }
 
--- the bytes that are left, and their offsets
-pub left-whole : (closed first : Bool) (xs os : List ℕ) (k : ℕ) → length xs ≡ length os → whole_size closed first (drop k xs) ≡ None → whole_size closed first (values (drop k (placed xs os))) ≡ None
-left-whole closed first xs os k l e = ap (whole_size closed first) (sym (drop-map (λ u. u.value) k (placed xs os)) ∙ ap (drop k) (values-placed xs os l)) ∙ e
-
-pub left-offsets : (xs os : List ℕ) (k : ℕ) → length xs ≡ length os → map (λ u. u.at) (drop k (placed xs os)) ≡ drop k os
-left-offsets xs os k l = sym (drop-map (λ u. u.at) k (placed xs os)) ∙ ap (drop k) (offsets-placed xs os l)
-
-module _ (z : Option TextFault) (closed : Bool) (n : ℕ) (s : State) (first : Bool) (size : ℕ) (is : closed ≡ is_none z) (xs os : List ℕ) (even : length xs ≡ length os)
-    (us : List Byte) (same : placed xs os ≡ us) (k : ℕ) (t : State) (next : Bool) (leads : Leads closed n s first (placed xs os) t next (drop k (placed xs os)))
-    (whole_ : whole_size closed next (drop k xs) ≡ None) (rest : List ℕ) (back : rest ≡ drop k os) where
-  left : whole_size closed next (values (drop k (placed xs os))) ≡ None
-  left = left-whole closed next xs os k even whole_
-
-  offsets : map (λ u. u.at) (drop k (placed xs os)) ≡ rest
-  offsets = left-offsets xs os k even ∙ sym back
+module _ (z : Option TextFault) (closed : Bool) (n : ℕ) (s : State) (first : Bool) (size : ℕ) (is : closed ≡ is_none z) (text : List ℕ) (p : Places) (us : List Byte) (placed : IsPlaced text p us)
+    (k : ℕ) (t : State) (next : Bool) (leads : Leads closed n s first us t next (drop k us)) (whole_ : whole_size closed next (drop k text) ≡ None)
+    (rest : Option ℕ) (at : first_offset (drop k us) ≡ rest) where
+  left : whole_size closed next (values (drop k us)) ≡ None
+  left = ap (whole_size closed next) (says-behind text p us k placed) ∙ whole_
 
   -- what is judged of the bytes that are left is the break of the whole
-  pub judged-end : (r : Option Fault) → ((w : List Byte) → map (λ u. u.at) w ≡ rest → r ≡ behind_constructs size z w (outline_of t)) → r ≡ end_of n s first us z size
-  judged-end r f =
-      f (drop k (placed xs os)) offsets ∙ end-leads z closed n s first (placed xs os) size is t next (drop k (placed xs os)) leads left
-      ∙ ap (λ u. end_of n s first u z size) same
+  pub judged-end : (r : Option Fault) → ((w : List Byte) → first_offset w ≡ rest → r ≡ behind_constructs size z w (outline_of t)) → r ≡ end_of n s first us z size
+  judged-end r f = f (drop k us) at ∙ end-leads z closed n s first us size is t next (drop k us) leads left
 
-  pub root-end : ((w : List Byte) → map (λ u. u.at) w ≡ rest → None ≡ behind_constructs size z w (outline_of t))
+  pub root-end : ((w : List Byte) → first_offset w ≡ rest → None ≡ behind_constructs size z w (outline_of t))
       → (z ≡ None) × ((finished true first us).rest ≡ []) × (acted_on n s true first us ≡ Ok t) × (whole t.frames t.root ≡ t.root)
   root-end f =
-      let e = behind-none size z (drop k (placed xs os)) t (sym (f (drop k (placed xs os)) offsets)) in
+      let e = behind-none size z (drop k us) t (sym (f (drop k us) at)) in
       let g : is_none z ≡ true = ap is_none e.good in (
         e.good,
-        ap (λ u. (finished true first u).rest) (sym same) ∙ ap (λ b. (finished b first (placed xs os)).rest) (sym g)
-            ∙ end-rests z closed n s first (placed xs os) size is t next (drop k (placed xs os)) leads left ∙ e.none_left,
-        ap (acted_on n s true first) (sym same) ∙ ap (λ b. acted_on n s b first (placed xs os)) (sym g)
-            ∙ end-acts z closed n s first (placed xs os) size is t next (drop k (placed xs os)) leads left,
+        ap (λ b. (finished b first us).rest) (sym g) ∙ end-rests z closed n s first us size is t next (drop k us) leads left ∙ e.none_left,
+        ap (λ b. acted_on n s b first us) (sym g) ∙ end-acts z closed n s first us size is t next (drop k us) leads left,
         e.whole,
       )

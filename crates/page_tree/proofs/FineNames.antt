@@ -3,7 +3,7 @@ use Rattle.std.proofs.Common.{◌+◌, ◌≡◌, ℕ, suc, true, false, ◌&&�
 use Rattle.std.specs.List.{list_all, list_any, before_first, after_first, position_or_len}
 use Rattle.std.proofs.lemmas.Bool.{and_parts, and_from, not-true}
 use Rattle.ix_base.specs.NcName.{are_allowed, is_name_start, is_name_char, is_ncname}
-use Rattle.ix_base.specs.Scope.{is_colon, is_qname, has_prefix, prefix_of, local_of, namespace_of, declared_over, scope_under}
+use Rattle.ix_base.specs.Scope.{is_colon, is_qname, has_prefix, namespace_of, declared_over, scope_under}
 use Rattle.ix_base.specs.Trees.{Bound}
 use Rattle.page_tree.specs.Fine.{scope_in, is_fine_attribute, is_fine_tag, declaring, is_fine_binding, are_apart}
 use Rattle.page_tree.specs.Spellings.{read, tag_at}

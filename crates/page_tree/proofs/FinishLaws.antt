@@ -16,12 +16,12 @@ use Rattle.page_tree.proofs.Building.{page_of_built}
 use Rattle.page_tree.proofs.PageLaws.{read-mean, cut-ends}
 use Rattle.page_tree.proofs.Walking.{AllMeant, outline-moved}
 
-abbrev outlined_result : Result State Fault → Result Outline Fault
+abbrev pub outlined_result : Result State Fault → Result Outline Fault
 outlined_result (Ok s) = Ok (outline_of s)
 outlined_result (Err f) = Err f
 
 -- the walk goes as the machine acts
-walked-acted : (n : ℕ) (cs : List Construct) (s : State) → walked n (outline_of s) cs ≡ outlined_result (acted n s cs)
+pub walked-acted : (n : ℕ) (cs : List Construct) (s : State) → walked n (outline_of s) cs ≡ outlined_result (acted n s cs)
 unfolding walked acted
 walked-acted n [] s = refl
 walked-acted n (c ∷ cs) s = by_meaning (λ t. walked-acted n cs (moved s t)) (meant c) where

@@ -42,11 +42,15 @@ pub mod ActingLaws
 pub mod PlacingLaws
 pub mod CutPoints
 pub mod SettleLaws
+pub mod LateLaws
 pub mod PageNumbers
 pub mod MarkBounds
 pub mod FinishLaws
 pub mod EndingLaws
 pub mod StandingLaws
+pub mod LedLaws
+pub mod FeedLaws
+pub mod WaitingLaws
 pub mod WrittenTokens
 pub mod PlainText
 pub mod WrittenReads

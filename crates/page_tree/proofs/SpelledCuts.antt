@@ -13,7 +13,8 @@ use Rattle.page_tree.specs.Spellings.{HasName, put_first}
 use Rattle.page_tree.specs.declared.kind.Kind.TheVariants.{StartTag, EndTag}
 use Rattle.page_tree.proofs.NameBytes.{is_name_byte, is_qname_byte, qname-bytes, qname-some, name-not}
 use Rattle.page_tree.proofs.PieceLaws.{finished-step}
-use Rattle.page_tree.proofs.SizeLaws.{more, more-zero}
+use Rattle.page_tree.specs.Seeking.{further as more}
+use Rattle.page_tree.proofs.SizeLaws.{further-zero as more-zero}
 use Rattle.page_tree.proofs.SpanLaws.{NoneStops, none-all, either, one_number, clash, take-front, drop-front}
 use Rattle.page_tree.proofs.SpelledTags.{unquoted, attrs-end}
 

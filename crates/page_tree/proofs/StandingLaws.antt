@@ -28,11 +28,13 @@ leads-new n s us e f =
     subst (λ x. Leads false n begin true (spread x) s true us) (sym begun-nil)
     (subst (λ x. Leads false n begin true [] x true us) (sym e) (subst (λ x. Leads false n begin true [] begin true x) (sym f) (leads-stay false n begin true [])))
 
-pub leads-read : (n : ℕ) (s : State) (first : Bool) (old new : List Mark) (ms : List Mark) (us vs : List Byte) → new ≡ old ++ ms → vs ≡ us ++ spread ms
-    → Leads false n begin true (spread old) s first us → Leads false n begin true (spread new) s first vs
-leads-read n s first old new ms us vs e f a =
-    subst (λ x. Leads false n begin true x s first vs) (sym (ap spread e ∙ spread-append old ms))
-    (subst (λ x. Leads false n begin true (spread old ++ spread ms) s first x) (sym f) (leads-more n begin s true first (spread old) us (spread ms) a))
+pub leads-read : (n : ℕ) (s : State) (first : Bool) (old new : List Mark) (left ws : List Byte) → spread new ≡ spread old ++ ws
+    → Leads false n begin true (spread old) s first left → Leads false n begin true (spread new) s first (left ++ ws)
+leads-read n s first old new left ws e a =
+    subst (λ x. Leads false n begin true x s first (left ++ ws)) (sym e) (leads-more n begin s true first (spread old) left ws a)
+
+pub breaks-text : (n : ℕ) (old new : List Mark) (ws : List Byte) (f : Fault) → spread new ≡ spread old ++ ws → Breaks false n begin true (spread old) f → Breaks false n begin true (spread new) f
+breaks-text n old new ws f e h = subst (λ x. Breaks false n begin true x f) (sym e) (breaks-more n begin true (spread old) ws f h)
 
 -- what a page has begun with stays its front
 begun-more : (b piece : List ℕ) → begun (b ++ piece) ≡ begun b ++ due (reading_of (length b) (scan false 0 b)) piece

@@ -110,6 +110,10 @@ abbrev pub offset_of : List Byte → ℕ
 offset_of [] = 0
 offset_of (u ∷ us) = u.at
 
+abbrev pub first_offset : List Byte → Option ℕ
+first_offset [] = None
+first_offset (u ∷ us) = Some u.at
+
 -- A construct: what it is, the offset where it starts, and its text. It ends where the next one starts, or else where the
 -- characters end.
 pub record Construct : Type 0 where

@@ -23,3 +23,5 @@ pub mod Acting
 pub mod Placing
 pub mod Waiting
 pub mod Standing
+pub mod Seeking
+pub mod Unsettled

@@ -1,14 +1,14 @@
--- Texts with the offsets at which their bytes stand in the page.
-use Rattle.std.specs.Prelude.{ℕ, zero, suc, ◌+◌, List, [], ◌∷◌}
-use Rattle.page_tree.specs.Constructs.{Byte}
+-- Where the bytes of a text stand in the page.
+use Rattle.std.specs.Prelude.{◌≡◌, ℕ, ◌+◌, ◌-◌, ◌==◌, List, ◌∷◌, drop, if◌then◌else◌}
+use Rattle.page_tree.specs.Constructs.{Byte, values, counted}
+use Rattle.page_tree.specs.declared.pending.Places.{Places}
 
--- so many numbers from one on
-abbrev pub numbers : ℕ → ℕ → List ℕ
-numbers at zero = []
-numbers at (suc n) = at ∷ numbers (at + 1) n
+-- the offset of the byte at a place, which is the first or stands where the offsets rise with the bytes
+abbrev pub offset_at : Places → ℕ → ℕ
+offset_at p at = if at == 0 then p.start else p.base + (at - p.even)
 
--- bytes at these offsets
-abbrev pub placed : List ℕ → List ℕ → List Byte
-placed [] at = []
-placed (x ∷ xs) [] = []
-placed (x ∷ xs) (o ∷ os) = record { value = x; at = o } ∷ placed xs os
+-- The bytes are those of the text; the first stands where the places say, and so does each from a place on.
+pub record IsPlaced (text : List ℕ) (p : Places) (us : List Byte) : Type 0 where
+  pub says : values us ≡ text
+  pub front : (u : Byte) (more : List Byte) → us ≡ u ∷ more → u.at ≡ p.start
+  pub back : drop p.even us ≡ counted p.base (drop p.even text)

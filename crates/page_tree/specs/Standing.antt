@@ -1,5 +1,5 @@
 -- What a tree builder stands for, between the pieces of its page.
-use Rattle.std.specs.Prelude.{◌≡◌, ℕ, Bool, true, false, List, length, Option, Some, None, Result, Ok, Err}
+use Rattle.std.specs.Prelude.{◌≡◌, ℕ, Bool, true, false, List, length, string_bytes, Option, Some, None, Result, Ok, Err}
 use Rattle.std.specs.Borrow.{Bor}
 use Rattle.ix_base.specs.declared.tree.Element.{Element}
 use Rattle.page_text.specs.Characters.{begun}
@@ -7,13 +7,15 @@ use Rattle.page_text.specs.Reading.{Stands}
 use Rattle.page_tree.specs.Acting.{Leads, Breaks}
 use Rattle.page_tree.specs.Break.{Fault, fault}
 use Rattle.page_tree.specs.Buildings.{state_of, IsOnPage}
-use Rattle.page_tree.specs.Constructs.{spread}
+use Rattle.page_tree.specs.Constructs.{Byte, spread, whole_size}
 use Rattle.page_tree.specs.Machine.{begin}
-use Rattle.page_tree.specs.Waiting.{bytes_of, fault_at}
+use Rattle.page_tree.specs.Waiting.{Waits, fault_at}
 use Rattle.page_tree.specs.declared.builder.TreeBuilder.{TreeBuilder}
 use Rattle.page_tree.specs.declared.builder.PageFault.{PageFault}
 use Rattle.page_tree.specs.declared.builder.PageFault.TheVariants as page
+use Rattle.page_tree.specs.declared.pending.Pending.{Pending}
 use Rattle.page_tree.specs.declared.settle.Break.{Break}
+use Rattle.page_tree.specs.declared.tree.Building.{Building}
 
 -- the limit of depth
 abbrev pub limit : TreeBuilder → ℕ
@@ -31,14 +33,38 @@ fed_bytes t = t.fed
 abbrev pub is_spent : TreeBuilder → Bool
 is_spent t = t.is_spent
 
--- The characters that these bytes make certain lead to what is built and to the bytes that are still to be cut, or they
--- have the break that was found.
-pub record HasBuilt (t : TreeBuilder) (b : List ℕ) : Type 0 where
+-- some bytes wait, to which these lead behind what is built
+pub record LeadsTo (built : Building) (p : Pending) (us : List Byte) : Type 0 where
+  pub left : List Byte
+  pub waits : Waits p left
+  pub leads : Leads false built.depth begin true us (state_of built) p.is_first left
+
+-- The characters that these bytes make certain lead to what is built and to what waits, or they have the break that was
+-- found.
+pub record HasLedTo (built : Building) (p : Pending) (broken : Option Break) (b : List ℕ) : Type 0 where
+  pub leads : broken ≡ None → LeadsTo built p (spread (begun b))
+  pub breaks : (f : Break) → broken ≡ Some f → Breaks false built.depth begin true (spread (begun b)) (fault_at f)
+  pub on_page : IsOnPage built.page built
+
+abbrev pub HasLed : TreeBuilder → List ℕ → Type 0
+HasLed t b = HasLedTo t.building t.pending t.broken b
+
+-- and the bytes are those that were read
+pub record HasRead (t : TreeBuilder) (b : List ℕ) : Type 0 where
   pub reads : t.broken ≡ None → Stands t.feed b
-  pub leads : t.broken ≡ None
-      → Leads false t.building.depth begin true (spread (begun b)) (state_of t.building) t.is_first (bytes_of t.pending)
-  pub breaks : (f : Break) → t.broken ≡ Some f → Breaks false t.building.depth begin true (spread (begun b)) (fault_at f)
-  pub on_page : IsOnPage t.building.page t.building
+  pub led : HasLed t b
+
+-- besides, no construct of what waits ends whatever follows
+pub record HasBuilt (t : TreeBuilder) (b : List ℕ) : Type 0 where
+  pub read : HasRead t b
+  pub waits : t.broken ≡ None → whole_size false t.pending.is_first (string_bytes t.pending.text) ≡ None
+
+-- the limit, the page number, the count of bytes and whether memory was wanting are the same
+pub record IsSameBut (old new : TreeBuilder) : Type 0 where
+  pub limit : new.building.depth ≡ old.building.depth
+  pub page : new.building.page ≡ old.building.page
+  pub fed : new.fed ≡ old.fed
+  pub spent : new.is_spent ≡ old.is_spent
 
 -- it was given these bytes, and no others
 pub record StandsFor (t : TreeBuilder) (b : List ℕ) : Type 0 where

@@ -1,14 +1,14 @@
 //! A page's tree from its bytes in any pieces.
-ghost use Rattle.std.specs.Prelude.{◌≡◌, ◌≢◌, ◌++◌, ◌+◌, ◌<◌, ◌≤◌, ◌^◌, [], ℕ, List, OnOk, IfOk, IfSome, IsErr, Err, Some, None, true, length};
+ghost use Rattle.std.specs.Prelude.{◌≡◌, ◌≢◌, ◌++◌, ◌+◌, ◌<◌, ◌≤◌, ◌^◌, [], ℕ, List, OnOk, IfOk, IfSome, IsErr, Err, Some, None, true, false, length, take, option_to_list, string_bytes};
 
 use crate::ending::{end, fault_of};
 use crate::pending::Pending;
-use crate::reading::read;
+use crate::reading::read_byte;
 use crate::settle::{Break, settle};
 use crate::tree::Building;
 use bumpalo::Bump;
 use ix_base::{Element, NoMemory, Rule};
-use page_text::Feed;
+use page_text::{Feed, Mark};
 use std::alloc::Global;
 use thiserror::Error;
 
@@ -42,10 +42,6 @@ pub struct TreeBuilder<'a> {
     /// How many bytes were given.
     fed: u64,
     pending: Pending,
-    /// No construct of the page was built in.
-    is_first: bool,
-    /// How many bytes have to wait before it is tried again to build them in.
-    due: usize,
     broken: Option<Break>,
     is_spent: bool,
     ghost counts: { feed.pushed ≤ fed },
@@ -57,7 +53,12 @@ impl<'a> TreeBuilder<'a> {
     ghost use Rattle.page_tree.specs.Break.{w};
     ghost use Rattle.page_tree.specs.Page.{page as page_with};
     ghost use Rattle.page_tree.specs.Stacks.{AreAll};
-    ghost use Rattle.page_tree.specs.Standing.{HasBuilt, StandsFor};
+    ghost use Rattle.page_tree.specs.Standing.{HasLed, HasRead, HasBuilt, StandsFor, IsSameBut};
+    ghost use Rattle.page_tree.specs.Waiting.{IsNext};
+    ghost use Rattle.page_tree.specs.Constructs.{whole_size, spread, counted};
+    ghost use Rattle.page_text.specs.Characters.{begun};
+    ghost use Rattle.std.specs.Char.{len_utf8};
+    ghost use Rattle.page_tree.specs.Unsettled.{pending_of};
     ghost use Rattle.page_tree.specs.Standing.{limit, page_number, fed_bytes, is_spent as is_spent_of, verdict_of};
 
     /// A builder of the page of this number, whose elements lie in the arena. None of them may be deeper than the limit,
@@ -74,8 +75,6 @@ impl<'a> TreeBuilder<'a> {
             feed: Feed::new(),
             fed: 0,
             pending: Pending::new(alloc),
-            is_first: true,
-            due: 0,
             broken: None,
             is_spent: false,
         }
@@ -84,26 +83,98 @@ impl<'a> TreeBuilder<'a> {
     /// Builds in what is whole.
     fn work_off(&mut self) -> Result<(), NoMemory>
         requires { self.old.broken ≡ None }
-        ensures built { OnOk result ((b : List ℕ) → HasBuilt self.old b → HasBuilt self.new b) }
-        ensures same { (limit self.new ≡ limit self.old) × (page_number self.new ≡ page_number self.old)
-            × (self.new.fed ≡ self.old.fed) × (self.new.is_spent ≡ self.old.is_spent) }
+        ensures led { OnOk result ((b : List ℕ) → HasLed self.old b → HasLed self.new b) }
+        ensures waits { OnOk result (self.new.broken ≡ None
+            → whole_size false self.new.pending.is_first (string_bytes self.new.pending.text) ≡ None) }
+        ensures same { IsSameBut self.old self.new }
+        ensures feed { self.new.feed ≡ self.old.feed }
     {
         let settled = settle(
             &mut self.building,
             false,
-            self.is_first,
+            self.pending.is_first,
             self.pending.text.as_str(),
-            self.pending.offsets.as_slice(),
+            self.pending.places,
+            self.pending.sought,
         )?;
         if let Some(broken) = settled.broken {
             self.broken = Some(broken);
             self.pending.clear();
             return Ok(());
         }
-        self.is_first = self.is_first && settled.taken == 0;
-        self.pending.drop_front(settled.taken)?;
-        self.due = self.pending.text.len().saturating_mul(2);
+        self.pending.drop_front(settled.taken, settled.sought)?;
         Ok(())
+    }
+
+    /// Sees to it that a text at this offset can be put behind what waits.
+    fn make_way(&mut self, offset: u64) -> Result<(), NoMemory>
+        requires { self.old.broken ≡ None }
+        ensures led { OnOk result ((b : List ℕ) → HasLed self.old b → HasLed self.new b) }
+        ensures next { OnOk result (self.new.broken ≡ None → IsNext self.new.pending offset) }
+        ensures same { IsSameBut self.old self.new }
+        ensures feed { self.new.feed ≡ self.old.feed }
+    {
+        if self.pending.is_next(offset) && self.pending.is_short() {
+            return Ok(());
+        }
+        self.work_off()?;
+        if self.broken.is_some() {
+            return Ok(());
+        }
+        self.pending.skip_to(offset);
+        Ok(())
+    }
+
+    /// Takes a text that the bytes so far make certain.
+    fn take_text(&mut self, offset: u64, text: &str) -> Result<(), NoMemory>
+        requires whole { self.old.broken ≡ None }
+        requires fits { offset + length text.now < 2 ^ 64 }
+        ensures led { OnOk result ((b c : List ℕ) → spread (begun c) ≡ spread (begun b) ++ counted offset text.now
+            → HasLed self.old b → HasLed self.new c) }
+        ensures same { IsSameBut self.old self.new }
+        ensures feed { self.new.feed ≡ self.old.feed }
+    {
+        self.make_way(offset)?;
+        if self.broken.is_some() {
+            return Ok(());
+        }
+        self.pending.append(offset, text)
+    }
+
+    /// Takes a character, where there is one.
+    fn take_mark(&mut self, mark: Option<Mark>) -> Result<(), NoMemory>
+        requires whole { self.old.broken ≡ None }
+        requires fits { IfSome mark (λ m. m.offset + len_utf8 m.ch < 2 ^ 64) }
+        ensures led { OnOk result ((b c : List ℕ) → begun c ≡ begun b ++ option_to_list mark → HasLed self.old b → HasLed self.new c) }
+        ensures same { IsSameBut self.old self.new }
+        ensures feed { self.new.feed ≡ self.old.feed }
+    {
+        let Some(mark) = mark else {
+            return Ok(());
+        };
+        let mut bytes = [0; 4];
+        self.take_text(mark.offset, mark.ch.encode_utf8(&mut bytes))
+    }
+
+    /// Takes some bytes from the front of a piece, and says how many.
+    fn take_part(&mut self, piece: &[u8]) -> Result<usize, NoMemory>
+        requires whole { self.old.broken ≡ None }
+        requires some { 0 < length piece.now }
+        requires room { self.old.feed.pushed + length piece.now ≤ self.old.fed }
+        requires fits { self.old.feed.pushed + length piece.now < 2 ^ 64 }
+        ensures bounds { IfOk result (λ n. (0 < n) × (n ≤ length piece.now)) }
+        ensures read { IfOk result (λ n. (b : List ℕ) → HasRead self.old b → HasRead self.new (b ++ take n piece.now)) }
+        ensures counts { IfOk result (λ n. self.new.feed.pushed ≡ self.old.feed.pushed + n) }
+        ensures same { IsSameBut self.old self.new }
+    {
+        let run = self.feed.take_plain(piece);
+        if run.text.is_empty() {
+            let mark = read_byte(&mut self.feed, piece[0]);
+            self.take_mark(mark)?;
+            return Ok(1);
+        }
+        self.take_text(run.offset, run.text)?;
+        Ok(run.text.len())
     }
 
     /// Takes a piece of a page without a break so far.
@@ -112,13 +183,14 @@ impl<'a> TreeBuilder<'a> {
         requires room { self.old.feed.pushed + length piece.now ≤ self.old.fed }
         requires fits { self.old.feed.pushed + length piece.now < 2 ^ 64 }
         ensures built { OnOk result ((b : List ℕ) → HasBuilt self.old b → HasBuilt self.new (b ++ piece.now)) }
-        ensures same { (limit self.new ≡ limit self.old) × (page_number self.new ≡ page_number self.old)
-            × (self.new.fed ≡ self.old.fed) × (self.new.is_spent ≡ self.old.is_spent) }
+        ensures same { IsSameBut self.old self.new }
     {
-        let marks = read(self.alloc, &mut self.feed, piece)?;
-        self.pending.append(marks.as_slice())?;
-        if self.pending.text.len() < self.due {
-            return Ok(());
+        let mut at = 0;
+        'parts: while at < piece.len() {
+            at += self.take_part(&piece[at..])?;
+            if self.broken.is_some() {
+                return Ok(());
+            }
         }
         self.work_off()
     }
@@ -152,6 +224,17 @@ impl<'a> TreeBuilder<'a> {
         }
     }
 
+    /// How many characters wait for the end of their construct: those behind the last construct that stays cut as it is,
+    /// whatever follows. A page that has a break has none. It goes once through what waits.
+    pub fn pending(&self) -> u64
+        ensures { (b : List ℕ) → StandsFor self.now b → result ≡ pending_of b (limit self.now) }
+    {
+        if self.broken.is_some() || self.feed.is_broken() {
+            return 0;
+        }
+        self.pending.text.as_str().chars().count() as u64
+    }
+
     /// Ends the page, and gives its root.
     pub fn finish(self) -> Result<&'a Element<'a>, PageFault>
         ensures root { IfOk result (λ e. (b : List ℕ) → StandsFor self.entry b → page_with b (limit self.entry) (tree_of e.now)) }
@@ -169,7 +252,7 @@ impl<'a> TreeBuilder<'a> {
         }
         let mut marks = Vec::new(self.alloc);
         let stop = self.feed.end(&mut marks);
-        end(self.building, stop, self.is_first, &self.pending, self.fed)
+        end(self.building, stop, &self.pending, self.fed)
     }
 }
 

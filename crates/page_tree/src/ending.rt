@@ -1,16 +1,16 @@
 //! The end of a page.
-ghost use Rattle.std.specs.Prelude.{◌≡◌, ◌≢◌, ℕ, Option, Some, None, Err, Ok, IfOk, map, option_map, true, []};
+ghost use Rattle.std.specs.Prelude.{◌≡◌, ◌≢◌, ◌≤◌, ℕ, List, Option, length, drop, string_bytes, Some, None, Err, Ok, IfOk, option_map, true, []};
 ghost use Rattle.ix_base.specs.Elements.{pages_of};
 ghost use Rattle.ix_base.specs.Trees.{tree_of};
 ghost use Rattle.page_text.specs.Reading.{answer};
 ghost use Rattle.page_tree.specs.Acting.{acted_on, end_of};
 ghost use Rattle.page_tree.specs.Break.{fault, behind_constructs};
 ghost use Rattle.page_tree.specs.Buildings.{state_of, IsOnPage};
-ghost use Rattle.page_tree.specs.Constructs.{finished};
+ghost use Rattle.page_tree.specs.Constructs.{Byte, finished, first_offset};
 ghost use Rattle.page_tree.specs.Machine.{outline_of, whole, State};
 ghost use Rattle.page_tree.specs.Stacks.{AreAll};
 ghost use Rattle.page_tree.specs.Standing.{verdict_of};
-ghost use Rattle.page_tree.specs.Waiting.{bytes_of, fault_at};
+ghost use Rattle.page_tree.specs.Waiting.{Waits, fault_at};
 
 use crate::builder::PageFault;
 use crate::pending::Pending;
@@ -48,14 +48,14 @@ fn broken_in_text(fault: TextFault, size: u64) -> Break
     }
 }
 
-/// The break that is left, where the text has none: the offsets are those of the bytes that no whole construct has.
-fn broken_behind(building: &Building<'_>, rest: &[u64], size: u64) -> Option<Break>
-    ensures { (us : _) → map (λ u. u.at) us ≡ rest.now
+/// The break that is left, where the text has none: `rest` is the offset of the first byte that no whole construct has.
+fn broken_behind(building: &Building<'_>, rest: Option<u64>, size: u64) -> Option<Break>
+    ensures { (us : _) → first_offset us ≡ rest
         → option_map fault_at result ≡ behind_constructs size None us (outline_of (state_of building.now)) }
 {
-    if let Some(offset) = rest.first() {
+    if let Some(offset) = rest {
         return Some(Break {
-            offset: *offset,
+            offset,
             rule: Rule::W3,
         });
     }
@@ -78,10 +78,10 @@ fn broken_behind(building: &Building<'_>, rest: &[u64], size: u64) -> Option<Bre
 fn broken_at_end(
     building: &Building<'_>,
     stop: Result<(), TextFault>,
-    rest: &[u64],
+    rest: Option<u64>,
     size: u64,
 ) -> Option<Break>
-    ensures { (z : _) (us : _) → stop ≡ answer z → map (λ u. u.at) us ≡ rest.now
+    ensures { (z : _) (us : _) → stop ≡ answer z → first_offset us ≡ rest
         → option_map fault_at result ≡ behind_constructs size z us (outline_of (state_of building.now)) }
 {
     match stop {
@@ -90,19 +90,31 @@ fn broken_at_end(
     }
 }
 
+/// The offset of the first byte from a place on, where there is one.
+fn rest_offset(pending: &Pending, at: usize) -> Option<u64>
+    requires within { at ≤ length (string_bytes pending.now.text) }
+    requires behind { at ≢ 0 → pending.now.places.even ≤ at }
+    ensures { (us : List Byte) → Waits pending.now us → first_offset (drop at us) ≡ result }
+{
+    if at < pending.text.len() {
+        Some(pending.places.offset(at))
+    } else {
+        None
+    }
+}
+
 /// Ends a page of so many bytes, whose characters ended so.
 pub(crate) fn end<'a>(
     mut building: Building<'a>,
     stop: Result<(), TextFault>,
-    first: bool,
     pending: &Pending,
     size: u64,
 ) -> Result<&'a Element<'a>, PageFault>
-    ensures verdict { (z : _) → stop ≡ answer z → result ≢ Err PageFault.NoMemory → verdict_of result
-        ≡ end_of building.entry.depth (state_of building.entry) first (bytes_of pending.now) z size }
-    ensures root { IfOk result (λ e. (z : _) → stop ≡ answer z → (t : State) × (z ≡ None)
-        × ((finished true first (bytes_of pending.now)).rest ≡ [])
-        × (acted_on building.entry.depth (state_of building.entry) true first (bytes_of pending.now) ≡ Ok t)
+    ensures verdict { (us : List Byte) (z : _) → Waits pending.now us → stop ≡ answer z → result ≢ Err PageFault.NoMemory
+        → verdict_of result ≡ end_of building.entry.depth (state_of building.entry) pending.now.is_first us z size }
+    ensures root { IfOk result (λ e. (us : List Byte) (z : _) → Waits pending.now us → stop ≡ answer z → (t : State) × (z ≡ None)
+        × ((finished true pending.now.is_first us).rest ≡ [])
+        × (acted_on building.entry.depth (state_of building.entry) true pending.now.is_first us ≡ Ok t)
         × (whole t.frames t.root ≡ Some (tree_of e.now))) }
     ensures page { IfOk result (λ e. IsOnPage building.entry.page building.entry
         → AreAll building.entry.page (pages_of e.now)) }
@@ -110,16 +122,17 @@ pub(crate) fn end<'a>(
     let Ok(settled) = settle(
         &mut building,
         stop.is_ok(),
-        first,
+        pending.is_first,
         pending.text.as_str(),
-        pending.offsets.as_slice(),
+        pending.places,
+        pending.sought,
     ) else {
         return Err(PageFault::NoMemory);
     };
     if let Some(broken) = settled.broken {
         return Err(fault_of(broken));
     }
-    let (_, rest) = pending.offsets.as_slice().split_at(settled.taken);
+    let rest = rest_offset(pending, settled.taken);
     if let Some(broken) = broken_at_end(&building, stop, rest, size) {
         return Err(fault_of(broken));
     }

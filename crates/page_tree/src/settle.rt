@@ -1,16 +1,18 @@
 //! The constructs at the front of a text, built in one after another.
-ghost use Rattle.std.specs.Prelude.{◌≡◌, ◌≤◌, ◌<◌, ◌+◌, ◌==◌, ◌&&◌, IfOk, OnOk, Some, None, Ok, length, drop, false};
+ghost use Rattle.std.specs.Prelude.{◌≡◌, ◌≢◌, ◌≤◌, ◌<◌, ◌+◌, ◌^◌, ◌==◌, ◌&&◌, List, IfOk, OnOk, Some, None, Ok, length, take, drop, false};
 ghost use Rattle.std.specs.Str.{IsCharBoundary};
 ghost use Rattle.page_tree.specs.Acting.{judged, state_behind, Leads, Breaks};
 ghost use Rattle.page_tree.specs.Break.{fault};
-ghost use Rattle.page_tree.specs.Constructs.{whole_size as whole_size_of};
+ghost use Rattle.page_tree.specs.Constructs.{Byte, values, offset_of, size, whole_size as whole_size_of};
 ghost use Rattle.page_tree.specs.Buildings.{state_of, IsOnPage};
 ghost use Rattle.page_tree.specs.Ends.{HasEnds};
-ghost use Rattle.page_tree.specs.Placing.{placed};
+ghost use Rattle.page_tree.specs.Placing.{IsPlaced};
+ghost use Rattle.page_tree.specs.Seeking.{IsSought};
 
 use crate::kind::Kind;
 use crate::meaning::meant;
-use crate::size::{kind_of, whole_size};
+use crate::pending::Places;
+use crate::size::{End, Sought, kind_of, unsought, whole_size};
 use crate::tree::Building;
 use ix_base::{NoMemory, Rule};
 
@@ -24,19 +26,20 @@ pub(crate) struct Break {
 /// What became of the construct at the front of a text.
 #[derive(Clone, Copy, Debug)]
 enum Front {
-    /// It isn't whole.
-    Waits,
+    /// It isn't whole. So far its end was looked for.
+    Waits(Sought),
     /// It was built in, and took so many bytes.
     Takes(usize),
     /// It breaks a rule.
     Breaks(Break),
 }
 
-/// What became of the constructs at the front of a text: how many bytes were built in, and the break behind them, where a
-/// construct has one.
+/// What became of the constructs at the front of a text: how many bytes were built in, how far the end of the construct
+/// behind them was looked for, and its break, where it has one.
 #[derive(Clone, Copy, Debug)]
 pub(crate) struct Settled {
     pub taken: usize,
+    pub sought: Sought,
     pub broken: Option<Break>,
 }
 
@@ -68,37 +71,35 @@ fn take<'a>(
     }
 }
 
-/// Builds the construct at the front in, where it is whole.
+/// Builds the construct at the front in, where it is whole. The text starts at an offset of the page.
 fn step<'a>(
     building: &mut Building<'a>,
     ended: bool,
     first: bool,
     text: &str,
-    offsets: &[u64],
+    offset: u64,
+    sought: Sought,
 ) -> Result<Front, NoMemory>
-    requires { length text.now ≡ length offsets.now }
-    ensures waits { result ≡ Ok Front.Waits → (whole_size_of ended first text.now ≡ None) × (building.new ≡ building.old) }
-    ensures takes { (k : _) → result ≡ Ok (Front.Takes k) → (0 < k) × (k ≤ length text.now) × IsCharBoundary text.now k
-        × Leads ended building.old.depth (state_of building.old) first (placed text.now offsets.now)
-        (state_of building.new) false (drop k (placed text.now offsets.now)) }
-    ensures breaks { (b : _) → result ≡ Ok (Front.Breaks b)
-        → Breaks ended building.old.depth (state_of building.old) first (placed text.now offsets.now) (fault b.offset b.rule) }
+    requires { IsSought first text.now sought }
+    ensures waits { (s : _) → result ≡ Ok (Front.Waits s)
+        → (whole_size_of ended first text.now ≡ None) × (building.new ≡ building.old) × IsSought first text.now s }
+    ensures takes { (k : _) → result ≡ Ok (Front.Takes k) → (0 < k) × IsCharBoundary text.now k
+        × (whole_size_of ended first text.now ≡ Some k)
+        × ((us : List Byte) → values us ≡ text.now → offset_of us ≡ offset
+        → Leads ended building.old.depth (state_of building.old) first us (state_of building.new) false (drop k us)) }
+    ensures breaks { (b : _) → result ≡ Ok (Front.Breaks b) → (us : List Byte) → values us ≡ text.now → offset_of us ≡ offset
+        → Breaks ended building.old.depth (state_of building.old) first us (fault b.offset b.rule) }
     ensures same { (building.new.depth ≡ building.old.depth) × (building.new.page ≡ building.old.page) }
     ensures on_page { OnOk result (IsOnPage building.old.page building.old → IsOnPage building.new.page building.new) }
 {
-    let Some(offset) = offsets.first() else {
-        return Ok(Front::Waits);
-    };
-    let Some(size) = whole_size(ended, first, text.as_bytes()) else {
-        return Ok(Front::Waits);
+    let size = match whole_size(ended, first, text.as_bytes(), sought) {
+        End::At(size) => size,
+        End::Beyond(next) => return Ok(Front::Waits(next)),
     };
     let (construct, _) = text.split_at(size);
     let kind = kind_of(first, text.as_bytes());
-    match take(building, kind, *offset, construct)? {
-        Some(rule) => Ok(Front::Breaks(Break {
-            offset: *offset,
-            rule,
-        })),
+    match take(building, kind, offset, construct)? {
+        Some(rule) => Ok(Front::Breaks(Break { offset, rule })),
         None => Ok(Front::Takes(size)),
     }
 }
@@ -110,81 +111,88 @@ fn is_front(first: bool, at: usize) -> bool
     first && at == 0
 }
 
-/// The offsets of the bytes from a place on.
-fn behind(offsets: &[u64], at: usize) -> &[u64]
-    requires { at ≤ length offsets.now }
-    ensures { result.now ≡ drop at offsets.now }
-{
-    &offsets[at..]
-}
-
 /// Builds the construct at a place in, where it is whole.
 fn step_at<'a>(
     building: &mut Building<'a>,
     ended: bool,
     first: bool,
     text: &str,
-    offsets: &[u64],
+    places: Places,
     at: usize,
+    sought: Sought,
 ) -> Result<Front, NoMemory>
-    requires even { length text.now ≡ length offsets.now }
+    requires within { at < length text.now }
     requires boundary { IsCharBoundary text.now at }
-    ensures waits { result ≡ Ok Front.Waits
-        → (whole_size_of ended (first && (at == 0)) (drop at text.now) ≡ None) × (building.new ≡ building.old) }
+    requires behind { at ≢ 0 → places.even ≤ at }
+    requires fits { places.base + length text.now < 2 ^ 64 + places.even }
+    requires sought { IsSought (first && (at == 0)) (drop at text.now) sought }
+    ensures waits { (s : _) → result ≡ Ok (Front.Waits s)
+        → (whole_size_of ended (first && (at == 0)) (drop at text.now) ≡ None) × (building.new ≡ building.old)
+        × IsSought (first && (at == 0)) (drop at text.now) s }
     ensures takes { (k : _) → result ≡ Ok (Front.Takes k) → (0 < k) × IsCharBoundary text.now (at + k)
-        × Leads ended building.old.depth (state_of building.old) (first && (at == 0)) (drop at (placed text.now offsets.now))
-        (state_of building.new) false (drop (at + k) (placed text.now offsets.now)) }
-    ensures breaks { (b : _) → result ≡ Ok (Front.Breaks b) → Breaks ended building.old.depth (state_of building.old)
-        (first && (at == 0)) (drop at (placed text.now offsets.now)) (fault b.offset b.rule) }
+        × (whole_size_of ended (first && (at == 0)) (drop at text.now) ≡ Some k)
+        × ((us : List Byte) → IsPlaced text.now places us
+        → Leads ended building.old.depth (state_of building.old) (first && (at == 0)) (drop at us)
+        (state_of building.new) false (drop (at + k) us)) }
+    ensures breaks { (b : _) → result ≡ Ok (Front.Breaks b) → (us : List Byte) → IsPlaced text.now places us
+        → Breaks ended building.old.depth (state_of building.old) (first && (at == 0)) (drop at us) (fault b.offset b.rule) }
     ensures same { (building.new.depth ≡ building.old.depth) × (building.new.page ≡ building.old.page) }
     ensures on_page { OnOk result (IsOnPage building.old.page building.old → IsOnPage building.new.page building.new) }
 {
     let (_, rest) = text.split_at(at);
-    step(
-        building,
-        ended,
-        is_front(first, at),
-        rest,
-        behind(offsets, at),
-    )
+    let start = places.offset(at);
+    step(building, ended, is_front(first, at), rest, start, sought)
 }
 
 /// Builds the constructs at the front in, one after another, up to one that isn't whole or breaks a rule.
 ///
-/// `ended` says that the text ends the page and its characters end well, and `first` that it begins the page.
+/// `ended` says that the text ends the page and its characters end well, `first` that it begins the page, and `sought` how
+/// far the end of its first construct was looked for.
 pub(crate) fn settle<'a>(
     building: &mut Building<'a>,
     ended: bool,
     first: bool,
     text: &str,
-    offsets: &[u64],
+    places: Places,
+    sought: Sought,
 ) -> Result<Settled, NoMemory>
-    requires { length text.now ≡ length offsets.now }
+    requires even { places.even ≤ length text.now }
+    requires fits { places.base + length text.now < 2 ^ 64 + places.even }
+    requires unsettled { size first (take places.even text.now) ≡ None }
+    requires sought { IsSought first text.now sought }
     ensures boundary { IfOk result (λ r. IsCharBoundary text.now r.taken) }
+    ensures behind { IfOk result (λ r. r.taken ≢ 0 → places.even ≤ r.taken) }
     ensures whole { IfOk result (λ r. r.broken ≡ None
         → whole_size_of ended (first && (r.taken == 0)) (drop r.taken text.now) ≡ None) }
-    ensures leads { IfOk result (λ r. r.broken ≡ None
-        → Leads ended building.old.depth (state_of building.old) first (placed text.now offsets.now)
-        (state_of building.new) (first && (r.taken == 0)) (drop r.taken (placed text.now offsets.now))) }
-    ensures breaks { IfOk result (λ r. (b : _) → r.broken ≡ Some b
-        → Breaks ended building.old.depth (state_of building.old) first (placed text.now offsets.now) (fault b.offset b.rule)) }
+    ensures sought { IfOk result (λ r. r.broken ≡ None → IsSought (first && (r.taken == 0)) (drop r.taken text.now) r.sought) }
+    ensures leads { IfOk result (λ r. r.broken ≡ None → (us : List Byte) → IsPlaced text.now places us
+        → Leads ended building.old.depth (state_of building.old) first us
+        (state_of building.new) (first && (r.taken == 0)) (drop r.taken us)) }
+    ensures breaks { IfOk result (λ r. (b : _) → r.broken ≡ Some b → (us : List Byte) → IsPlaced text.now places us
+        → Breaks ended building.old.depth (state_of building.old) first us (fault b.offset b.rule)) }
     ensures same { (building.new.depth ≡ building.old.depth) × (building.new.page ≡ building.old.page) }
     ensures on_page { OnOk result (IsOnPage building.old.page building.old → IsOnPage building.new.page building.new) }
 {
     let bytes = text.as_bytes();
     let mut at = 0;
+    let mut sought = sought;
     'constructs: while at < bytes.len() {
-        match step_at(building, ended, first, text, offsets, at)? {
-            Front::Waits => {
+        match step_at(building, ended, first, text, places, at, sought)? {
+            Front::Waits(sought) => {
                 return Ok(Settled {
                     taken: at,
+                    sought,
                     broken: None,
                 })
             }
-            Front::Takes(size) => at += size,
+            Front::Takes(size) => {
+                at += size;
+                sought = unsought();
+            }
             Front::Breaks(broken) => {
                 return Ok(Settled {
                     taken: at,
+                    sought: unsought(),
                     broken: Some(broken),
                 })
             }
@@ -192,6 +200,7 @@ pub(crate) fn settle<'a>(
     }
     Ok(Settled {
         taken: at,
+        sought: unsought(),
         broken: None,
     })
 }

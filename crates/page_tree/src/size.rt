@@ -1,8 +1,31 @@
 //! Where constructs end.
-ghost use Rattle.std.specs.Prelude.{◌≡◌, ◌+◌, ◌≤◌, ◌<◌, length, take, drop, Some, None, option_map, IfSome};
-ghost use Rattle.page_tree.specs.Constructs.{starts as starts_of, after as after_of, after_tag as after_tag_of, text_size as text_size_of, reference_size as reference_size_of, starts_white as starts_white_of, kind_of as kind_of_spec, size_by as size_by_spec, is_run as is_run_of, whole_size as whole_size_of, behind};
+ghost use Rattle.std.specs.Prelude.{◌≡◌, ◌≢◌, ◌∷◌, ◌==◌, ◌||◌, suc, is_none, false, ◌+◌, ◌≤◌, ◌<◌, ◌++◌, ℕ, List, length, take, drop, Some, None, option_map, IfSome};
+ghost use Rattle.page_tree.specs.Constructs.{starts as starts_of, after as after_of, after_tag as after_tag_of, text_size as text_size_of, reference_size as reference_size_of, starts_white as starts_white_of, kind_of as kind_of_spec, size as size_of, size_by as size_by_spec, is_run as is_run_of, whole_size as whole_size_of};
+ghost use Rattle.page_tree.specs.Seeking.{seek as seek_of, skipped, further, found, GoesOn, IsSought};
 
 use crate::kind::Kind;
+
+/// How far the end of a construct was looked for: behind so many of its bytes, where this quote is open. At 0 it wasn't
+/// looked for.
+#[derive(Clone, Copy, Debug)]
+pub(crate) struct Sought {
+    pub at: usize,
+    pub quote: Option<u8>,
+}
+
+/// Where a construct ends, or how far its end was looked for in vain.
+#[derive(Clone, Copy, Debug)]
+pub(crate) enum End {
+    At(usize),
+    Beyond(Sought),
+}
+
+/// No end was looked for.
+pub(crate) fn unsought() -> Sought
+    ensures { result.at ≡ 0 }
+{
+    Sought { at: 0, quote: None }
+}
 
 /// Whether a text begins so.
 fn starts(text: &[u8], front: &[u8]) -> bool
@@ -47,138 +70,230 @@ fn is_declaration(text: &[u8]) -> bool
     starts(text, b"<?xml") && starts_white(behind_first(text, 5))
 }
 
-ghost use Rattle.std.specs.Prelude.{codes, ◌&&◌};
+ghost use Rattle.std.specs.Prelude.{codes, ◌&&◌, Bool, true};
 
-/// What the first construct is. `first` says whether it is the page's first.
+/// What a construct is that doesn't begin with `<`.
 #[tactic(auto, unfolding(crate::specs::Constructs::kind_of))]
-pub(crate) fn kind_of(first: bool, text: &[u8]) -> Kind
-    ensures { result ≡ kind_of_spec first text.now }
+fn run_kind(text: &[u8]) -> Kind
+    requires { starts_of (codes "<") text.now ≡ false }
+    ensures { (first : Bool) → result ≡ kind_of_spec first text.now }
 {
-    if starts(text, b"<?") {
-        if first && is_declaration(text) {
-            Kind::Declaration
-        } else {
-            Kind::Instruction
-        }
-    } else if starts(text, b"<!--") {
-        Kind::Comment
-    } else if starts(text, b"<![CDATA[") {
-        Kind::Cdata
-    } else if starts(text, b"<!DOCTYPE") {
-        Kind::Doctype
-    } else if starts(text, b"<!") {
-        Kind::Unknown
-    } else if starts(text, b"</") {
-        Kind::EndTag
-    } else if starts(text, b"<") {
-        Kind::StartTag
-    } else if starts(text, b"&") {
+    if starts(text, b"&") {
         Kind::Reference
     } else {
         Kind::Text
     }
 }
 
-/// How many bytes end with the first of these.
-fn after(text: &[u8], ends: &[u8]) -> Option<usize>
-    ensures value { result ≡ after_of ends.now text.now }
-    ensures within { IfSome result (λ n. n ≤ length text.now) }
+/// What a construct is that begins with `<!`.
+#[tactic(auto, unfolding(crate::specs::Constructs::kind_of))]
+fn marked_kind(text: &[u8]) -> Kind
+    requires { starts_of (codes "<!") text.now ≡ true }
+    ensures { (first : Bool) → result ≡ kind_of_spec first text.now }
 {
-    let mut at = 0;
-    while at < text.len() {
+    if starts(text, b"<!--") {
+        Kind::Comment
+    } else if starts(text, b"<![CDATA[") {
+        Kind::Cdata
+    } else if starts(text, b"<!DOCTYPE") {
+        Kind::Doctype
+    } else {
+        Kind::Unknown
+    }
+}
+
+/// What a construct is that begins with `<?`.
+#[tactic(auto, unfolding(crate::specs::Constructs::kind_of))]
+fn instructed_kind(first: bool, text: &[u8]) -> Kind
+    requires { starts_of (codes "<?") text.now ≡ true }
+    ensures { result ≡ kind_of_spec first text.now }
+{
+    if first && is_declaration(text) {
+        Kind::Declaration
+    } else {
+        Kind::Instruction
+    }
+}
+
+/// What the first construct is. `first` says whether it is the page's first.
+#[tactic(auto, unfolding(crate::specs::Constructs::kind_of))]
+pub(crate) fn kind_of(first: bool, text: &[u8]) -> Kind
+    ensures { result ≡ kind_of_spec first text.now }
+{
+    if !starts(text, b"<") {
+        return run_kind(text);
+    }
+    if starts(text, b"</") {
+        return Kind::EndTag;
+    }
+    if starts(text, b"<!") {
+        return marked_kind(text);
+    }
+    if starts(text, b"<?") {
+        return instructed_kind(first, text);
+    }
+    Kind::StartTag
+}
+
+/// Where the first of these ends, from a place on.
+fn after(text: &[u8], from: usize, ends: &[u8]) -> End
+    ensures value { found result ≡ further from (after_of ends.now (drop from text.now)) }
+    ensures within { IfSome (found result) (λ n. n ≤ length text.now) }
+    ensures goes { (s : _) → result ≡ End.Beyond s → GoesOn (after_of ends.now) from (after_of ends.now) s.at text.now }
+{
+    let mut at = from;
+    'places: while at < text.len() && ends.len() <= text.len() - at {
         if starts(behind_first(text, at), ends) {
-            return Some(at + ends.len());
+            return End::At(at + ends.len());
         }
         at += 1;
     }
-    None
+    End::Beyond(Sought { at, quote: None })
 }
 
-/// How many bytes end with the first `>` outside quotes.
-fn after_tag(text: &[u8]) -> Option<usize>
-    ensures value { result ≡ after_tag_of None text.now }
-    ensures within { IfSome result (λ n. n ≤ length text.now) }
+/// Whether a byte ends a tag, behind an open quote where there is one.
+fn ends_tag(quote: Option<u8>, byte: u8) -> bool
+    ensures { result ≡ (is_none quote && (byte == 62)) }
 {
-    let mut quote = None;
-    for (at, byte) in text.iter().enumerate() {
-        match quote {
-            Some(open) => {
-                if *byte == open {
-                    quote = None;
-                }
-            }
-            None => {
-                if *byte == b'>' {
-                    return Some(at + 1);
-                }
-                if *byte == b'"' || *byte == b'\'' {
-                    quote = Some(*byte);
-                }
-            }
-        }
-    }
-    None
+    quote.is_none() && byte == b'>'
 }
 
-/// How many bytes a text goes on.
-fn text_size(text: &[u8]) -> Option<usize>
-    ensures value { result ≡ text_size_of text.now }
-    ensures within { IfSome result (λ n. n ≤ length text.now) }
+/// The quote that is open behind a byte which doesn't end a tag.
+fn quote_behind(quote: Option<u8>, byte: u8) -> Option<u8>
+    requires { (is_none quote && (byte == 62)) ≡ false }
+    ensures { (cs : List ℕ) → after_tag_of quote (byte ∷ cs) ≡ option_map suc (after_tag_of result cs) }
 {
-    for (at, byte) in text.iter().enumerate() {
-        if *byte == b'<' || *byte == b'&' {
-            return Some(at);
-        }
-    }
-    None
-}
-
-/// How many bytes a reference goes on behind its `&`.
-fn reference_size(text: &[u8]) -> Option<usize>
-    ensures value { result ≡ reference_size_of text.now }
-    ensures within { IfSome result (λ n. n ≤ length text.now) }
-{
-    for (at, byte) in text.iter().enumerate() {
-        if *byte == b';' {
-            return Some(at + 1);
-        }
-        if is_white(*byte) || *byte == b'<' || *byte == b'&' {
-            return Some(at);
-        }
-    }
-    None
-}
-
-/// A size behind so many more bytes.
-fn behind_more(size: Option<usize>, count: usize, text: &[u8]) -> Option<usize>
-    requires { IfSome size (λ n. n + count ≤ length text.now) }
-    ensures { result ≡ behind count size }
-{
-    match size {
-        Some(size) => Some(size + count),
-        None => None,
+    match quote {
+        Some(open) if byte == open => None,
+        None if byte == b'"' || byte == b'\'' => Some(byte),
+        same => same,
     }
 }
 
-/// How many bytes a construct of a kind takes, where it ends whatever follows.
-#[tactic(auto, unfolding(crate::specs::Constructs::size_by))]
-fn size_by(kind: Kind, text: &[u8]) -> Option<usize>
-    ensures value { result ≡ size_by_spec kind text.now }
-    ensures within { IfSome result (λ n. n ≤ length text.now) }
+/// Where the first `>` outside quotes ends, from a place on.
+fn after_tag(text: &[u8], from: Sought) -> End
+    ensures value { found result ≡ further from.at (after_tag_of from.quote (drop from.at text.now)) }
+    ensures within { IfSome (found result) (λ n. n ≤ length text.now) }
+    ensures goes { (s : _) → result ≡ End.Beyond s
+        → GoesOn (after_tag_of from.quote) from.at (after_tag_of s.quote) s.at text.now }
+{
+    let mut at = from.at;
+    let mut quote = from.quote;
+    'bytes: while at < text.len() {
+        if ends_tag(quote, text[at]) {
+            return End::At(at + 1);
+        }
+        quote = quote_behind(quote, text[at]);
+        at += 1;
+    }
+    End::Beyond(Sought { at, quote })
+}
+
+/// Whether a byte ends a text.
+fn is_markup(byte: u8) -> bool
+    ensures { result ≡ (byte == 60 || byte == 38) }
+{
+    byte == b'<' || byte == b'&'
+}
+
+/// Where a text goes on to, from a place on.
+fn text_size(text: &[u8], from: usize) -> End
+    ensures value { found result ≡ further from (text_size_of (drop from text.now)) }
+    ensures within { IfSome (found result) (λ n. n ≤ length text.now) }
+    ensures goes { (s : _) → result ≡ End.Beyond s → GoesOn text_size_of from text_size_of s.at text.now }
+{
+    let mut at = from;
+    'bytes: while at < text.len() {
+        if is_markup(text[at]) {
+            return End::At(at);
+        }
+        at += 1;
+    }
+    End::Beyond(Sought { at, quote: None })
+}
+
+/// Whether a byte ends a reference and doesn't belong to it.
+fn ends_reference(byte: u8) -> bool
+    ensures { result ≡ (is_white_byte byte || byte == 60 || byte == 38) }
+{
+    is_white(byte) || byte == b'<' || byte == b'&'
+}
+
+/// Where a reference goes on to, from a place on.
+fn reference_size(text: &[u8], from: usize) -> End
+    ensures value { found result ≡ further from (reference_size_of (drop from text.now)) }
+    ensures within { IfSome (found result) (λ n. n ≤ length text.now) }
+    ensures goes { (s : _) → result ≡ End.Beyond s → GoesOn reference_size_of from reference_size_of s.at text.now }
+{
+    let mut at = from;
+    'bytes: while at < text.len() {
+        if text[at] == b';' {
+            return End::At(at + 1);
+        }
+        if ends_reference(text[at]) {
+            return End::At(at);
+        }
+        at += 1;
+    }
+    End::Beyond(Sought { at, quote: None })
+}
+
+/// Where a construct of a kind ends, from a place on.
+fn seek(kind: Kind, text: &[u8], from: Sought) -> End
+    ensures value { found result ≡ further from.at (seek_of kind from.quote (drop from.at text.now)) }
+    ensures within { IfSome (found result) (λ n. n ≤ length text.now) }
+    ensures goes { (s : _) → result ≡ End.Beyond s
+        → GoesOn (seek_of kind from.quote) from.at (seek_of kind s.quote) s.at text.now }
 {
     match kind {
-        Kind::Declaration | Kind::Instruction => behind_more(
-            after(behind_first(text, 1), b"?>"),
-            1,
-            text,
-        ),
-        Kind::Comment => behind_more(after(behind_first(text, 4), b"-->"), 4, text),
-        Kind::Cdata => behind_more(after(behind_first(text, 9), b"]]>"), 9, text),
-        Kind::Doctype => behind_more(after_tag(behind_first(text, 9)), 9, text),
-        Kind::Unknown | Kind::EndTag => behind_more(after(behind_first(text, 2), b">"), 2, text),
-        Kind::StartTag => behind_more(after_tag(behind_first(text, 1)), 1, text),
-        Kind::Reference => behind_more(reference_size(behind_first(text, 1)), 1, text),
-        Kind::Text => behind_more(text_size(behind_first(text, 1)), 1, text),
+        Kind::Declaration | Kind::Instruction => after(text, from.at, b"?>"),
+        Kind::Comment => after(text, from.at, b"-->"),
+        Kind::Cdata => after(text, from.at, b"]]>"),
+        Kind::Unknown | Kind::EndTag => after(text, from.at, b">"),
+        Kind::Doctype | Kind::StartTag => after_tag(text, from),
+        Kind::Reference => reference_size(text, from.at),
+        Kind::Text => text_size(text, from.at),
+    }
+}
+
+/// With how many bytes a construct of a kind begins, in which its end isn't looked for.
+fn head_size(kind: Kind) -> usize
+    ensures { result ≡ skipped kind }
+{
+    match kind {
+        Kind::Comment => 4,
+        Kind::Cdata | Kind::Doctype => 9,
+        Kind::Unknown | Kind::EndTag => 2,
+        Kind::Declaration | Kind::Instruction | Kind::StartTag | Kind::Reference | Kind::Text => 1,
+    }
+}
+
+/// From where the end of a construct of a kind is to be looked for.
+fn sought_from(kind: Kind, sought: Sought) -> Sought
+    ensures { (first : _) (cs : List ℕ) → kind ≡ kind_of_spec first cs → IsSought first cs sought
+        → (more : List ℕ) → size_by_spec kind (cs ++ more) ≡ further result.at (seek_of kind result.quote (drop result.at (cs ++ more))) }
+{
+    if sought.at == 0 {
+        return Sought {
+            at: head_size(kind),
+            quote: None,
+        };
+    }
+    sought
+}
+
+/// Where the first construct ends, whatever follows. What its first bytes are is certain once there are nine.
+fn first_end(first: bool, text: &[u8], sought: Sought) -> End
+    requires { IsSought first text.now sought }
+    ensures value { found result ≡ size_of first text.now }
+    ensures within { IfSome (found result) (λ n. n ≤ length text.now) }
+    ensures goes { (s : _) → result ≡ End.Beyond s → IsSought first text.now s }
+{
+    let kind = kind_of(first, text);
+    let end = seek(kind, text, sought_from(kind, sought));
+    match end {
+        End::Beyond(_) if text.len() < 9 => End::Beyond(unsought()),
+        end => end,
     }
 }
 
@@ -192,19 +307,16 @@ fn is_run(text: &[u8]) -> bool
     }
 }
 
-/// How many bytes the first construct of a page's rest takes. `ended` says that the page's characters end well.
-pub(crate) fn whole_size(ended: bool, first: bool, text: &[u8]) -> Option<usize>
-    ensures value { result ≡ whole_size_of ended first text.now }
-    ensures within { IfSome result (λ n. n ≤ length text.now) }
+/// Where the first construct of a page's rest ends. `ended` says that the page's characters end well, and `sought` how far
+/// the end was looked for before.
+pub(crate) fn whole_size(ended: bool, first: bool, text: &[u8], sought: Sought) -> End
+    requires { IsSought first text.now sought }
+    ensures value { found result ≡ whole_size_of ended first text.now }
+    ensures within { IfSome (found result) (λ n. n ≤ length text.now) }
+    ensures goes { (s : _) → result ≡ End.Beyond s → IsSought first text.now s }
 {
-    match size_by(kind_of(first, text), text) {
-        Some(size) => Some(size),
-        None => {
-            if ended && is_run(text) {
-                Some(text.len())
-            } else {
-                None
-            }
-        }
+    match first_end(first, text, sought) {
+        End::Beyond(_) if ended && is_run(text) => End::At(text.len()),
+        end => end,
     }
 }

@@ -1,16 +1,16 @@
 //! A page's tree, built from its constructs one after another.
-ghost use Rattle.std.specs.Prelude.{◌≡◌, ◌&&◌, true, not, Ok, Some, None, IfOk, IfSome, OnOk, map, option_map, encode_utf8};
+ghost use Rattle.std.specs.Prelude.{◌≡◌, ◌∷◌, [], ◌&&◌, true, not, Ok, Some, None, IfOk, IfSome, OnOk, map, flat_map, option_map, string_bytes, encode_utf8};
 ghost use Rattle.std.specs.List.{list_all};
 ghost use Rattle.ix_base.specs.Elements.{pages_of};
 ghost use Rattle.ix_base.specs.NcName.{is_white as is_white_byte};
-ghost use Rattle.ix_base.specs.Trees.{tree_of, bound};
+ghost use Rattle.ix_base.specs.Trees.{tree_of, bound, none};
 ghost use Rattle.page_tree.specs.Break.{broken_by, broken_by_tag, is_outside as is_outside_of, matches as matches_of};
 ghost use Rattle.page_tree.specs.Expansions.{expansion, expansions};
-ghost use Rattle.page_tree.specs.Machine.{outline_of, moved, scope_in, begin, opening, standing, closing, running};
+ghost use Rattle.page_tree.specs.Machine.{outline_of, moved, scope_in, begin, flushed, opening, standing, closing, running};
 ghost use Rattle.page_tree.specs.Orders.{are_ordered};
 ghost use Rattle.page_tree.specs.Page.{is_within as is_within_profile, is_encoding as is_known_encoding};
-ghost use Rattle.page_tree.specs.Stacks.{AreAll};
-ghost use Rattle.page_tree.specs.Tags.{scope_of as scope_under_tag};
+ghost use Rattle.page_tree.specs.Stacks.{frame, frames_of, pages_open, AreAll};
+ghost use Rattle.page_tree.specs.Tags.{head_of, scope_of as scope_under_tag};
 ghost use Rattle.page_tree.specs.Tokens.{start, empty, close, words, refer, section, declaration, doctype};
 ghost use Rattle.page_tree.specs.Views.{tag_of, token_of};
 
@@ -169,14 +169,23 @@ impl<'a> Building<'a> {
         Ok(None)
     }
 
-    /// An element begins.
-    fn open(&mut self, scope: &'a [Binding<'a>], tag: &Tag<'a>) -> Result<(), NoMemory>
+    /// An element begins: the text before it ends.
+    fn begin(&mut self, scope: &'a [Binding<'a>], tag: &Tag<'a>) -> Result<Open<'a>, NoMemory>
         requires scope { map bound scope.now ≡ scope_under_tag (scope_in (state_of self.old).frames) (tag_of tag.now) }
         requires ordered { are_ordered (map bound scope.now) ≡ true }
         requires expanded { map expansion self.old.expanded.items ≡ expansions (map bound scope.now) (tag_of tag.now) }
-        ensures state { OnOk result (state_of self.new ≡ opening (state_of self.old) (tag_of tag.now)) }
+        ensures frame { IfOk result (λ o. frame o ≡ record {
+          written = tag.now.name.now;
+          head = head_of (scope_in (state_of self.old).frames) (tag_of tag.now);
+          done = none;
+        }) }
+        ensures frames { OnOk result (frames_of self.new.elements.items
+            ≡ flushed (frames_of self.old.elements.items) (string_bytes self.old.text)) }
+        ensures text { OnOk result (string_bytes self.new.text ≡ []) }
+        ensures rest { (self.new.root ≡ self.old.root) × (self.new.doctyped ≡ self.old.doctyped) }
         ensures same { (self.new.depth ≡ self.old.depth) × (self.new.page ≡ self.old.page) }
-        ensures on_page { OnOk result (IsOnPage self.old.page self.old → IsOnPage self.new.page self.new) }
+        ensures pages { IfOk result (λ o. pages_open o ≡ self.old.page ∷ []) }
+        ensures on_page { OnOk result (flat_map pages_open self.new.elements.items ≡ flat_map pages_open self.old.elements.items) }
     {
         let element = open_element(
             self.alloc,
@@ -189,6 +198,19 @@ impl<'a> Building<'a> {
         )?;
         flush_innermost(self.arena, &mut self.elements, &mut self.text)?;
         self.text.clear();
+        Ok(element)
+    }
+
+    /// An element is open from here on.
+    fn open(&mut self, scope: &'a [Binding<'a>], tag: &Tag<'a>) -> Result<(), NoMemory>
+        requires scope { map bound scope.now ≡ scope_under_tag (scope_in (state_of self.old).frames) (tag_of tag.now) }
+        requires ordered { are_ordered (map bound scope.now) ≡ true }
+        requires expanded { map expansion self.old.expanded.items ≡ expansions (map bound scope.now) (tag_of tag.now) }
+        ensures state { OnOk result (state_of self.new ≡ opening (state_of self.old) (tag_of tag.now)) }
+        ensures same { (self.new.depth ≡ self.old.depth) × (self.new.page ≡ self.old.page) }
+        ensures on_page { OnOk result (IsOnPage self.old.page self.old → IsOnPage self.new.page self.new) }
+    {
+        let element = self.begin(scope, tag)?;
         self.elements.push(element)?;
         Ok(())
     }
@@ -202,18 +224,8 @@ impl<'a> Building<'a> {
         ensures same { (self.new.depth ≡ self.old.depth) × (self.new.page ≡ self.old.page) }
         ensures on_page { OnOk result (IsOnPage self.old.page self.old → IsOnPage self.new.page self.new) }
     {
-        let element = open_element(
-            self.alloc,
-            self.arena,
-            self.page,
-            scope,
-            tag,
-            self.expanded.as_slice(),
-            &mut self.attrs,
-        )?;
-        flush_innermost(self.arena, &mut self.elements, &mut self.text)?;
-        self.text.clear();
-        let element = close_element(self.arena, element)?;
+        let own = self.begin(scope, tag)?;
+        let element = close_element(self.arena, own)?;
         put(&mut self.elements, &mut self.root, element)?;
         Ok(())
     }
@@ -259,6 +271,22 @@ impl<'a> Building<'a> {
         Ok(())
     }
 
+    /// The scope of a tag's element, and the lowest rule that the tag breaks. Its attributes are expanded.
+    fn judge(&mut self, tag: &Tag<'a>) -> Result<(&'a [Binding<'a>], Option<Rule>), NoMemory>
+        ensures scope { IfOk result (λ r. map bound r.0.now ≡ scope_under_tag (scope_in (state_of self.old).frames) (tag_of tag.now)) }
+        ensures ordered { IfOk result (λ r. are_ordered (map bound r.0.now) ≡ true) }
+        ensures expanded { IfOk result (λ r. map expansion self.new.expanded.items ≡ expansions (map bound r.0.now) (tag_of tag.now)) }
+        ensures rule { IfOk result (λ r. r.1 ≡ broken_by_tag self.old.depth (outline_of (state_of self.old)) (tag_of tag.now)) }
+        ensures state { state_of self.new ≡ state_of self.old }
+        ensures same { (self.new.depth ≡ self.old.depth) × (self.new.page ≡ self.old.page) }
+        ensures on_page { OnOk result (IsOnPage self.old.page self.old → IsOnPage self.new.page self.new) }
+    {
+        let scope = self.element_scope(tag)?;
+        expand(scope, tag.attrs, &mut self.expanded)?;
+        let broken = self.broken_by_tag(scope, tag)?;
+        Ok((scope, broken))
+    }
+
     /// Takes a start tag.
     #[tactic(auto, unfolding(crate::specs::Break::broken_by, crate::specs::Machine::moved))]
     fn take_start(&mut self, tag: &Tag<'a>) -> Result<Option<Rule>, NoMemory>
@@ -267,13 +295,11 @@ impl<'a> Building<'a> {
         ensures same { (self.new.depth ≡ self.old.depth) × (self.new.page ≡ self.old.page) }
         ensures on_page { OnOk result (IsOnPage self.old.page self.old → IsOnPage self.new.page self.new) }
     {
-        let scope = self.element_scope(tag)?;
-        expand(scope, tag.attrs, &mut self.expanded)?;
-        if let Some(rule) = self.broken_by_tag(scope, tag)? {
-            return Ok(Some(rule));
+        let (scope, broken) = self.judge(tag)?;
+        if broken.is_none() {
+            self.open(scope, tag)?;
         }
-        self.open(scope, tag)?;
-        Ok(None)
+        Ok(broken)
     }
 
     /// Takes an empty-element tag.
@@ -284,13 +310,11 @@ impl<'a> Building<'a> {
         ensures same { (self.new.depth ≡ self.old.depth) × (self.new.page ≡ self.old.page) }
         ensures on_page { OnOk result (IsOnPage self.old.page self.old → IsOnPage self.new.page self.new) }
     {
-        let scope = self.element_scope(tag)?;
-        expand(scope, tag.attrs, &mut self.expanded)?;
-        if let Some(rule) = self.broken_by_tag(scope, tag)? {
-            return Ok(Some(rule));
+        let (scope, broken) = self.judge(tag)?;
+        if broken.is_none() {
+            self.stand(scope, tag)?;
         }
-        self.stand(scope, tag)?;
-        Ok(None)
+        Ok(broken)
     }
 
     /// Takes an end tag.

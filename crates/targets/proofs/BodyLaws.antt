@@ -1,5 +1,5 @@
 -- The body of a footnote is the markup of some sound nodes with the empty namespace around them, links as they are written.
-use Rattle.std.proofs.Common.{◌≡◌, ◌≢◌, ◌∙◌, ap, sym, subst, refl, ℕ, zero, suc, ◌+◌, ◌≤◌, ◌==◌, Bool, true, false, not, ◌&&◌, ◌||◌, cond, List, [], ◌∷◌, ◌++◌, All, length, map, Option, Some, None, append_assoc, append-nil, arith, ⊎_elim, inl, inr, ◌⊎◌}
+use Rattle.std.proofs.Common.{◌≡◌, ◌≢◌, ◌∙◌, ap, sym, subst, refl, ℕ, zero, suc, ◌≤◌, ◌==◌, Bool, true, false, not, ◌&&◌, ◌||◌, cond, List, [], ◌∷◌, ◌++◌, All, length, map, Option, Some, None, append_assoc, append-nil, arith, ⊎_elim, inl, inr, ◌⊎◌}
 use Rattle.std.specs.List.{Contains, filter}
 use Rattle.std.specs.Prelude.{if◌then◌else◌, is_some, nat_lt}
 use Rattle.std.proofs.lemmas.Bool.{and_parts}
@@ -9,7 +9,7 @@ use Rattle.url.specs.Parts.{Parts, serialize}
 use Rattle.ix_base.specs.Address.{is_link, joined_url, link_or, longest_link, resolved, url_of}
 use Rattle.ix_base.specs.Elements.{Placed, below, elements_of, placed_at, tree_at}
 use Rattle.ix_base.specs.Located.{Located, Paged, marked_from, page_marked}
-use Rattle.ix_base.specs.Markup.{Kept, LeftOut, Manner, Opened, attribute_cmp, attribute_of, base_below, body, body_along, declaration, element_by, ends_short, is_link_of, is_silent, is_written, manner, markup, markup_along, own_attributes, put_words, silent_by, value_by}
+use Rattle.ix_base.specs.Markup.{Kept, LeftOut, Manner, Opened, attribute_cmp, attribute_of, base_below, body, body_along, declaration, element_by, ends_short, is_link_of, is_silent, is_written, manner, markup_along, own_attributes, put_words, silent_by, value_by}
 use Rattle.ix_base.specs.NcName.{are_allowed}
 use Rattle.ix_base.specs.Sorted.{sorted}
 use Rattle.ix_base.specs.Sound.{AreDistinct, AreSound, IsSoundAttribute, IsSoundHead, IsSoundTree}

@@ -1,8 +1,8 @@
 -- From the pages that a set keeps to what is asked of its elements.
-use Rattle.std.proofs.Common.{◌≡◌, ◌∙◌, ap, sym, subst, ℕ, suc, ◌+◌, ◌<◌, List, [], ◌∷◌, ◌++◌, length, map, drop, get_or, arith, add-one, append_assoc, append-nil, rules, false}
+use Rattle.std.proofs.Common.{◌≡◌, ◌∙◌, ap, sym, subst, ℕ, suc, ◌+◌, ◌<◌, List, [], ◌∷◌, ◌++◌, length, map, drop, take, get_or, ◌-◌, arith, add-one, append_assoc, append-nil, rules, false}
 use Rattle.std.specs.List.{All, flat_map}
-use Rattle.std.proofs.Math.Seq.{drop-cons}
-use Rattle.std.proofs.lemmas.List.{length-map, map-append}
+use Rattle.std.proofs.Math.Seq.{drop-append_seam, drop-cons, take-length}
+use Rattle.std.proofs.lemmas.List.{drop-map, length-drop, length-map, map-append}
 use Rattle.std.specs.Borrow.{Bor}
 use Rattle.std.proofs.lemmas.List.Elements.{All-cons, All-head, All-nil}
 use Rattle.std.proofs.lemmas.List.Folds.{flat_map-map}
@@ -12,10 +12,12 @@ use Rattle.ix_base.specs.declared.tree.Node.{Node, the_lemmas}
 use Rattle.ix_base.specs.ElementRules.{found_on}
 use Rattle.ix_base.specs.Elements.{pages_in, pages_of}
 use Rattle.ix_base.specs.Address.{page_base}
-use Rattle.ix_base.specs.Located.{Paged, marked, marked_from, page_marked}
+use Rattle.ix_base.specs.declared.tree.Spot.{Spot}
+use Rattle.ix_base.specs.Located.{Located, Paged, located, marked, marked_from, page_marked}
 use Rattle.ix_base.specs.Sound.{IsSoundRoot, IsSoundTree}
 use Rattle.ix_base.specs.Trees.{tree_of}
 use Rattle.id_table.specs.Held.{Held}
+use Rattle.id_table.specs.Tables.{all_located}
 use Rattle.scopes.specs.Kept.{Kept}
 use Rattle.targets.specs.declared.closing.Page.{Page}
 use Rattle.targets.specs.Faults.{faults_from}
@@ -105,3 +107,28 @@ keeps-more base name root pages more index new_index bases new_bases k sound m i
           ∙ ap (map (λ (q : Paged). page_base base q.name q.tree)) (sym all));
       sound = subst (AreSoundFrom 0) (sym m) (sound-push 0 pages p k.sound (subst (λ n. IsSoundRoot root.now n 256) (count ∙ none) sound));
     }
+
+-- the part of a list from a number on
+abbrev pub part_from : ℕ → List (Bor Spot) → List (Bor Spot)
+part_from n xs = take (length xs - n) (drop n xs)
+
+part-drop : (n : ℕ) (xs : List (Bor Spot)) → part_from n xs ≡ drop n xs
+part-drop n xs = ap (λ k. take k (drop n xs)) (sym (length-drop n xs)) ∙ take-length (drop n xs)
+
+-- what stands behind what was there is what came
+pub behind : (before after : List (Bor Spot)) (xs ys : List Located) → all_located before ≡ xs → all_located after ≡ xs ++ ys
+    → xs ++ all_located (part_from (length before) after) ≡ xs ++ ys
+behind before after xs ys b a =
+    let to : Bor Spot → Located = λ s. located s.now in
+    let count : length before ≡ length xs = sym (length-map before to) ∙ ap length b in
+    ap (λ zs. xs ++ zs) (ap all_located (part-drop (length before) after) ∙ sym (drop-map to (length before) after) ∙ ap (drop (length before)) a ∙ ap (λ n. drop n (xs ++ ys)) count ∙ drop-append_seam xs ys)
+
+-- the elements with those of one more page
+pub elements-more : (pages more : List Page) (index new_index : Held) (bases new_bases : Kept) (base : List ℕ) (ys : List Located) (before after : List (Bor Spot))
+    → Keeps base pages index bases → Keeps base more new_index new_bases → new_index ≡ record { spots = index.spots ++ ys; is_spent = false }
+    → all_located before ≡ index.spots → all_located after ≡ new_index.spots
+    → marked (map paged pages) ++ all_located (part_from (length before) after) ≡ marked (map paged more)
+elements-more pages more index new_index bases new_bases base ys before after k m i b a =
+    let here : index.spots ≡ marked (map paged pages) = ap (λ (h : Held). h.spots) k.index in
+    let all : new_index.spots ≡ marked (map paged pages) ++ ys = ap (λ (h : Held). h.spots) i ∙ ap (λ xs. xs ++ ys) here in
+    behind before after (marked (map paged pages)) ys (b ∙ here) (a ∙ all) ∙ sym all ∙ ap (λ (h : Held). h.spots) m.index

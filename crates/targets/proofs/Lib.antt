@@ -12,8 +12,14 @@ pub mod CleanLaws
 mod ClosingLaws
 mod ComesLaws
 mod ContentLaws
+mod ContentsMoved
+mod ContentsShuffled
 mod DepthLaws
+pub mod Exchanged
 mod FactsLaws
+mod FactsMoved
+mod FactsShuffled
+pub mod FaultsMoved
 mod FitLaws
 pub mod ForestLaws
 pub mod FormFits
@@ -26,10 +32,12 @@ pub mod HoldLaws
 pub mod IdsFit
 mod LinkLaws
 pub mod LinksFit
+mod LinksKept
 pub mod ListsFit
 pub mod LocatorFit
 pub mod MarkupTexts
 pub mod MemberLaws
+mod MembersSame
 pub mod NameFits
 mod NoteLaws
 pub mod NoteSums
@@ -41,12 +49,16 @@ pub mod PartLaws
 pub mod PartsFit
 mod PlaceLaws
 pub mod ProperLaws
+pub mod Rearranged
 mod RedirectLaws
 pub mod RefLaws
+pub mod ReportsMoved
 pub mod RolesFit
+mod Shuffled
 pub mod SoundLaws
 pub mod SpelledLaws
 pub mod StandLaws
+mod StandingLaws
 pub mod SuchLaws
 pub mod SumLaws
 pub mod TextFits
@@ -57,4 +69,5 @@ pub mod TupleFit
 pub mod UnbrokenLaws
 mod ValueLaws
 pub mod ValueTexts
+mod ValuesMoved
 pub mod WalkLaws

@@ -29,7 +29,7 @@ use Rattle.ix_base.specs.Sound.{AreSound, IsSoundTree}
 use Rattle.ix_base.specs.Token.{is_token, token_of}
 use Rattle.ix_base.specs.Trees.{Nodes, Tree, none, chars, elem}
 use Rattle.ix_base.proofs.OnceLemmas.{Contains-cases, Contains-nil}
-use Rattle.footnotes.specs.FootnoteLinks.{Between, arcrole, footnote_of, footnote_role, label}
+use Rattle.footnotes.specs.FootnoteLinks.{Between, footnote_of, footnote_role, label}
 use Rattle.instance_out.specs.Arranged.{arranged}
 use Rattle.instance_out.specs.Holds.{all_arcs, all_notes, arc_texts, link_texts, note_texts}
 use Rattle.instance_out.specs.Lists.{of_option}

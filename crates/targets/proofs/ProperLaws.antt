@@ -31,7 +31,7 @@ use Rattle.targets.proofs.TokenFits.{tokens-fit}
 use Rattle.targets.proofs.TupleFit.{tuples-fit}
 
 module _ (s : PageSet) (clean : IsClean s) where
-  proper-content : (target : List ℕ) (c : Content) → IsContent (base_at s) (elements s) target c → Proper (said_of c)
+  pub proper-content : (target : List ℕ) (c : Content) → IsContent (base_at s) (elements s) target c → Proper (said_of c)
   unfolding is_proper
   proper-content target c is = record {
     tested =

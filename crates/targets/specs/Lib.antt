@@ -8,4 +8,5 @@ pub mod Outcomes
 pub mod PageSet
 pub mod Redirects
 pub mod Seen
+pub mod Standing
 pub mod TargetFacts

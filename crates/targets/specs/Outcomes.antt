@@ -2,7 +2,8 @@
 use Rattle.std.specs.Prelude.{◌≡◌, ◌≢◌, ◌⊎◌, ℕ, List, [], map, All}
 use Rattle.ix_base.specs.declared.breach.Found.{Found}
 use Rattle.ix_base.specs.Breaches.{named, report_of}
-use Rattle.ix_base.specs.Located.{Located}
+use Rattle.std.specs.List.Sorted.{IsPermutation}
+use Rattle.ix_base.specs.Located.{Located, Paged}
 use Rattle.instance_out.specs.Writable.{IsWritable}
 use Rattle.targets.specs.declared.outcome.Outcome.{Outcome}
 use Rattle.targets.specs.declared.outcome.Outcome.TheVariants.{Broken, Whole}
@@ -41,6 +42,10 @@ ComesOfValues s o = (found : List Found) × AreValueFaults s found × FirstOf (n
 -- breaks none, of the rules of values; and else its targets.
 abbrev pub ComesTo : PageSet → Outcome → Type 0
 ComesTo s = FirstOf (names s) (element_faults s) (FirstOf (names s) (link_faults s) (ComesOfValues s))
+
+-- what a set comes to, whatever the order of its pages
+abbrev pub ComesToAlways : PageSet → Outcome → Type 0
+ComesToAlways s o = (pages : List Paged) → IsPermutation s.pages pages → ComesTo (record { base = s.base; pages = pages }) o
 
 -- each content can be written
 abbrev pub CanBeWritten : Outcome → Type 0

@@ -369,14 +369,14 @@ fn gathered<'a>(
     let roles = roles_for(alloc, linked, notes.as_slice())?;
     let arcroles = arcroles_for(alloc, linked, notes.as_slice())?;
     Ok(Content {
-        schemas,
-        linkbases,
+        notes,
         roles,
         arcroles,
+        schemas,
+        linkbases,
         contexts,
         units,
         facts,
-        notes,
     })
 }
 
@@ -387,10 +387,10 @@ fn content_of<'a>(
     groups: &Groups<'a>,
     target: &str,
 ) -> Result<Content, NoMemory>
+    requires groups { AreGroups groups.now (all_of linked.now) }
     requires linked { IsLinked linked.now }
     requires valued { IsValued linked.now }
     requires shallow { IsShallow linked.now }
-    requires groups { AreGroups groups.now (all_of linked.now) }
     ensures content { IfOk result (IsContent (base_in (bases_of linked.now)) (all_of linked.now) target.now) }
     ensures written { IfOk result IsWritable }
 {

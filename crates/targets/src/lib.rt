@@ -13,10 +13,12 @@ mod closing;
 mod contents;
 mod facts_in;
 mod groups;
+pub mod laws;
 mod links;
 mod notes;
 mod outcome;
 mod set;
+mod standing;
 mod values;
 
 pub use outcome::{Outcome, Target};

@@ -135,8 +135,8 @@ pub(crate) fn arcroles_for(
     links: &[NoteLink],
 ) -> Result<List<RoleRef>, NoMemory>
     requires { IsLinked linked.now }
-    ensures { IfOk result (λ l. l
-        ≡ spec.roles_for (base_in (bases_of linked.now)) (all_of linked.now) kind.ArcroleRef (spec.uris_in spec.arcroles_in links.now)) }
+    ensures { IfOk result (λ l.
+        l ≡ spec.roles_for (base_in (bases_of linked.now)) (all_of linked.now) kind.ArcroleRef (spec.uris_in spec.arcroles_in links.now)) }
 {
     let mut uris = each_arcrole(alloc, links)?;
     each_once(&mut uris);

@@ -3,10 +3,13 @@ ghost use Rattle.std.specs.Prelude.{◌≡◌, ◌++◌, ◌∷◌, [], length, 
 ghost use Rattle.ix_base.specs.Sound.{IsSoundRoot};
 ghost use Rattle.ix_base.specs.Trees.{tree_of};
 ghost use Rattle.targets.specs.Clean.{AreProper};
-ghost use Rattle.targets.specs.Outcomes.{CanBeWritten, ComesTo};
+ghost use Rattle.targets.specs.Outcomes.{CanBeWritten, ComesTo, ComesToAlways};
+ghost use Rattle.targets.specs.PageSet.{elements};
+ghost use Rattle.targets.specs.Standing.{doubled_links, pending_links};
 
 use crate::closing::{Page, Pages, closed};
 use crate::outcome::Outcome;
+use crate::standing::Links;
 use bumpalo::Bump;
 use id_table::Index;
 use ix_base::{Element, NoMemory, Text};
@@ -25,12 +28,16 @@ pub struct Set<'a> {
     pages: Vec<Page<'a>>,
     index: Index<'a>,
     bases: Bases,
+    /// How the links stand between the elements so far.
+    links: Links<'a>,
     is_spent: bool,
 }
 
 impl<'a> Model for Set<'a> {
     ghost use Rattle.std.specs.Prelude.{◌≡◌, false, map};
+    ghost use Rattle.ix_base.specs.Located.{marked};
     ghost use Rattle.targets.specs.Holding.{HeldSet, Keeps, held_code, paged};
+    ghost use Rattle.targets.specs.Standing.{AreLinks};
 
     ghost Value = { HeldSet };
 
@@ -38,7 +45,8 @@ impl<'a> Model for Set<'a> {
 
     ghost view = { λ s. record { held = record { base = s.base; pages = map paged s.pages.items }; is_spent = s.is_spent } };
 
-    ghost invariant = { λ s. s.is_spent ≡ false → Keeps s.base s.pages.items s.index s.bases };
+    ghost invariant = { λ s. s.is_spent ≡ false
+        → Keeps s.base s.pages.items s.index s.bases × AreLinks (marked (map paged s.pages.items)) s.links };
 }
 
 impl<'a> Set<'a> {
@@ -53,6 +61,7 @@ impl<'a> Set<'a> {
             pages: Vec::new(alloc),
             index: Index::new(alloc),
             bases: Bases::new(alloc),
+            links: Links::new(alloc),
             is_spent: false,
         })
     }
@@ -73,17 +82,37 @@ impl<'a> Set<'a> {
         }
         self.is_spent = true;
         let own = Text::of(self.alloc, name)?;
+        let before = self.index.spots().len();
         self.index.add_page(self.arena, root)?;
+        self.links
+            .add_all(self.alloc, &self.index.spots()[before..])?;
         self.bases.add_page(self.base.as_str(), name, root)?;
         self.pages.push(Page { name: own, root })?;
         self.is_spent = false;
         Ok(())
     }
 
+    /// How many links between the elements so far are pending: of no element is the id that they name, or of no tuple the tuple
+    /// id. It takes no memory.
+    pub fn pending(&self) -> u64
+        ensures { self.now.is_spent ≡ false → result ≡ length (pending_links (elements self.now.held)) }
+    {
+        self.links.pending()
+    }
+
+    /// How many links between the elements so far are doubled: the id that they name is that of more than one element. It takes
+    /// no memory.
+    pub fn doubled(&self) -> u64
+        ensures { self.now.is_spent ≡ false → result ≡ length (doubled_links (elements self.now.held)) }
+    {
+        self.links.doubled()
+    }
+
     /// What the pages come to: the rules that they break, of the first class that has any, or the targets, each with its
-    /// content. Each content is proper, so that its instance can be read back.
+    /// content. The same pages come to the same in every order. Each content is proper, so that its instance can be read back.
     pub fn close(self) -> Result<Outcome, NoMemory>
         ensures comes { IfOk result (ComesTo self.entry.held) }
+        ensures rearranged { IfOk result (ComesToAlways self.entry.held) }
         ensures written { IfOk result CanBeWritten }
         ensures proper { IfOk result AreProper }
         ensures spent { self.entry.is_spent ≡ true → IsErr result }

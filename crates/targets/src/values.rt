@@ -104,8 +104,8 @@ fn add_if_item<'a>(
     spot: &Spot<'a>,
     found: &mut Breaches,
 ) -> Result<(), NoMemory>
-    requires linked { IsLinked linked.now }
     requires among { Contains (all_of linked.now) (located spot.now) }
+    requires linked { IsLinked linked.now }
     ensures { OnOk result ((more : List Found)
         × AreOfItems (IsItem (base_in (bases_of linked.now)) (asks (all_of linked.now))) (filter kinds.is_item (located spot.now ∷ [])) more
         × (found.new ≡ found.old ++ more)) }

@@ -32,7 +32,7 @@ names De =
     ∷ (codes "Juni", 6) ∷ (codes "Jun", 6)
     ∷ (codes "Juli", 7) ∷ (codes "Jul", 7)
     ∷ (codes "August", 8) ∷ (codes "Aug", 8)
-    ∷ (codes "September", 9) ∷ (codes "Sep", 9) ∷ (codes "Sept", 9)
+    ∷ (codes "Sept", 9) ∷ (codes "September", 9) ∷ (codes "Sep", 9)
     ∷ (codes "Oktober", 10) ∷ (codes "Okt", 10)
     ∷ (codes "November", 11) ∷ (codes "Nov", 11)
     ∷ (codes "Dezember", 12) ∷ (codes "Dez", 12)

@@ -19,13 +19,13 @@ pub enum Language {
 /// The orders in which a date's parts may stand.
 #[derive(Clone, Copy)]
 pub enum Layout {
-    DayMonth,
-    MonthDay,
-    DayMonthYear,
-    MonthDayYear,
     YearMonthDay,
-    MonthYear,
     YearMonth,
+    MonthYear,
+    MonthDayYear,
+    DayMonthYear,
+    MonthDay,
+    DayMonth,
     DayMonthName,
     DayMonthNameYear,
     MonthNameYear,

@@ -139,8 +139,8 @@ pub fn may_end(phase: Phase) -> bool
 // Writes one byte.
 fn put(out: &mut [u8], at: usize, byte: u8) -> usize
     requires { at < length out.old }
-    ensures count { result ≡ at + 1 }
     ensures wrote { take result out.new ≡ take at out.old ++ byte ∷ [] }
+    ensures count { result ≡ at + 1 }
 {
     out[at] = byte;
     at + 1

@@ -1,11 +1,12 @@
 use Rattle.std.proofs.Common.{refl, sym, inl}
-use Rattle.ixds_run.specs.Commands.{command_of}
+use Rattle.ixds_run.specs.Commands.{command_of, number_of}
 use Rattle.ixds_run.proofs.AnswerLaws.{along, memory_answer, some_all, usage_answer}
 use Rattle.ixds_run.proofs.ForestLaws.{none_started}
 use Rattle.ixds_run.proofs.run.Goals as goal
 
 pub returns-in-Err : goal.returns-in-Err
 returns-in-Err g c = memory_answer _ _ _ _ _ _ refl refl refl refl
+    (some_all (command_of c.args.words.now) _ (λ command. some_all (number_of command) _ (λ n. refl)))
     (some_all (command_of c.args.words.now) _ (λ command. (0, none_started _))) (some_all (command_of c.args.words.now) _ (λ command. inl refl))
 
 pub returns-in-Ok-None : goal.returns-in-Ok-None

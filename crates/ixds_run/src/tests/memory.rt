@@ -1,6 +1,5 @@
 //! Memory that is refused.
 use super::*;
-use ix_base::NoMemory;
 
 /// Whether these are the six lines of the plain page's instance.
 fn is_instance(taken: Option<&[u8]>) -> bool {
@@ -31,16 +30,7 @@ fn run_plain(alloc: Global) -> Result<Ended, NoMemory> {
         name: Text::of(alloc, "a.html")?,
         bytes: List::of(bytes),
     })?;
-    let mut pages = watched(MemPages::new(held, 65_536, Vec::new(alloc)));
-    let mut sink = watched(MemTargets::new(alloc, 4, 4000, Vec::new(alloc))?);
-    let mut out = watched(MemText::new(alloc, 1000, Vec::new(alloc))?);
-    let status = run(alloc, texts.as_slice(), &mut pages, &mut sink, &mut out);
-    Ok(Ended {
-        status,
-        pages,
-        sink,
-        out,
-    })
+    run_held(alloc, texts.as_slice(), held, 65_536, NONE)
 }
 
 /// Whatever growth is refused, nothing is written, or all of it. Where memory for the objects themselves is refused, the run

@@ -1,5 +1,5 @@
 //! Pages, and what they give: a tree, or the first rule that they break.
-ghost use Rattle.std.specs.Prelude.{◌≡◌, ◌≤◌};
+ghost use Rattle.std.specs.Prelude.{◌≡◌, ◌≤◌, ◌<◌, length};
 ghost use Rattle.page_tree.specs.Standing.{fed_bytes};
 
 use super::*;
@@ -124,6 +124,49 @@ fn the_first_break_is_told_in_any_pieces(rt: HostRuntime) -> Result<(), Fail> {
         assert_eq!(rt; refusal(rt.alloc(), page, 1)?, None);
         assert_eq!(rt; refusal(rt.alloc(), page, 65_536)?, None);
     }
+    Ok(())
+}
+
+/// The first bytes of a piece, fewer than a hundred.
+fn few(piece: &[u8]) -> &[u8]
+    ensures { length result.now < 100 }
+{
+    &piece[..piece.len().min(99)]
+}
+
+/// How many characters wait behind each of some pieces.
+fn waiting(alloc: Global, pieces: &[&[u8]]) -> Result<Vec<u64>, NoMemory>
+    requires { length pieces.now < 100 }
+{
+    let arena = Bump::new(alloc);
+    let mut builder = TreeBuilder::new(alloc, &arena, 7, 256);
+    let mut counts = Vec::new(alloc);
+    for piece in pieces {
+        builder.feed(few(piece))?;
+        counts.push(builder.pending())?;
+    }
+    Ok(counts)
+}
+
+#[test]
+fn what_is_not_whole_waits(rt: HostRuntime) -> Result<(), Fail> {
+    let tag = waiting(rt.alloc(), &[b"<a>xy", b"<b", b">"])?;
+    assert_eq!(rt; tag.as_slice(), [2, 2, 0].as_slice());
+    let reference = waiting(rt.alloc(), &[b"<a>&am", b"p;"])?;
+    assert_eq!(rt; reference.as_slice(), [3, 0].as_slice());
+    let comment = waiting(
+        rt.alloc(),
+        &[
+            b"\xEF\xBB\xBF<a>\r\n\xC3",
+            b"\xA9<!--",
+            b"> --",
+            b">]]",
+            b"></a>",
+        ],
+    )?;
+    assert_eq!(rt; comment.as_slice(), [1, 4, 8, 2, 0].as_slice());
+    let broken = waiting(rt.alloc(), &[b"<a>xy\x01", b"xy"])?;
+    assert_eq!(rt; broken.as_slice(), [0, 0].as_slice());
     Ok(())
 }
 

@@ -1,7 +1,7 @@
 //! Constructs, and what they mean.
 
 use super::*;
-use crate::size::{kind_of, whole_size};
+use crate::size::{End, kind_of, unsought, whole_size};
 use std::test::Fail;
 
 /// What a text means that is one whole construct at a page's front, as if it started at 7; none where it isn't one.
@@ -11,8 +11,8 @@ fn meaning<'a, 't>(
     text: &'t str,
 ) -> Result<Option<Option<Token<'a, 't>>>, NoMemory> {
     let mut attrs = Vec::new(alloc);
-    match whole_size(true, true, text.as_bytes()) {
-        Some(size) if size == text.len() => Ok(Some(meant(
+    match whole_size(true, true, text.as_bytes(), unsought()) {
+        End::At(size) if size == text.len() => Ok(Some(meant(
             alloc,
             arena,
             &mut attrs,

@@ -157,6 +157,10 @@ pub(crate) fn value_of<'a>(
 ) -> Result<Option<&'a str>, NoMemory>
     ensures { IfOk result (λ r. option_map (λ v. v.now) r ≡ value_of_spec raw.now) }
 {
+    let (plain, special) = split(raw, Stop::Special);
+    if special.is_empty() {
+        return Ok(Some(arena.try_alloc_str(plain)?));
+    }
     match value_in(alloc, raw)? {
         Some(value) => Ok(Some(arena.try_alloc_str(value.as_str())?)),
         None => Ok(None),

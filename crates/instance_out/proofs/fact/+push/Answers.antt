@@ -1,4 +1,3 @@
-use Rattle.std.proofs.Common.{ap, sym}
 use Rattle.ix_base.specs.Facts.{facts_of}
 use Rattle.ix_base.specs.Written.{written}
 use Rattle.instance_out.specs.Canonical.{facts_markup}

@@ -1,4 +1,3 @@
-use Rattle.std.proofs.Common.{◌∙◌, sym, refl}
 use Rattle.instance_out.proofs.LinkLaws.{link-written}
 use Rattle.instance_out.proofs.note.link_line.Goals as goal
 

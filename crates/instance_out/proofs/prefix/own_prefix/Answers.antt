@@ -1,4 +1,4 @@
-use Rattle.std.proofs.Common.{◌∙◌, ap, ◌++◌, ◌<◌, ◌^◌, arith, rules}
+use Rattle.std.proofs.Common.{◌<◌, ◌^◌, arith}
 use Rattle.std.proofs.lemmas.Fmt.{decimal-digits_of}
 use Rattle.instance_out.proofs.prefix.own_prefix.Goals as goal
 

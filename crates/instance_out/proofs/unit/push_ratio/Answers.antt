@@ -1,4 +1,4 @@
-use Rattle.std.proofs.Common.{refl, sym, subst, length, ◌≤◌}
+use Rattle.std.proofs.Common.{refl, length, ◌≤◌}
 use Rattle.instance_out.proofs.MarkupLaws.{ratio-divide}
 use Rattle.instance_out.proofs.unit.push_ratio.Goals as goal
 

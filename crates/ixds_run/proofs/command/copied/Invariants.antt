@@ -1,5 +1,5 @@
-use Rattle.std.proofs.Common.{◌≡◌, map, take}
+use Rattle.std.proofs.Common.{◌≡◌, take}
 use Rattle.ixds_run.proofs.command.copied.Given as goal
 
-abbrev pub invariant-loop-word : goal.invariant-loop-word
-invariant-loop-word l = l.texts.items ≡ map (λ s. s.now) (take l.word-index l.words)
+abbrev pub invariant-loop-text : goal.invariant-loop-text
+invariant-loop-text l = l.copies.items ≡ take l.text-index l.texts

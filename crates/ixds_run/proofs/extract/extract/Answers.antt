@@ -1,10 +1,7 @@
-use Rattle.std.proofs.Common.{◌≡◌, ◌⊎◌, ◌∙◌, List, ℕ, Option, inl, inr, refl, subst, arith}
+use Rattle.std.proofs.Common.{◌≡◌, ◌∙◌, List, ℕ, Option, inl, inr, refl, subst, arith}
 use Rattle.ix_base.specs.Outside.{TextGainsFront}
-use Rattle.ixds_run.specs.Commands.{pages_of}
-use Rattle.ixds_run.specs.Gains.{GainsStarts, GainsText}
-use Rattle.ixds_run.specs.Outcomes.{AreSome, Gives}
-use Rattle.ixds_run.specs.Reading.{IsAmong, IsRead, StopsInTime}
-use Rattle.ixds_run.specs.Told.{told}
+use Rattle.ixds_run.specs.Gains.{GainsText}
+use Rattle.ixds_run.specs.Outcomes.{Gives, bytes_told}
 use Rattle.ixds_run.specs.declared.status.Status.{Status}
 use Rattle.ixds_run.proofs.AnswerLaws.{complete_by, fault_answer, memory_answer, of_some, told_of}
 use Rattle.ixds_run.proofs.extract.extract.Goals as goal
@@ -13,10 +10,7 @@ pub returns-in-Err-NoMemory : goal.returns-in-Err-NoMemory
 returns-in-Err-NoMemory g c =
     let read = c.in-Err-NoMemory.ensures in
     let faults = rw c.in-Err-NoMemory.field-0-is at read.stopped in
-    memory_answer _ _ _ _ _ _ refl refl read.pages faults
-    (subst (λ (names : List (List ℕ)). GainsStarts names (g.P.PageSource.starts c.args.pages.now) (g.P.PageSource.starts c.read_all.new.pages)) c.pages.ensures read.starts)
-    (subst (λ (names : List (List ℕ)). (c.read_all.new.pages ≡ c.args.pages.now) ⊎ ((name : List ℕ) × IsAmong (g.P.PageSource.page c.args.pages.now) names (g.P.PageSource.asked c.read_all.new.pages) name))
-    c.pages.ensures read.asked)
+    memory_answer _ _ _ _ _ _ refl refl read.pages faults read.sample read.starts read.asked
 
 pub returns-in-Err-Failed : goal.returns-in-Err-Failed
 returns-in-Err-Failed g c =
@@ -24,10 +18,8 @@ returns-in-Err-Failed g c =
     let stopped = rw c.in-Err-Failed.field-0-is at read.stopped in
     let put = c.put_read_fault.ensures in
     let line = (rw c.in-Err-Failed.field-0-is at c.as_slice.ensures.value) ∙ stopped.1.2 in
-    fault_answer c.args.command.now _ _ _ _ _ c.put_read_fault.result stopped.1.0 refl read.pages stopped.0 refl
-    (subst (λ (names : List (List ℕ)). IsAmong (g.P.PageSource.page c.args.pages.now) names (g.P.PageSource.asked c.read_all.new.pages) stopped.1.0) c.pages.ensures stopped.1.1)
-    (subst (λ (names : List (List ℕ)). GainsStarts names (g.P.PageSource.starts c.args.pages.now) (g.P.PageSource.starts c.read_all.new.pages)) c.pages.ensures read.starts)
-    put.either
+    fault_answer c.args.command.now _ _ _ _ _ c.put_read_fault.result stopped.1.0 refl read.pages read.sample stopped.0 refl
+    stopped.1.1 read.starts put.either
     (λ e. subst (λ (t : List ℕ). GainsText t (g.T.TextSink.taken c.args.out.now) (g.T.TextSink.taken c.put_read_fault.new.out)) line (put.read e))
     put.quiet put.cause
     (λ e. subst (λ (t : List ℕ). TextGainsFront t (g.T.TextSink.taken c.args.out.now) (g.T.TextSink.taken c.put_read_fault.new.out)) line (put.front e))
@@ -36,23 +28,16 @@ pub returns : goal.returns
 returns g c =
     let command = c.args.command.now in
     let page : List ℕ → Option (List ℕ) = g.P.PageSource.page c.args.pages.now in
-    let all = told page (pages_of command) in
+    let all = bytes_told page command in
     let read = c.in-Ok.ensures in
-    let is_read : AreSome all (λ bs. IsRead bs c.in-Ok.forest) =
-    subst (λ (names : List (List ℕ)). AreSome (told page names) (λ bs. IsRead bs c.in-Ok.forest)) c.pages.ensures read.reads in
-    let starts = subst (λ (names : List (List ℕ)). GainsStarts names (g.P.PageSource.starts c.args.pages.now) (g.P.PageSource.starts c.read_all.new.pages))
-    c.pages.ensures read.starts in
-    let asked = subst (λ (names : List (List ℕ)). (c.read_all.new.pages ≡ c.args.pages.now) ⊎ ((name : List ℕ) × IsAmong page names (g.P.PageSource.asked c.read_all.new.pages) name))
-    c.pages.ensures read.asked in
-    let stops = subst (λ (names : List (List ℕ)). StopsInTime page names (g.P.PageSource.left c.read_all.new.pages) (g.P.PageSource.asked c.read_all.new.pages))
-    c.pages.ensures read.stops in
+    let is_read = read.reads in
     let same = read.ok in
     let done = c.answer.ensures in
     record {
       complete = complete_by c.answer.result
           (λ (s : Status) (bs : List (List ℕ)). Gives s (g.S.TargetSink.targets c.args.sink.now) (g.S.TargetSink.targets c.answer.new.sink) (g.T.TextSink.taken c.args.out.now) (g.T.TextSink.taken c.answer.new.out) command bs)
           (c.answer.new.sink ≡ c.args.sink.now) (c.answer.new.out ≡ c.args.out.now)
-          (g.P.PageSource.faults c.args.pages.now) (g.P.PageSource.faults c.read_all.new.pages)
+          (g.P.PageSource.faults c.args.pages.now) (g.P.PageSource.faults c.gathered.new.pages)
           (g.S.TargetSink.faults c.args.sink.now) (g.S.TargetSink.faults c.answer.new.sink)
           (g.T.TextSink.faults c.args.out.now) (g.T.TextSink.faults c.answer.new.out)
           all done.usage done.other (λ e. of_some all (done.done e) is_read) (λ e. of_some all (done.broken e) is_read) done.cause done.memory;
@@ -61,6 +46,7 @@ returns g c =
       broken_targets = done.untouched;
       broken_pages = told_of all (of_some all done.nothing is_read);
       check = done.check;
+      sample = read.sample;
       usage = λ e. absurd (done.usage e);
       usage_exactly = λ e. cc;
       read_fault = λ e. absurd (done.other e);
@@ -71,10 +57,10 @@ returns g c =
       write_fault_usage = λ e f. cc;
       no_memory = done.memory;
       no_memory_pages = λ e. same;
-      starts = starts;
-      asked_page = asked;
+      starts = read.starts;
+      asked_page = read.asked;
       same_pages = read.pages;
-      stops = λ e. stops;
+      stops = λ e. read.stops;
       quiet_done = λ e. (same, (done.quiet (inl e)).0, (done.quiet (inl e)).1);
       quiet_broken = λ e. (same, (done.quiet (inr e)).0, (done.quiet (inr e)).1);
       quiet_text = λ e. absurd (elim e [ inl x ↦ done.usage x | inr x ↦ done.other x ]);

@@ -5,17 +5,19 @@ use Rattle.ixds_run.proofs.ForestLaws.{asked_on, next_of, next_among, over_is_so
 use Rattle.ixds_run.proofs.forest.read_all.Goals as goal
 
 pub loop-number-init : goal.loop-number-init
-loop-number-init g c = record {
-  faults = refl;
-  page = refl;
-  room = search rules;
-  most = search rules;
-  tags = search rules;
-  read = read_none _ _ _ refl refl (search rules) (search rules);
-  starts = none_started _;
-  same = λ e. refl;
-  stops = inl refl;
-}
+loop-number-init g c =
+    let none = c.no_pages-forest.ensures in
+    record {
+      faults = refl;
+      page = refl;
+      room = search rules;
+      most = omega (arith, none.bytes);
+      tags = omega (arith, none.bytes, none.tags);
+      read = read_none _ _ _ none.bytes none.tags none.found none.roots;
+      starts = none_started _;
+      same = λ e. refl;
+      stops = inl refl;
+    }
 
 pub loop-number-preserved : goal.loop-number-preserved
 loop-number-preserved g c =

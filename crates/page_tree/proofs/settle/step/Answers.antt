@@ -3,46 +3,51 @@ use Rattle.page_tree.specs.Constructs.{whole_size, kind_of}
 use Rattle.page_tree.specs.Ends.{HasEnds}
 use Rattle.page_tree.specs.Acting.{Breaks}
 use Rattle.page_tree.specs.Break.{fault}
-use Rattle.page_tree.specs.Placing.{placed}
 use Rattle.page_tree.specs.Buildings.{state_of}
+use Rattle.page_tree.specs.Seeking.{IsSought}
 use Rattle.page_tree.proofs.CutPoints.{whole-boundary}
 use Rattle.page_tree.proofs.EndLaws.{whole-ends}
 use Rattle.page_tree.proofs.PieceLaws.{whole-takes}
-use Rattle.page_tree.proofs.SettleLaws.{empty-whole, step-breaks, step-takes}
+use Rattle.page_tree.proofs.SettleLaws.{step-breaks, step-takes}
 use Rattle.page_tree.proofs.settle.step.Goals as goal
 
-pub returns-in_default-clause-waits : goal.returns-in_default-clause-waits
-returns-in_default-clause-waits c = λ q. (empty-whole c.args.ended c.args.first c.args.text.now c.args.offsets.now c.requires (sym c.in_default.ensures.value), refl)
+pub returns-in-Beyond-clause-waits : goal.returns-in-Beyond-clause-waits
+returns-in-Beyond-clause-waits c = λ s q.
+    let is : c.in-Beyond.next ≡ s = cc in (
+      ap (whole_size c.args.ended c.args.first) (sym c.as_bytes.ensures.value) ∙ sym c.in-Beyond.ensures.value,
+      refl,
+      subst (IsSought c.args.first c.args.text.now) is (subst (λ x. IsSought c.args.first x c.in-Beyond.next) c.as_bytes.ensures.value (c.in-Beyond.ensures.goes c.in-Beyond.next refl)),
+    )
 
 pub split_at-requires : goal.split_at-requires
 split_at-requires c =
-    let e : whole_size c.args.ended c.args.first c.args.text.now ≡ Some c.in-Some-whole_size.size = ap (whole_size c.args.ended c.args.first) (sym c.as_bytes.ensures.value) ∙ sym c.in-Some-whole_size.ensures.value in
-    whole-boundary c.args.ended c.args.first c.args.text.now c.in-Some-whole_size.size c.utf8.text e
+    let e : whole_size c.args.ended c.args.first c.args.text.now ≡ Some c.in-At.size = ap (whole_size c.args.ended c.args.first) (sym c.as_bytes.ensures.value) ∙ sym c.in-At.ensures.value in
+    whole-boundary c.args.ended c.args.first c.args.text.now c.in-At.size c.utf8.text e
 
 pub take-requires : goal.take-requires
 take-requires c =
-    let e : whole_size c.args.ended c.args.first c.args.text.now ≡ Some c.in-Some-whole_size.size = ap (whole_size c.args.ended c.args.first) (sym c.as_bytes.ensures.value) ∙ sym c.in-Some-whole_size.ensures.value in
+    let e : whole_size c.args.ended c.args.first c.args.text.now ≡ Some c.in-At.size = ap (whole_size c.args.ended c.args.first) (sym c.as_bytes.ensures.value) ∙ sym c.in-At.ensures.value in
     subst (λ k. HasEnds k c.split_at.result.0.now) (ap (kind_of c.args.first) (sym c.as_bytes-2.ensures.value) ∙ sym c.kind_of-kind.ensures)
-    (subst (HasEnds (kind_of c.args.first c.args.text.now)) (sym c.split_at.ensures.front) (whole-ends c.args.ended c.args.first c.args.text.now c.in-Some-whole_size.size e))
+    (subst (HasEnds (kind_of c.args.first c.args.text.now)) (sym c.split_at.ensures.front) (whole-ends c.args.ended c.args.first c.args.text.now c.in-At.size e))
 
-pub returns-in-Some-2-clause-breaks : goal.returns-in-Some-2-clause-breaks
-returns-in-Some-2-clause-breaks c = λ b q.
-    let e : whole_size c.args.ended c.args.first c.args.text.now ≡ Some c.in-Some-whole_size.size = ap (whole_size c.args.ended c.args.first) (sym c.as_bytes.ensures.value) ∙ sym c.in-Some-whole_size.ensures.value in
-    let is : record { offset = c.in-Some.offset.now; rule = c.in-Some-2.rule } ≡ b = cc in
-    subst (λ x. Breaks c.args.ended c.args.building.now.depth (state_of c.args.building.now) c.args.first (placed c.args.text.now c.args.offsets.now) (fault x.offset x.rule)) is
-    (step-breaks c.args.ended c.args.building.now.depth (state_of c.args.building.now) c.args.first c.args.text.now c.args.offsets.now c.in-Some.offset.now c.in-Some-whole_size.size
-    c.kind_of-kind.result c.split_at.result.0.now c.requires (sym c.in-Some.ensures.value) e (c.kind_of-kind.ensures ∙ ap (kind_of c.args.first) c.as_bytes-2.ensures.value) c.split_at.ensures.front c.in-Some-2.rule
-    (sym c.in-Some-2.is ∙ c.in_ok-rule.ensures.rule))
+pub returns-in-Some-clause-breaks : goal.returns-in-Some-clause-breaks
+returns-in-Some-clause-breaks c = λ b q us says at.
+    let e : whole_size c.args.ended c.args.first c.args.text.now ≡ Some c.in-At.size = ap (whole_size c.args.ended c.args.first) (sym c.as_bytes.ensures.value) ∙ sym c.in-At.ensures.value in
+    let is : record { offset = c.args.offset; rule = c.in-Some.rule } ≡ b = cc in
+    subst (λ x. Breaks c.args.ended c.args.building.now.depth (state_of c.args.building.now) c.args.first us (fault x.offset x.rule)) is
+    (step-breaks c.args.ended c.args.building.now.depth (state_of c.args.building.now) c.args.first c.args.text.now us c.args.offset c.in-At.size
+    c.kind_of-kind.result c.split_at.result.0.now says at e (c.kind_of-kind.ensures ∙ ap (kind_of c.args.first) c.as_bytes-2.ensures.value) c.split_at.ensures.front c.in-Some.rule
+    (sym c.in-Some.is ∙ c.in_ok-rule.ensures.rule))
 
 pub returns-in-None-clause-takes : goal.returns-in-None-clause-takes
 returns-in-None-clause-takes c = λ k q.
-    let same : c.in-Some-whole_size.size ≡ k = cc in
-    let e : whole_size c.args.ended c.args.first c.args.text.now ≡ Some k = ap (whole_size c.args.ended c.args.first) (sym c.as_bytes.ensures.value) ∙ sym c.in-Some-whole_size.ensures.value ∙ ap Some same in
+    let same : c.in-At.size ≡ k = cc in
+    let e : whole_size c.args.ended c.args.first c.args.text.now ≡ Some k = ap (whole_size c.args.ended c.args.first) (sym c.as_bytes.ensures.value) ∙ sym c.in-At.ensures.value ∙ ap Some same in
     let t = whole-takes c.args.ended c.args.first c.args.text.now k e in (
       t.0,
-      t.1,
       whole-boundary c.args.ended c.args.first c.args.text.now k c.utf8.text e,
-      step-takes c.args.ended c.args.building.now.depth (state_of c.args.building.now) c.args.first c.args.text.now c.args.offsets.now c.in-Some.offset.now k
-          c.kind_of-kind.result c.split_at.result.0.now c.requires (sym c.in-Some.ensures.value) e (c.kind_of-kind.ensures ∙ ap (kind_of c.args.first) c.as_bytes-2.ensures.value) (c.split_at.ensures.front ∙ ap (λ n. take n c.args.text.now) same) (state_of c.take.new.building)
+      e,
+      λ us says at. step-takes c.args.ended c.args.building.now.depth (state_of c.args.building.now) c.args.first c.args.text.now us c.args.offset k
+          c.kind_of-kind.result c.split_at.result.0.now says at e (c.kind_of-kind.ensures ∙ ap (kind_of c.args.first) c.as_bytes-2.ensures.value) (c.split_at.ensures.front ∙ ap (λ n. take n c.args.text.now) same) (state_of c.take.new.building)
           (sym c.in-None.is ∙ c.in_ok-rule.ensures.rule) (c.in_ok-rule.ensures.state (ap Ok c.in-None.is)),
     )

@@ -1,7 +1,10 @@
-use Rattle.std.proofs.Common.{◌≡◌, drop, None}
+use Rattle.std.proofs.Common.{length, ◌-◌}
 use Rattle.page_tree.specs.Constructs.{after_tag}
-use Rattle.page_tree.proofs.SizeLaws.{more}
+use Rattle.page_tree.specs.Seeking.{GoesOn}
 use Rattle.page_tree.proofs.size.after_tag.Given as goal
 
-abbrev pub invariant-loop-at : goal.invariant-loop-at
-invariant-loop-at l = more l.at (after_tag l.quote (drop l.at l.text)) ≡ after_tag None l.text
+abbrev pub invariant-bytes : goal.invariant-bytes
+invariant-bytes l = GoesOn (after_tag l.fn.from.quote) l.fn.from.at (after_tag l.quote) l.at l.text
+
+abbrev pub decreases-bytes : goal.decreases-bytes
+decreases-bytes l = length l.text - l.at

@@ -1,7 +1,10 @@
-use Rattle.std.proofs.Common.{◌≡◌, drop}
+use Rattle.std.proofs.Common.{length, ◌-◌}
 use Rattle.page_tree.specs.Constructs.{reference_size}
-use Rattle.page_tree.proofs.SizeLaws.{more}
+use Rattle.page_tree.specs.Seeking.{GoesOn}
 use Rattle.page_tree.proofs.size.reference_size.Given as goal
 
-abbrev pub invariant-loop-at : goal.invariant-loop-at
-invariant-loop-at l = more l.at (reference_size (drop l.at l.text)) ≡ reference_size l.text
+abbrev pub invariant-bytes : goal.invariant-bytes
+invariant-bytes l = GoesOn reference_size l.from reference_size l.at l.text
+
+abbrev pub decreases-bytes : goal.decreases-bytes
+decreases-bytes l = length l.text - l.at

@@ -1,7 +1,10 @@
-use Rattle.std.proofs.Common.{◌≡◌, drop}
+use Rattle.std.proofs.Common.{length, ◌-◌}
 use Rattle.page_tree.specs.Constructs.{text_size}
-use Rattle.page_tree.proofs.SizeLaws.{more}
+use Rattle.page_tree.specs.Seeking.{GoesOn}
 use Rattle.page_tree.proofs.size.text_size.Given as goal
 
-abbrev pub invariant-loop-at : goal.invariant-loop-at
-invariant-loop-at l = more l.at (text_size (drop l.at l.text)) ≡ text_size l.text
+abbrev pub invariant-bytes : goal.invariant-bytes
+invariant-bytes l = GoesOn text_size l.from text_size l.at l.text
+
+abbrev pub decreases-bytes : goal.decreases-bytes
+decreases-bytes l = length l.text - l.at

@@ -1,16 +1,32 @@
-use Rattle.std.proofs.Common.{refl, sym, subst}
+use Rattle.std.proofs.Common.{◌≡◌, [], false, true, None, refl, sym, subst}
+use Rattle.page_text.specs.Characters.{begun}
+use Rattle.page_tree.specs.Acting.{Leads}
 use Rattle.page_tree.specs.Buildings.{state_of, IsOnPage}
-use Rattle.page_tree.specs.Waiting.{bytes_of}
+use Rattle.page_tree.specs.Constructs.{spread, whole_size}
+use Rattle.page_tree.specs.Machine.{begin}
+use Rattle.page_tree.proofs.SettleLaws.{none-whole}
 use Rattle.page_tree.proofs.StandingLaws.{leads-new}
 use Rattle.page_tree.proofs.builder.TreeBuilder.new.Goals as goal
 
 pub returns-clause-stands : goal.returns-clause-stands
-returns-clause-stands c = record {
-  counted = refl;
-  built = record {
-    reads = λ n. c.new-2.ensures.stands;
-    leads = λ n. leads-new c.new.result.depth (state_of c.new.result) (bytes_of c.new-3.result) c.new.ensures.state c.new-3.ensures;
-    breaks = λ f q. absurd (cc);
-    on_page = subst (λ p. IsOnPage p c.new.result) (sym c.new.ensures.page) c.new.ensures.on_page;
-  };
-}
+returns-clause-stands c =
+    let p = c.new-3.result in
+    record {
+      counted = refl;
+      built = record {
+        read = record {
+          reads = λ n. c.new-2.ensures.stands;
+          led = record {
+            leads = λ n. record {
+              left = [];
+              waits = c.new-3.ensures.bytes;
+              leads = subst (λ x. Leads false c.new.result.depth begin true (spread (begun [])) (state_of c.new.result) x []) (sym c.new-3.ensures.first)
+                  (leads-new c.new.result.depth (state_of c.new.result) [] c.new.ensures.state refl);
+            };
+            breaks = λ f q. absurd (cc);
+            on_page = subst (λ n. IsOnPage n c.new.result) (sym c.new.ensures.page) c.new.ensures.on_page;
+          };
+        };
+        waits = λ n. subst (λ x. whole_size false p.is_first x ≡ None) (sym c.new-3.ensures.text) (none-whole false p.is_first);
+      };
+    }

@@ -1,29 +1,50 @@
-use Rattle.std.proofs.Common.{ap, ◌∙◌, ◌++◌}
-use Rattle.page_text.specs.Characters.{begun}
-use Rattle.page_tree.specs.Buildings.{state_of}
-use Rattle.page_tree.specs.Waiting.{bytes_of}
-use Rattle.page_tree.specs.Constructs.{spread}
-use Rattle.page_tree.proofs.StandingLaws.{on-ok, leads-read}
+use Rattle.std.proofs.Common.{◌≡◌, ◌≤◌, ◌+◌, ◌++◌, is_some, sym, ap, ◌∙◌, subst, arith, take, drop, length, length-drop}
+use Rattle.std.proofs.Math.Seq.{take-length}
+use Rattle.page_text.specs.Reading.{Stands}
+use Rattle.page_tree.specs.Standing.{HasRead, HasLedTo}
+use Rattle.page_tree.proofs.FeedLaws.{taken-slice, slice-rest, taken-all, on-both}
+use Rattle.page_tree.proofs.LedLaws.{led-behind}
+use Rattle.page_tree.proofs.WaitingLaws.{is-none}
 use Rattle.page_tree.proofs.builder.TreeBuilder.take_piece.Goals as goal
 
-pub returns-then-len-self-clause-built : goal.returns-then-len-self-clause-built
-returns-then-len-self-clause-built c = λ b h.
-    let t = c.args.self.now in
+pub returns-then-is_some-clause-built : goal.returns-then-is_some-clause-built
+returns-then-is_some-clause-built c = λ b h.
+    let piece = c.args.piece.now in
+    let at = c.parts.at in
+    let n = c.in_ok-at.field-0 in
+    let t = c.take_part.new.self in
+    let some = sym c.is_some.ensures ∙ c.if-is_some.true in
+    let read = subst (HasRead t) (taken-slice b piece at n c.parts.invariant.within) (c.in_ok-at.ensures.read (b ++ take at piece) (c.parts.invariant.read b h.read)) in
     record {
-      reads = λ n. c.in_ok-marks.ensures.stands b (h.reads n);
-      leads = λ n. leads-read t.building.depth (state_of t.building) t.is_first (begun b) (begun (b ++ c.args.piece.now)) c.in_ok-marks.marks.items (bytes_of t.pending) (bytes_of c.append.new.self)
-          (c.in_ok-marks.ensures.marks b (h.reads n)) (c.in_ok-append.ensures ∙ ap (λ x. bytes_of t.pending ++ spread x) c.as_slice.ensures.value) (h.leads n);
-      breaks = λ f q. absurd (let w = c.requires.whole in cc);
-      on_page = h.on_page;
+      read = record {
+        reads = λ z. absurd (let q = ap is_some z in cc);
+        led = subst (HasLedTo t.building t.pending t.broken) (taken-all b piece (at + n)) (led-behind t.building t.pending t.broken (b ++ take (at + n) piece) (drop (at + n) piece) some read.led);
+      };
+      waits = λ z. absurd (let q = ap is_some z in cc);
+    }
+
+pub parts-preserved : goal.parts-preserved
+parts-preserved c =
+    let piece = c.args.piece.now in
+    let at = c.parts.at in
+    let n = c.in_ok-at.field-0 in
+    let i = c.parts.invariant in
+    let e = c.in_ok-at.ensures in
+    record {
+      within = (let m : n ≤ length (drop at piece) = subst (λ x. n ≤ length x) (slice-rest piece at) e.bounds.1 in let w = i.within in let l = length-drop at piece in omega arith);
+      whole = is-none c.take_part.new.self.broken (sym c.is_some.ensures ∙ c.if-is_some.false);
+      counts = (let x = e.counts in let y = i.counts in omega arith);
+      same = record { limit = e.same.limit ∙ i.same.limit; page = e.same.page ∙ i.same.page; fed = e.same.fed ∙ i.same.fed; spent = e.same.spent ∙ i.same.spent };
+      read = λ b h. subst (HasRead c.take_part.new.self) (taken-slice b piece at n i.within) (e.read (b ++ take at piece) (i.read b h));
     }
 
 pub returns-clause-built : goal.returns-clause-built
-returns-clause-built c = on-ok c.work_off.result (λ f b h.
-    let t = c.args.self.now in
-    f (b ++ c.args.piece.now) (record {
-      reads = λ n. c.in_ok-marks.ensures.stands b (h.reads n);
-      leads = λ n. leads-read t.building.depth (state_of t.building) t.is_first (begun b) (begun (b ++ c.args.piece.now)) c.in_ok-marks.marks.items (bytes_of t.pending) (bytes_of c.append.new.self)
-          (c.in_ok-marks.ensures.marks b (h.reads n)) (c.in_ok-append.ensures ∙ ap (λ x. bytes_of t.pending ++ spread x) c.as_slice.ensures.value) (h.leads n);
-      breaks = λ g q. absurd (let w = c.requires.whole in cc);
-      on_page = h.on_page;
-    })) c.work_off.ensures.built
+returns-clause-built c = on-both c.work_off.result (λ led waits b h.
+    let piece = c.args.piece.now in
+    let i = c.parts.invariant in
+    let all : c.parts.at ≡ length piece = (let f = c.parts-test.false in let w = i.within in omega arith) in
+    let r = subst (HasRead c.parts.self) (ap (λ n. b ++ take n piece) all ∙ ap (λ x. b ++ x) (take-length piece)) (i.read b h.read) in
+    record {
+      read = record { reads = λ n. subst (λ x. Stands x (b ++ piece)) (sym c.work_off.ensures.feed) (r.reads i.whole); led = led (b ++ piece) r.led };
+      waits = waits;
+    }) c.work_off.ensures.led c.work_off.ensures.waits

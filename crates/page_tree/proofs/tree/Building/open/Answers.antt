@@ -1,8 +1,12 @@
-use Rattle.std.proofs.Common.{◌≡◌, ◌++◌, ◌∷◌, [], rules}
+use Rattle.std.proofs.Common.{◌≡◌, ◌++◌, ◌∷◌, ◌∙◌, [], rules, sym, subst, option_map, string_bytes}
+use Rattle.std.specs.Borrow.{Bor}
+use Rattle.ix_base.specs.Trees.{tree_of}
+use Rattle.ix_base.specs.declared.tree.Element.{Element}
 use Rattle.page_tree.specs.Buildings.{state_of}
-use Rattle.page_tree.specs.Machine.{scope_in}
+use Rattle.page_tree.specs.Stacks.{frames_of, pages_built, AreAll}
 use Rattle.page_tree.specs.Views.{tag_of}
 use Rattle.page_tree.proofs.PageNumbers.{open-built}
+use Rattle.page_tree.proofs.Spelled.{st}
 use Rattle.page_tree.proofs.StateLaws.{opening-is}
 use Rattle.page_tree.proofs.tree.Building.open.Goals as goal
 
@@ -10,15 +14,19 @@ pub returns-clause-state : goal.returns-clause-state
 returns-clause-state c =
     let s = state_of c.args.self.now in
     let o = c.in_ok-element.element in
-    let mid = c.flush_innermost.new.elements.items in
+    let mid = c.begin.new.self.elements.items in
     let pushed : c.push.new.self.items ≡ mid ++ o ∷ [] = search rules in
-    opening-is s (tag_of c.args.tag.now) mid c.push.new.self.items o _ pushed c.in_ok-flush_innermost.ensures.frames
-    (c.in_ok-element.ensures.frame (scope_in s.frames) c.requires.scope) c.clear.ensures.bytes
+    let rest = c.in_ok-element.ensures.rest in
+    (λ i. st (frames_of c.push.new.self.items) (string_bytes c.begin.new.self.text) (option_map (λ (e : Bor Element). tree_of e.now) (rest.0 i)) (rest.1 i))
+    ∙ opening-is s (tag_of c.args.tag.now) mid c.push.new.self.items o _ pushed c.in_ok-element.ensures.frames c.in_ok-element.ensures.frame c.in_ok-element.ensures.text
 
 pub returns-clause-on_page : goal.returns-clause-on_page
 returns-clause-on_page c all =
     let b = c.args.self.now in
     let o = c.in_ok-element.element in
-    let mid = c.flush_innermost.new.elements.items in
-    let pushed : c.push.new.self.items ≡ mid ++ o ∷ [] = search rules in
-    open-built b.page b.elements.items mid c.push.new.self.items o b.root c.in_ok-flush_innermost.ensures.pages pushed c.in_ok-element.ensures.pages all
+    let mid = c.begin.new.self.elements.items in
+    let more = c.push.new.self.items in
+    let pushed : more ≡ mid ++ o ∷ [] = search rules in
+    subst (λ p. AreAll p (pages_built more c.begin.new.self.root)) (sym c.in_ok-element.ensures.same.1)
+    (subst (λ r. AreAll b.page (pages_built more r)) (sym c.in_ok-element.ensures.rest.0)
+    (open-built b.page b.elements.items mid more o b.root c.in_ok-element.ensures.on_page pushed c.in_ok-element.ensures.pages all))

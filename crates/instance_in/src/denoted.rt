@@ -1,0 +1,115 @@
+//! What the tree of an instance denotes.
+//!
+//! One function stands for each definition, and says that it equals it. The root's children are gone over once for each kind
+//! of part, so the work grows with the tree; ids at labels are hashed.
+ghost use Rattle.std.specs.Prelude.{◌≡◌, option_map, IfOk};
+ghost use Rattle.ix_base.specs.Said.{said_of};
+ghost use Rattle.ix_base.specs.Trees.{named, nodes_of, tree_of};
+ghost use Rattle.instance_out.specs.Denotation as spec;
+
+use children::read_named;
+use facts::facts_among;
+use holding::is_of;
+use ix_base::namespaces::{LINK, XBRLI};
+use ix_base::{Content, Element, Name, NoMemory, Node};
+use notes::LinkReader;
+use parts::{ContextReader, UnitReader};
+use references::{LinkbaseReader, RoleReader, SchemaReader};
+use std::alloc::Global;
+
+mod children;
+mod ends;
+mod facts;
+mod items;
+mod links;
+mod notes;
+mod parts;
+mod references;
+
+/// Whether an element of this name may stand in an instance's root.
+#[tactic(auto, unfolding(ix_base::specs::Namespaces::xbrli_namespace, ix_base::specs::Namespaces::link_namespace))]
+fn may_stand(name: &Name<'_>) -> bool
+    ensures { result ≡ spec.may_stand (named name.now) }
+{
+    if name.ns == LINK {
+        matches!(
+            name.local,
+            "schemaRef" | "linkbaseRef" | "roleRef" | "arcroleRef" | "footnoteLink"
+        )
+    } else if name.ns == XBRLI {
+        matches!(name.local, "context" | "unit")
+    } else {
+        true
+    }
+}
+
+/// Whether each element among some nodes may stand in an instance's root.
+fn are_parts(nodes: &[Node<'_>]) -> bool
+    ensures { result ≡ spec.are_parts (nodes_of nodes.now) }
+{
+    for node in nodes {
+        if let Node::Elem(e) = node {
+            if !may_stand(&e.name) {
+                return false;
+            }
+        }
+    }
+    true
+}
+
+/// What the children of a root denote, each kind in document order.
+#[tactic(auto, unfolding(instance_out::specs::Denotation::parts_in, ix_base::specs::Namespaces::xbrli_namespace, ix_base::specs::Namespaces::link_namespace))]
+fn parts_in(alloc: Global, nodes: &[Node<'_>]) -> Result<Option<Content>, NoMemory>
+    ensures { IfOk result (λ o. option_map said_of o ≡ spec.parts_in (nodes_of nodes.now)) }
+{
+    let Some(schemas) = read_named(alloc, &SchemaReader, nodes, LINK, "schemaRef")? else {
+        return Ok(None);
+    };
+    let Some(linkbases) = read_named(alloc, &LinkbaseReader, nodes, LINK, "linkbaseRef")? else {
+        return Ok(None);
+    };
+    let role = RoleReader { name: "roleURI" };
+    let Some(roles) = read_named(alloc, &role, nodes, LINK, "roleRef")? else {
+        return Ok(None);
+    };
+    let arcrole = RoleReader { name: "arcroleURI" };
+    let Some(arcroles) = read_named(alloc, &arcrole, nodes, LINK, "arcroleRef")? else {
+        return Ok(None);
+    };
+    let Some(contexts) = read_named(alloc, &ContextReader, nodes, XBRLI, "context")? else {
+        return Ok(None);
+    };
+    let Some(units) = read_named(alloc, &UnitReader, nodes, XBRLI, "unit")? else {
+        return Ok(None);
+    };
+    let Some(facts) = facts_among(alloc, nodes)? else {
+        return Ok(None);
+    };
+    let Some(notes) = read_named(alloc, &LinkReader, nodes, LINK, "footnoteLink")? else {
+        return Ok(None);
+    };
+    if !are_parts(nodes) {
+        return Ok(None);
+    }
+    Ok(Some(Content {
+        notes,
+        facts,
+        units,
+        contexts,
+        arcroles,
+        roles,
+        linkbases,
+        schemas,
+    }))
+}
+
+/// The content that the tree of a root denotes, if it denotes one.
+#[tactic(auto, unfolding(instance_out::specs::Denotation::content_in, ix_base::specs::Namespaces::xbrli_namespace))]
+pub(crate) fn denoted(alloc: Global, root: &Element<'_>) -> Result<Option<Content>, NoMemory>
+    ensures { IfOk result (λ o. option_map said_of o ≡ spec.content_in (tree_of root.now)) }
+{
+    if !is_of(&root.name, XBRLI, "xbrl") {
+        return Ok(None);
+    }
+    parts_in(alloc, root.children)
+}

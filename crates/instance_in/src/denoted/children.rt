@@ -1,0 +1,49 @@
+//! Reading the elements of a name among some nodes.
+ghost use Rattle.std.specs.Prelude.{◌≡◌, Option, IfOk};
+ghost use Rattle.ix_base.specs.Holding.{named_in};
+ghost use Rattle.ix_base.specs.Steps.{each};
+ghost use Rattle.ix_base.specs.Trees.{Tree, tree_of, nodes_of};
+
+use holding::is_of;
+use ix_base::{Element, List, NoMemory, Node};
+use std::alloc::Global;
+
+/// A reader of the elements of one kind.
+pub(super) trait Reader {
+    /// What an element is read as.
+    type Part: Drop;
+
+    /// What an element denotes, if anything.
+    ghost reads: { Self → Tree → Option Self.Part };
+
+    /// What an element denotes.
+    fn read(&self, alloc: Global, e: &Element<'_>) -> Result<Option<Self::Part>, NoMemory>
+        ensures { IfOk result (λ o. o ≡ reads self.now (tree_of e.now)) };
+}
+
+/// What the elements of a name among some nodes denote, if each denotes something.
+#[tactic(auto, using(crate::proofs::EachLaws::each_put, crate::proofs::EachLaws::each_none))]
+pub(super) fn read_named<R: Reader>(
+    alloc: Global,
+    reader: &R,
+    nodes: &[Node<'_>],
+    ns: &str,
+    local: &str,
+) -> Result<Option<List<R::Part>>, NoMemory>
+    ensures { IfOk result (λ o. o ≡ each (R.reads reader.now) (named_in ns.now local.now (nodes_of nodes.now))) }
+{
+    let mut parts = List::new(alloc);
+    for node in nodes {
+        let Node::Elem(e) = node else {
+            continue;
+        };
+        if !is_of(&e.name, ns, local) {
+            continue;
+        }
+        let Some(part) = reader.read(alloc, e)? else {
+            return Ok(None);
+        };
+        parts.push(part)?;
+    }
+    Ok(Some(parts))
+}

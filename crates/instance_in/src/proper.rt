@@ -1,0 +1,113 @@
+//! Whether a content is proper: one that its canonical text gives back.
+//!
+//! What a content holds is gathered once. Texts that are looked for among others, or that may stand once only, are sorted, so
+//! that the cost of n texts is n log n comparisons; all other tests go once over what they test. Each list that is gathered
+//! holds references alone. The order of references, facts and arcs is told by what is written of them.
+ghost use Rattle.std.specs.Prelude.{◌≡◌, IfOk};
+ghost use Rattle.ix_base.specs.Said.{said_of};
+ghost use Rattle.instance_in.specs.Fits.{first_fit, last_fit, second_fit, third_fit};
+ghost use Rattle.instance_in.specs.Held.{IsHeld};
+ghost use Rattle.instance_out.specs.Proper as spec;
+
+mod among;
+mod decimals;
+mod forms;
+mod gathered;
+mod held;
+mod ids;
+mod lines;
+mod links;
+mod names;
+mod numbers;
+mod order;
+mod parts;
+mod roles;
+mod texts;
+mod tokens;
+mod tuples;
+
+use crate::proper::forms::forms_fit;
+use crate::proper::held::{Held, held_in};
+use crate::proper::ids::ids_fit;
+use crate::proper::lines::lists_fit;
+use crate::proper::links::{links_fit, orders_fit};
+use crate::proper::names::names_fit;
+use crate::proper::numbers::{fractions_fit, numbers_fit, unitless_fit};
+use crate::proper::parts::parts_fit;
+use crate::proper::roles::roles_fit;
+use crate::proper::texts::texts_fit;
+use crate::proper::tokens::tokens_fit;
+use crate::proper::tuples::tuples_fit;
+use ix_base::{Content, NoMemory};
+use std::alloc::Global;
+
+/// Whether ids, names and characters are those of a proper content.
+fn has_proper_texts(alloc: Global, content: &Content, held: &Held) -> Result<bool, NoMemory>
+    requires { IsHeld (said_of content.now) held.now }
+    ensures { IfOk result (λ b. b ≡ first_fit (said_of content.now)) }
+{
+    if !ids_fit(alloc, content, held)? {
+        return Ok(false);
+    }
+    Ok(names_fit(content, held) && texts_fit(content, held))
+}
+
+/// Whether lists are in order, and parts and roles are used.
+fn has_proper_lists(alloc: Global, content: &Content, held: &Held) -> Result<bool, NoMemory>
+    requires { IsHeld (said_of content.now) held.now }
+    ensures { IfOk result (λ b. b ≡ second_fit (said_of content.now)) }
+{
+    if !lists_fit(alloc, content)? {
+        return Ok(false);
+    }
+    if !parts_fit(alloc, content, held)? {
+        return Ok(false);
+    }
+    let answer = roles_fit(alloc, content, held)?;
+    Ok(answer)
+}
+
+/// Whether contexts, units and values are of their forms.
+fn has_proper_forms(content: &Content, held: &Held) -> bool
+    requires { IsHeld (said_of content.now) held.now }
+    ensures { result ≡ third_fit (said_of content.now) }
+{
+    forms_fit(content)
+        && numbers_fit(content, held)
+        && unitless_fit(content, held)
+        && fractions_fit(content, held)
+}
+
+/// Whether footnote links, orders and tokens are those of a proper content.
+fn has_proper_links(alloc: Global, content: &Content, held: &Held) -> Result<bool, NoMemory>
+    requires { IsHeld (said_of content.now) held.now }
+    ensures { IfOk result (λ b. b ≡ last_fit (said_of content.now)) }
+{
+    if !links_fit(alloc, content, held)? {
+        return Ok(false);
+    }
+    Ok(orders_fit(content, held) && tokens_fit(content, held))
+}
+
+/// Whether a content passes all tests of proper contents. What stands in the bodies of its footnotes isn't looked at. How deep
+/// tuples stand is told first, since the other tests go as deep.
+#[tactic(auto, using(crate::proofs::ProperTold::proper_told, crate::proofs::ProperTold::tuples_missed))]
+pub(crate) fn is_proper(alloc: Global, content: &Content) -> Result<bool, NoMemory>
+    ensures { IfOk result (λ b. b ≡ spec.is_proper (said_of content.now)) }
+{
+    if !tuples_fit(content) {
+        return Ok(false);
+    }
+    let held = held_in(alloc, content)?;
+    if !has_proper_texts(alloc, content, &held)? {
+        return Ok(false);
+    }
+    if !has_proper_lists(alloc, content, &held)? {
+        return Ok(false);
+    }
+    if !has_proper_forms(content, &held) {
+        return Ok(false);
+    }
+    let answer = has_proper_links(alloc, content, &held)?;
+    Ok(answer)
+}

@@ -1,0 +1,140 @@
+-- Pages that are handed over in another order say the same.
+use Rattle.std.proofs.Common.{◌≡◌, ◌≢◌, ◌∙◌, ◌++◌, ◌+◌, ap, inl, inr, refl, subst, sym, ⊎_elim, ℕ, suc, Bool, true, false, List, [], ◌∷◌, All, length, map, Option, Some, None, arith}
+use Rattle.std.specs.Prelude.{nat_lt, if◌then◌else◌}
+use Rattle.std.specs.List.Sorted.{IsPermutation}
+use Rattle.std.proofs.lemmas.List.Sorted.{IsPermutation-append, IsPermutation-append_comm, IsPermutation-cons, IsPermutation-refl}
+use Rattle.std.proofs.lemmas.List.Elements.{All-cons, All-nil}
+use Rattle.ix_base.specs.declared.breach.Class.TheVariants as class
+use Rattle.ix_base.specs.declared.breach.Found.{Found}
+use Rattle.ix_base.specs.declared.rule.Rule.{Rule}
+use Rattle.ix_base.specs.declared.rule.Rule.TheVariants as rule
+use Rattle.ix_base.specs.Breaches.{class_of, report_of, shown}
+use Rattle.ix_base.specs.Located.{Paged}
+use Rattle.ix_base.specs.Sound.{IsSoundTree}
+use Rattle.ix_base.specs.Trees.{Tree}
+use Rattle.ix_base.proofs.ExchangeLemmas.{by_exchanges}
+use Rattle.page_tree.specs.Break.{Fault, w}
+use Rattle.page_tree.specs.Page.{page}
+use Rattle.targets.specs.declared.outcome.Outcome.{Outcome}
+use Rattle.targets.specs.declared.outcome.Outcome.TheVariants.{Broken, Whole}
+use Rattle.targets.specs.Outcomes.{IsReport}
+use Rattle.ixds_run.specs.Made.{Made, paged}
+use Rattle.ixds_run.specs.Outcomes.{AreTrees, Says}
+use Rattle.ixds_run.specs.Rearrangement.{Handed, names_of, bytes_of}
+use Rattle.ixds_run.specs.Sizes.{size_rule, tags_in}
+use Rattle.ixds_run.specs.Told.{all_tags_in, bytes_in, fault_row, on_page, set_rule, text_fault, text_faults}
+use Rattle.targets.proofs.Exchanged.{exchanged, numbered, said_at, swap_at}
+use Rattle.targets.proofs.FaultsMoved.{found_moved}
+use Rattle.targets.proofs.Rearranged.{rearranged}
+use Rattle.targets.proofs.ReportsMoved.{none-left, report-moved}
+
+-- Sizes.
+
+bytes-exchanged : (front back : List Handed) (a b : Handed) → bytes_in (bytes_of (front ++ a ∷ b ∷ back)) ≡ bytes_in (bytes_of (front ++ b ∷ a ∷ back))
+bytes-exchanged [] back a b = omega arith
+bytes-exchanged (p ∷ front) back a b = ap (λ n. length p.bytes + n) (bytes-exchanged front back a b)
+
+tags-exchanged : (front back : List Handed) (a b : Handed) → all_tags_in (bytes_of (front ++ a ∷ b ∷ back)) ≡ all_tags_in (bytes_of (front ++ b ∷ a ∷ back))
+tags-exchanged [] back a b = omega arith
+tags-exchanged (p ∷ front) back a b = ap (λ n. tags_in p.bytes + n) (tags-exchanged front back a b)
+
+rule-exchanged : (front back : List Handed) (a b : Handed) → set_rule (bytes_of (front ++ a ∷ b ∷ back)) ≡ set_rule (bytes_of (front ++ b ∷ a ∷ back))
+rule-exchanged front back a b = λ i. size_rule (bytes-exchanged front back a b i) (tags-exchanged front back a b i)
+
+-- a size rule is the set's, whatever the names of its pages
+size-class : (x y : Bool) (r : Rule) → (if x then Some rule.S1 else (if y then Some rule.S2 else None)) ≡ Some r → class_of r ≡ class.S
+size-class true y r e = let same : rule.S1 ≡ r = cc in subst (λ k. class_of k ≡ class.S) same refl
+size-class false true r e = let same : rule.S2 ≡ r = cc in subst (λ k. class_of k ≡ class.S) same refl
+size-class false false r e = absurd (cc)
+
+set-class : (bs : List (List ℕ)) (r : Rule) → set_rule bs ≡ Some r → class_of r ≡ class.S
+set-class bs r e = size-class (nat_lt 268435456 (bytes_in bs)) (nat_lt 8388608 (all_tags_in bs)) r e
+
+set-report : (ns ms : List (List ℕ)) (r : Rule) → class_of r ≡ class.S → (o : Outcome) → IsReport ns (on_page 0 0 r ∷ []) o → IsReport ms (on_page 0 0 r ∷ []) o
+set-report ns ms r s (Broken report) h =
+    h ∙ ap report_of (ap (λ c. shown c ns (on_page 0 0 r) ∷ []) s ∙ sym (ap (λ c. shown c ms (on_page 0 0 r) ∷ []) s))
+set-report ns ms r s (Whole targets) h = absurd h
+
+-- Breaks.
+
+row-moved : (r : ℕ → ℕ) (n : ℕ) (o : Option Fault) → map (found_moved r) (fault_row n o) ≡ fault_row (r n) o
+row-moved r n None = refl
+row-moved r n (Some f) = refl
+
+fault_at : ℕ → Handed → List Found
+fault_at n p = text_fault n p.bytes
+
+fault-moved : (r : ℕ → ℕ) (n : ℕ) (p : Handed) → map (found_moved r) (fault_at n p) ≡ fault_at (r n) p
+unfolding fault_at
+fault-moved r n p = row-moved r n (w p.bytes 256)
+
+faults-numbered : (n : ℕ) (ps : List Handed) → text_faults n (bytes_of ps) ≡ numbered fault_at n ps
+unfolding fault_at
+faults-numbered n [] = refl
+faults-numbered n (p ∷ ps) = ap (λ l. text_fault n p.bytes ++ l) (faults-numbered (suc n) ps)
+
+faults-exchanged : (front back : List Handed) (a b : Handed)
+    → IsPermutation (map (found_moved (swap_at (length front))) (text_faults 0 (bytes_of (front ++ a ∷ b ∷ back)))) (text_faults 0 (bytes_of (front ++ b ∷ a ∷ back)))
+faults-exchanged front back a b =
+    let mv = found_moved (swap_at (length front)) in
+    let now = text_faults 0 (bytes_of (front ++ b ∷ a ∷ back)) in
+    subst (λ l. IsPermutation (map mv l) now) (sym (faults-numbered 0 (front ++ a ∷ b ∷ back)))
+    (subst (IsPermutation (map mv (numbered fault_at 0 (front ++ a ∷ b ∷ back)))) (sym (faults-numbered 0 (front ++ b ∷ a ∷ back)))
+    (exchanged fault_at found_moved fault-moved front back a b))
+
+-- Trees.
+
+-- trees of these pages, which are those pages in another order
+abbrev Trees : List Paged → List Handed → Type 0
+Trees pages ps = (trees : List Tree) × AreTrees (bytes_of ps) trees × IsPermutation pages (paged (names_of ps) trees)
+
+trees-exchanged : (front back : List Handed) (a b : Handed) (ts : List Tree) → AreTrees (bytes_of (front ++ a ∷ b ∷ back)) ts
+    → Trees (paged (names_of (front ++ a ∷ b ∷ back)) ts) (front ++ b ∷ a ∷ back)
+trees-exchanged [] back a b [] h = absurd h
+trees-exchanged [] back a b (t ∷ []) h = absurd h.1
+trees-exchanged [] back a b (t ∷ u ∷ ts) h =
+    let one : Paged = record { name = a.name; tree = t } in
+    let two : Paged = record { name = b.name; tree = u } in
+    let rest = paged (names_of back) ts in
+    (u ∷ t ∷ ts, (h.1.0, (h.0, h.1.1)), IsPermutation-append (one ∷ two ∷ []) (two ∷ one ∷ []) rest rest (IsPermutation-append_comm (one ∷ []) (two ∷ [])) (IsPermutation-refl rest))
+trees-exchanged (p ∷ front) back a b [] h = absurd h
+trees-exchanged (p ∷ front) back a b (t ∷ ts) h =
+    let next = trees-exchanged front back a b ts h.1 in
+    (t ∷ next.0, (h.0, next.1), IsPermutation-cons (record { name = p.name; tree = t }) (paged (names_of (front ++ a ∷ b ∷ back)) ts) (paged (names_of (front ++ b ∷ a ∷ back)) next.0) next.2)
+
+-- All.
+
+module _ (sound : (b : List ℕ) (n : ℕ) (t : Tree) → page b n t → IsSoundTree t n) where
+  all-sound : (ps : List Handed) (ts : List Tree) → AreTrees (bytes_of ps) ts → All (λ p. IsSoundTree p.tree 256) (paged (names_of ps) ts)
+  all-sound [] [] h = All-nil (λ (p : Paged). IsSoundTree p.tree 256)
+  all-sound [] (t ∷ ts) h = absurd h
+  all-sound (p ∷ ps) [] h = absurd h
+  all-sound (p ∷ ps) (t ∷ ts) h =
+      All-cons (λ (q : Paged). IsSoundTree q.tree 256) (record { name = p.name; tree = t }) (paged (names_of ps) ts) (sound p.bytes 256 t h.0) (all-sound ps ts h.1)
+
+  module _ (base : List ℕ) (o : Outcome) where
+    abbrev Say : List Handed → Type 0
+    Say ps = Says base (names_of ps) (bytes_of ps) o
+
+    says-exchanged : (front back : List Handed) (a b : Handed) → Say (front ++ a ∷ b ∷ back) → Say (front ++ b ∷ a ∷ back)
+    says-exchanged front back a b h =
+        let P = front ++ a ∷ b ∷ back in
+        let Q = front ++ b ∷ a ∷ back in
+        let same = rule-exchanged front back a b in
+        let r = swap_at (length front) in
+        let faults = faults-exchanged front back a b in
+        let size : (k : Rule) × (set_rule (bytes_of P) ≡ Some k) × IsReport (names_of P) (on_page 0 0 k ∷ []) o → Say Q =
+        λ s. inl (s.0, sym same ∙ s.1, set-report (names_of P) (names_of Q) s.0 (set-class (bytes_of P) s.0 s.1) o s.2) in
+        let text : (text_faults 0 (bytes_of P) ≢ []) × IsReport (names_of P) (text_faults 0 (bytes_of P)) o
+        → (text_faults 0 (bytes_of Q) ≢ []) × IsReport (names_of Q) (text_faults 0 (bytes_of Q)) o =
+        λ s. (
+          λ none. s.0 (none-left (found_moved r) (text_faults 0 (bytes_of P)) (text_faults 0 (bytes_of Q)) faults none),
+          report-moved r (names_of P) (names_of Q) (said_at (λ (p : Handed). p.name) front back a b) (text_faults 0 (bytes_of P)) (text_faults 0 (bytes_of Q)) faults o s.1,
+        ) in
+        let made : (ts : List Tree) × AreTrees (bytes_of P) ts × Made base (names_of P) ts o → (ts : List Tree) × AreTrees (bytes_of Q) ts × Made base (names_of Q) ts o =
+        λ s. (let next = trees-exchanged front back a b s.0 s.1 in
+        (next.0, next.1, rearranged base (paged (names_of P) s.0) (paged (names_of Q) next.0) next.2 (all-sound P s.0 s.1) o s.2)) in
+        ⊎_elim size (λ e. inr (sym same ∙ e.0, ⊎_elim (λ s. inl (text s)) (λ s. inr (made s)) e.1)) h
+
+    pub says-rearranged : (ps qs : List Handed) → IsPermutation ps qs → Say ps → Say qs
+    says-rearranged ps qs m h = by_exchanges Say says-exchanged ps qs m h

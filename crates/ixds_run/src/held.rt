@@ -1,0 +1,52 @@
+//! Pages that lie in memory.
+ghost use Rattle.std.specs.Prelude.{◌≤◌, [], Some, length, map, IfOk, OnOk};
+ghost use Rattle.ixds_run.specs.Reading.{IsRead, IsSound, ReadsOn};
+
+use crate::forest::{DEPTH, Forest, end_page, no_pages};
+use crate::reading::{MOST_BYTES, count_tags};
+use bumpalo::Bump;
+use ix_base::{MemPage, NoMemory};
+use page_tree::TreeBuilder;
+use std::alloc::Global;
+
+/// Builds a page in one piece, and ends it as one that was read.
+fn build_page<'a>(
+    alloc: Global,
+    arena: &'a Bump,
+    page: &MemPage,
+    number: u32,
+    forest: &mut Forest<'a>,
+) -> Result<(), NoMemory>
+    requires most { forest.old.sums.bytes ≤ 268435456 }
+    requires tags { forest.old.sums.tags ≤ forest.old.sums.bytes }
+    ensures reads { OnOk result (ReadsOn (Some page.now.bytes) (Some []) number forest.old forest.new) }
+    ensures tags { OnOk result (forest.new.sums.tags ≤ forest.new.sums.bytes) }
+{
+    let bytes = page.bytes.as_slice();
+    let mut builder = TreeBuilder::new(alloc, arena, number, DEPTH);
+    builder.feed(bytes)?;
+    forest.sums.bytes += bytes.len() as u64;
+    forest.sums.tags += count_tags(bytes);
+    end_page(builder, number, forest)?;
+    Ok(())
+}
+
+/// Builds pages, in this order. It stops as soon as they have more bytes than pages may have.
+pub fn build_all<'a>(
+    alloc: Global,
+    arena: &'a Bump,
+    pages: &[MemPage],
+) -> Result<Forest<'a>, NoMemory>
+    requires few { length pages.now ≤ 64 }
+    ensures reads { IfOk result (IsRead (map (λ p. p.bytes) pages.now)) }
+    ensures sound { IfOk result (IsSound (map (λ p. p.name) pages.now)) }
+{
+    let mut forest = no_pages(alloc);
+    for (number, page) in pages.iter().enumerate() {
+        build_page(alloc, arena, page, number as u32, &mut forest)?;
+        if forest.sums.bytes > MOST_BYTES {
+            return Ok(forest);
+        }
+    }
+    Ok(forest)
+}

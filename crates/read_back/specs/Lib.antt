@@ -1,4 +1,0 @@
-pub mod Good
-pub mod Instance
-pub mod Meant
-pub mod Theorem

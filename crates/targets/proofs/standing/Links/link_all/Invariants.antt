@@ -1,0 +1,9 @@
+use Rattle.std.proofs.Common.{◌++◌, List, map, take}
+use Rattle.ix_base.specs.Located.{Located, located}
+use Rattle.targets.specs.Standing.{AreLinked, Link}
+use Rattle.targets.proofs.standing.Links.link_all.Given as goal
+
+-- the links of the ids so far have come
+abbrev pub invariant-loop-id : goal.invariant-loop-id
+invariant-loop-id l = (es ts : List Located) (ls : List Link) → AreLinked es ts ls l.initial.self
+    → AreLinked es ts (ls ++ map (λ s. record { attribute = l.attribute; id = s.now; element = located l.spot }) (take l.id-index l.id-items)) l.self
