@@ -14,4 +14,6 @@ mod parts;
 #[cfg(test)]
 mod place_rows;
 #[cfg(test)]
+mod standing_rows;
+#[cfg(test)]
 mod texts;

@@ -13,7 +13,8 @@ use std::alloc::Global;
 use std::fmt::Write;
 use std::test::Fail;
 
-const IX: &str = "<p xmlns:ix=\"http://www.xbrl.org/2013/inlineXBRL\">";
+/// A root of 50 bytes.
+pub(crate) const IX: &str = "<p xmlns:ix=\"http://www.xbrl.org/2013/inlineXBRL\">";
 
 /// A line of a report, as `PAGE:OFFSET CODE;`.
 fn push_line(line: &Breach, lines: &mut String) -> Result<(), Fail> {
@@ -157,10 +158,12 @@ const IDS: [(&str, &str); 8] = [
     ),
 ];
 
-const FOOTNOTE: &str =
+/// A page of a footnote with an id.
+pub(crate) const FOOTNOTE: &str =
     "<p xmlns:ix=\"http://www.xbrl.org/2013/inlineXBRL\"><ix:footnote id=\"k\" xml:lang=\"en\">n</ix:footnote></p>";
 
-const CONTEXT: &str = "<p xmlns:ix=\"http://www.xbrl.org/2013/inlineXBRL\" \
+/// A page of a context with the same id.
+pub(crate) const CONTEXT: &str = "<p xmlns:ix=\"http://www.xbrl.org/2013/inlineXBRL\" \
 xmlns:xbrli=\"http://www.xbrl.org/2003/instance\"><ix:header><ix:resources><xbrli:context id=\"k\"><xbrli:entity>\
 <xbrli:identifier scheme=\"http://example.com/ids\">42</xbrli:identifier></xbrli:entity><xbrli:period>\
 <xbrli:instant>2023-12-31</xbrli:instant></xbrli:period></xbrli:context></ix:resources></ix:header></p>";

@@ -1,9 +1,10 @@
 //! Pages and their trees.
-ghost use Rattle.std.specs.Prelude.{◌≡◌, All, IfOk};
-ghost use Rattle.ix_base.specs.Elements.{pages_of};
+ghost use Rattle.std.specs.Prelude.{IfOk};
+ghost use Rattle.ix_base.specs.Sound.{IsSoundRoot};
 
 use bumpalo::Bump;
 use ix_base::{Element, Node};
+use page_tree::laws::sound_tree;
 use page_tree::{PageFault, TreeBuilder};
 use std::alloc::Global;
 use std::test::Fail;
@@ -15,12 +16,15 @@ pub fn root_of<'a>(
     page: u32,
     text: &str,
 ) -> Result<&'a Element<'a>, Fail>
-    ensures { IfOk result (λ e. All (λ p. p ≡ e.now.place.page) (pages_of e.now)) }
+    ensures { IfOk result (λ e. IsSoundRoot e.now page 256) }
 {
     let mut builder = TreeBuilder::new(alloc, arena, page, 256);
     builder.feed(text.as_bytes())?;
     match builder.finish() {
-        Ok(root) => Ok(root),
+        Ok(root) => {
+            sound_tree();
+            Ok(root)
+        }
         Err(PageFault::Broken { rule, .. }) => Err(Fail::from(rule.code())),
         Err(PageFault::NoMemory) => Err(Fail::from("no memory")),
     }

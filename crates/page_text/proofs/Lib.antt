@@ -3,3 +3,4 @@ pub mod Scans
 pub mod Readings
 pub mod PlainRuns
 pub mod Plain
+pub mod InOrder

@@ -1,15 +1,63 @@
--- Plain characters at the front of some bytes.
-use Rattle.std.proofs.Common.{◌≡◌, ℕ, ◌+◌, ◌<◌, true, List, [], ◌∷◌, ◌++◌, length, take, get_or, refl, ap, ◌∙◌, add-one}
-use Rattle.std.proofs.Math.Seq.{take-suc}
-use Rattle.std.proofs.lemmas.Bool.{and_parts}
+-- A text of clear bytes is plain.
+use Rattle.std.proofs.Common.{◌≡◌, ℕ, ◌+◌, ◌/◌, ◌<◌, ◌≤◌, ◌&&◌, ◌⊎◌, inl, inr, Bool, true, false, List, [], ◌∷◌, take, drop, take-append-drop, refl, sym, ap, ◌∙◌, arith, ⊎_elim}
+use Rattle.std.proofs.lemmas.Bool.{and_parts, cases_lt}
+use Rattle.std.proofs.Math.Dec.{ltb}
+use Rattle.std.proofs.Math.Utf8.{scalar, scalar_cases}
+use Rattle.std.proofs.lemmas.Bool.Decides.{nat_tests}
+use Rattle.std.proofs.lemmas.List.Folds.{list_all-append}
+use Rattle.std.proofs.lemmas.Str.{encodes-chars, scalars-chars, is_utf8-from_IsUtf8, encode_ascii}
 use Rattle.std.specs.List.{list_all}
-use Rattle.page_text.specs.Plain.{is_plain}
+use Rattle.std.specs.Str as str
+use Rattle.std.specs.Str.{IsUtf8, encode_utf8_all, all_scalars}
+use Rattle.std.specs.Char.{IsScalar, encode_utf8}
+use Rattle.page_text.specs.Plain.{is_plain, are_plain, is_clear}
 
-all-snoc : (xs : List ℕ) (c : ℕ) → list_all is_plain xs ≡ true → is_plain c ≡ true → list_all is_plain (xs ++ c ∷ []) ≡ true
-all-snoc [] c h p = rw p refl
-all-snoc (x ∷ xs) c h p = let t = and_parts (is_plain x) (list_all is_plain xs) h in rw (t.0, all-snoc xs c t.1 p) refl
+-- a character of one byte
+one-plain : (c : ℕ) → is_clear c ≡ true → c < 0x80 → is_plain c ≡ true
+one-plain c h low = grind (arith, nat_tests)
 
-pub all-next : (xs : List ℕ) (i : ℕ) → i < length xs → list_all is_plain (take i xs) ≡ true → is_plain (get_or xs i 0) ≡ true → list_all is_plain (take (i + 1) xs) ≡ true
-all-next xs i l h p =
-    let cut : take (i + 1) xs ≡ take i xs ++ get_or xs i 0 ∷ [] = rw add-one (take-suc xs i 0 l) in
-    ap (list_all is_plain) cut ∙ all-snoc (take i xs) (get_or xs i 0) h p
+-- one of more bytes, none of which is 0xEF
+more-plain : (c : ℕ) → (c < 0xD800) ⊎ ((0xE000 ≤ c) × (c < 0x110000)) → 0x80 ≤ c → (c < 0xF000) ⊎ (0x10000 ≤ c) → is_plain c ≡ true
+more-plain c s more out = grind (arith, nat_tests)
+
+-- one that begins with 0xEF
+late-unclear : (c : ℕ) → 0xF000 ≤ c → c < 0x10000 → list_all is_clear (encode_utf8 c) ≡ false
+unfolding encode_utf8
+late-unclear c low high =
+    let not_one : ltb c 128 ≡ false = grind (arith, nat_tests) in
+    let not_two : ltb c 2048 ≡ false = grind (arith, nat_tests) in
+    let three : ltb c 65536 ≡ true = grind (arith, nat_tests) in
+    let first : 224 + c / 4096 ≡ 0xEF = omega arith in
+    rw (not_one, not_two, three, first) refl
+
+clear-plain : (c : ℕ) → IsScalar c → list_all is_clear (encode_utf8 c) ≡ true → is_plain c ≡ true
+clear-plain c s h =
+    let range = scalar_cases c s in
+    ⊎_elim
+    (λ low. one-plain c ((and_parts (is_clear c) true (ap (list_all is_clear) (sym (encode_ascii c low)) ∙ h)).0) low)
+    (λ more. ⊎_elim
+    (λ below. more-plain c range more (inl below))
+    (λ late. ⊎_elim
+    (λ inside. absurd (clash (list_all is_clear (encode_utf8 c)) h (late-unclear c late inside)))
+    (λ beyond. more-plain c range more (inr beyond))
+    (cases_lt c 0x10000))
+    (cases_lt c 0xF000))
+    (cases_lt c 0x80) where
+      clash : (b : Bool) → b ≡ true → b ≡ false → ⊥
+      clash b y n = cc
+
+all-plain : (cs : List ℕ) → all_scalars cs ≡ true → list_all is_clear (encode_utf8_all cs) ≡ true → list_all is_plain cs ≡ true
+all-plain [] s h = refl
+all-plain (c ∷ cs) s h =
+    let z = and_parts (list_all is_clear (encode_utf8 c)) (list_all is_clear (encode_utf8_all cs)) (sym (list_all-append is_clear (encode_utf8 c) (encode_utf8_all cs)) ∙ h) in
+    let y = and_parts (scalar c) (all_scalars cs) s in
+    rw (clear-plain c y.0 z.0, all-plain cs y.1 z.1) refl
+
+pub text-plain : (text : List ℕ) → IsUtf8 text → list_all is_clear text ≡ true → are_plain text ≡ true
+text-plain text u h =
+    rw (is_utf8-from_IsUtf8 text u) (ap (λ b. true && b) (all-plain (str.chars text) (scalars-chars text u) (ap (list_all is_clear) (encodes-chars text u) ∙ h)))
+
+pub all-front : (n : ℕ) (xs : List ℕ) → list_all is_clear xs ≡ true → list_all is_clear (take n xs) ≡ true
+all-front n xs h =
+    (and_parts (list_all is_clear (take n xs)) (list_all is_clear (drop n xs))
+    (sym (list_all-append is_clear (take n xs) (drop n xs)) ∙ ap (list_all is_clear) (take-append-drop n xs) ∙ h)).0

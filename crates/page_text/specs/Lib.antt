@@ -4,3 +4,4 @@ pub mod Reading
 pub mod Growth
 pub mod Cuts
 pub mod Plain
+pub mod Order

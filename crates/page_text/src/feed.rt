@@ -1,13 +1,14 @@
 //! A reader of a page's bytes that keeps none of them but those of a character that isn't whole.
 
-ghost use Rattle.std.specs.Prelude.{◌≡◌, ◌≢◌, ◌++◌, ◌∷◌, [], ◌+◌, ◌<◌, ◌≤◌, ◌^◌, ℕ, List, length, take, option_to_list, is_some, true, OnOk, OnErr, Some, None, Ok, Err};
+ghost use Rattle.std.specs.Prelude.{◌≡◌, ◌≢◌, ◌++◌, ◌∷◌, [], ◌+◌, ◌<◌, ◌≤◌, ◌^◌, ℕ, List, length, take, option_to_list, is_some, true, IfSome, OnOk, OnErr, Some, None, Ok, Err};
 ghost use Rattle.page_text.specs.Characters.{chars, stop, begun, first_break, shown};
 ghost use Rattle.page_text.specs.Reading.{begin, Stands, after, due, answer};
-ghost use Rattle.std.specs.List.{list_all};
-ghost use Rattle.page_text.specs.Plain.{is_plain, marks_from};
+ghost use Rattle.std.specs.Char.{len_utf8};
+ghost use Rattle.std.specs.Str.{chars as text_chars};
+ghost use Rattle.page_text.specs.Plain.{are_plain, marks_from};
 ghost use Rattle.page_text.specs.Growth.{Gains, GainsFront};
 
-use crate::fronts::{Front, front_of, is_allowed_char, plain_size};
+use crate::fronts::{Front, front_of, is_allowed_char, plain_front};
 use crate::{Mark, Run, TextFault};
 use std::alloc::AllocError;
 use std::marker::Model;
@@ -62,14 +63,6 @@ fn keep(marks: &mut Vec<Mark>, mark: Option<Mark>) -> Result<(), AllocError>
     Ok(())
 }
 
-/// The bytes at the front that are plain characters, as a text.
-fn plain_front(piece: &[u8]) -> &str
-    ensures front { result.now ≡ take (length result.now) piece.now }
-    ensures plain { list_all is_plain result.now ≡ true }
-{
-    std::str::from_utf8(&piece[..plain_size(piece)]).unwrap_or("")
-}
-
 impl Feed {
     /// A feed of a page of which nothing was read.
     pub fn new() -> Feed
@@ -91,7 +84,7 @@ impl Feed {
         ensures state { self.new ≡ after self.old (byte ∷ []) }
         ensures given { option_to_list result ≡ due self.old (byte ∷ []) }
         ensures counts { self.new.pushed ≡ self.old.pushed + 1 }
-        ensures waits { length self.old.part ≤ self.old.pushed }
+        ensures within { IfSome result (λ m. m.offset + len_utf8 m.ch ≤ self.new.pushed) }
     {
         if self.fault.is_some() {
             self.pushed += 1;
@@ -103,16 +96,16 @@ impl Feed {
         }
     }
 
-    /// Takes bytes from the front of a piece that are characters by themselves and are shown as they are. There may be none:
-    /// behind a fault, behind a carriage return, and within a character.
+    /// Takes whole characters from the front of a piece that the page has as its bytes are. There may be none: behind a fault,
+    /// behind a carriage return, within a character, and before a character that is looked at by itself.
     pub fn take_plain<'p>(&mut self, piece: &'p [u8]) -> Run<'p>
         requires { self.old.pushed + length piece.now < 2 ^ 64 }
         ensures front { result.text.now ≡ take (length result.text.now) piece.now }
-        ensures plain { list_all is_plain result.text.now ≡ true }
+        ensures plain { are_plain result.text.now ≡ true }
         ensures offset { result.offset ≡ self.old.pushed }
         ensures state { self.new ≡ after self.old result.text.now }
         ensures counts { self.new.pushed ≡ self.old.pushed + length result.text.now }
-        ensures shown { due self.old result.text.now ≡ marks_from self.old.pushed result.text.now }
+        ensures shown { due self.old result.text.now ≡ marks_from self.old.pushed (text_chars result.text.now) }
     {
         let offset = self.pushed;
         if self.fault.is_some() || self.held > 0 || self.after_cr {

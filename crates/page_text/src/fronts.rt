@@ -2,7 +2,8 @@
 
 ghost use Rattle.std.specs.Prelude.{◌≡◌, ◌<◌, ◌≤◌, true, length, take};
 ghost use Rattle.std.specs.List.{list_all};
-ghost use Rattle.page_text.specs.Plain.{is_plain};
+ghost use Rattle.std.specs.Str.Lossy.{utf8_valid_len};
+ghost use Rattle.page_text.specs.Plain.{are_plain, is_clear};
 ghost use Rattle.page_text.specs.Fronts.{is_allowed, front};
 
 use bstr::decode_utf8;
@@ -47,28 +48,45 @@ pub(crate) fn front_of(bytes: &[u8]) -> Front
     }
 }
 
-/// A byte that is a character by itself, which a page may have, and no carriage return.
-fn is_plain_byte(byte: u8) -> bool
-    ensures { result ≡ is_plain byte }
+/// A byte that no other character than a plain one has, as first or as only byte: no control character of ASCII but
+/// tab and line feed, and not the first byte of U+FEFF, U+FFFE and U+FFFF.
+fn is_clear(byte: u8) -> bool
+    ensures { result ≡ is_clear byte }
 {
-    matches!(byte, b'\t' | b'\n' | 0x20..=0x7F)
+    // Letters, digits and blanks by one comparison.
+    matches!(byte, 0x20..=0xEE) || matches!(byte, b'\t' | b'\n' | 0xF0..=0xFF)
 }
 
-/// How many plain characters are taken in one go.
-const MOST_PLAIN: usize = 65_536;
+/// How many bytes are taken in one go.
+const MOST_TAKEN: usize = 65_536;
 
-/// How many bytes at the front are plain characters, as far as they are taken in one go.
-pub(crate) fn plain_size(bytes: &[u8]) -> usize
+/// How many bytes at the front are clear, as far as they are taken in one go.
+fn clear_size(bytes: &[u8]) -> usize
     ensures within { result ≤ length bytes.now }
-    ensures plain { list_all is_plain (take result bytes.now) ≡ true }
+    ensures clear { list_all is_clear (take result bytes.now) ≡ true }
 {
     for (at, byte) in bytes.iter().enumerate() {
-        if at == MOST_PLAIN {
-            return at;
-        }
-        if !is_plain_byte(*byte) {
+        if at == MOST_TAKEN || !is_clear(*byte) {
             return at;
         }
     }
     bytes.len()
+}
+
+/// The whole characters at the front.
+fn utf8_front(bytes: &[u8]) -> &str
+    ensures { result.now ≡ take (utf8_valid_len bytes.now) bytes.now }
+{
+    match str::from_utf8(bytes) {
+        Ok(text) => text,
+        Err(error) => str::from_utf8(&bytes[..error.valid_up_to()]).unwrap_or(""),
+    }
+}
+
+/// Plain characters at the front, as a text.
+pub(crate) fn plain_front(bytes: &[u8]) -> &str
+    ensures front { result.now ≡ take (length result.now) bytes.now }
+    ensures plain { are_plain result.now ≡ true }
+{
+    utf8_front(&bytes[..clear_size(bytes)])
 }

@@ -1,7 +1,8 @@
 //! What callers may conclude, for all bytes at once.
 
-ghost use Rattle.std.specs.Prelude.{◌≡◌, List, ℕ};
+ghost use Rattle.std.specs.Prelude.{◌≡◌, List, ℕ, length};
 ghost use Rattle.page_text.specs.Characters.{begun, chars};
+ghost use Rattle.page_text.specs.Order.{AreInOrder};
 ghost use Rattle.page_text.specs.Reading.{begin, Stands};
 ghost use Rattle.page_text.specs.Cuts.{joined, after_all, due_all};
 
@@ -16,4 +17,11 @@ pub fn any_pieces()
 /// No character waits for the end of its page.
 pub fn none_waits()
     ensures { (b : List ℕ) → chars b ≡ begun b }
+{}
+
+/// The characters of a page, and those that its front makes certain, are allowed ones; each stands behind the one before it,
+/// and all within the bytes.
+pub fn in_order()
+    ensures page { (b : List ℕ) → AreInOrder 0 (length b) (chars b) }
+    ensures front { (b : List ℕ) → AreInOrder 0 (length b) (begun b) }
 {}

@@ -3,7 +3,7 @@
 ghost use Rattle.std.specs.Prelude.{◌+◌, ◌<◌, ◌^◌, length};
 
 use super::*;
-use std::alloc::Global;
+use std::alloc::{AllocError, Global};
 
 /// A page, its characters, and the offsets where they begin.
 struct Row {
@@ -78,8 +78,64 @@ fn is_read_in_any_pieces(alloc: Global, row: &Row, end: Result<(), TextFault>) -
     true
 }
 
+/// Appends the characters of a run.
+fn keep_run(marks: &mut Vec<Mark>, run: Run<'_>) -> Result<(), AllocError>
+    requires { run.offset + length run.text.now < 2 ^ 64 }
+{
+    for (place, ch) in run.text.char_indices() {
+        marks.push(Mark {
+            ch,
+            offset: run.offset + place as u64,
+        })?;
+    }
+    Ok(())
+}
+
+/// A page that comes in pieces of this size, in runs of plain characters as far as there are any.
+fn read_in_runs(alloc: Global, bytes: &[u8], size: usize) -> Result<Reading, AllocError>
+    requires { 0 < size }
+{
+    let mut marks = Vec::new(alloc);
+    let mut feed = Feed::new();
+    let mut at = 0;
+    'parts: while at < bytes.len() {
+        let rest = &bytes[at..];
+        let piece = &rest[..rest.len().min(size - at % size)];
+        let run = feed.take_plain(piece);
+        if run.text.is_empty() {
+            if let Some(mark) = feed.step(piece[0]) {
+                marks.push(mark)?;
+            }
+            at += 1;
+        } else {
+            at += run.text.len();
+            keep_run(&mut marks, run)?;
+        }
+    }
+    let end = feed.end(&mut marks);
+    Ok(Reading {
+        pushes: [end; 3],
+        end,
+        marks,
+    })
+}
+
+/// Whatever the pieces.
+fn is_read_in_runs(
+    alloc: Global,
+    row: &Row,
+    end: Result<(), TextFault>,
+) -> Result<bool, AllocError> {
+    for size in [1, 3, 64] {
+        if !is_read(&read_in_runs(alloc, row.bytes, size)?, row, end) {
+            return Ok(false);
+        }
+    }
+    Ok(true)
+}
+
 /// The Unicode Standard, Table 3-7: each line's ends, and the bytes beside them.
-const WELL_FORMED: [Row; 13] = [
+const WELL_FORMED: [Row; 15] = [
     Row {
         bytes: b"",
         chars: "",
@@ -145,9 +201,20 @@ const WELL_FORMED: [Row; 13] = [
         chars: "a\u{FEFF}",
         offsets: &[0, 1],
     },
+    // Runs of Greek letters, and what ends them.
+    Row {
+        bytes: b"\xCE\xA7\xCF\x81\xCE\xAE \xC2\x9F\xE2\x82\xAC\xF0\x90\x8D\x88",
+        chars: "\u{3A7}\u{3C1}\u{3AE} \u{9F}\u{20AC}\u{10348}",
+        offsets: &[0, 2, 4, 6, 7, 9, 12],
+    },
+    Row {
+        bytes: b"\xCE\xB1\xEF\xBB\xBF\xCE\xB2\xEF\xBC\x8C\xCE\xB3",
+        chars: "\u{3B1}\u{FEFF}\u{3B2}\u{FF0C}\u{3B3}",
+        offsets: &[0, 2, 5, 7, 10],
+    },
 ];
 
-const ILL_FORMED: [Broken; 24] = [
+const ILL_FORMED: [Broken; 26] = [
     // Overlong forms.
     Broken {
         row: Row {
@@ -289,7 +356,23 @@ const ILL_FORMED: [Broken; 24] = [
         },
         offset: 0,
     },
+    Broken {
+        row: Row {
+            bytes: b"\xCE\xB1\x80\xCE\xB2",
+            chars: "\u{3B1}",
+            offsets: &[0],
+        },
+        offset: 2,
+    },
     // A character that the page's end breaks off.
+    Broken {
+        row: Row {
+            bytes: b"\xCE\xB1\xCE",
+            chars: "\u{3B1}",
+            offsets: &[0],
+        },
+        offset: 2,
+    },
     Broken {
         row: Row {
             bytes: b"a\xC3",
@@ -349,7 +432,7 @@ const ILL_FORMED: [Broken; 24] = [
     },
 ];
 
-const NOT_ALLOWED: [Broken; 11] = [
+const NOT_ALLOWED: [Broken; 12] = [
     Broken {
         row: Row {
             bytes: b"\x00",
@@ -416,6 +499,14 @@ const NOT_ALLOWED: [Broken; 11] = [
     },
     Broken {
         row: Row {
+            bytes: b"\xCE\xB1\xEF\xBF\xBE\xCE\xB2",
+            chars: "\u{3B1}",
+            offsets: &[0],
+        },
+        offset: 2,
+    },
+    Broken {
+        row: Row {
             bytes: b"ab\x01\xC0",
             chars: "ab",
             offsets: &[0, 1],
@@ -440,7 +531,7 @@ const NOT_ALLOWED: [Broken; 11] = [
     },
 ];
 
-const LINES: [Row; 9] = [
+const LINES: [Row; 10] = [
     Row {
         bytes: b"\xEF\xBB\xBFa\r\nb",
         chars: "a\nb",
@@ -482,21 +573,27 @@ const LINES: [Row; 9] = [
         offsets: &[0, 1, 3],
     },
     Row {
+        bytes: b"\xCE\xB1\r\n\xCE\xB2\r\xCE\xB3",
+        chars: "\u{3B1}\n\u{3B2}\n\u{3B3}",
+        offsets: &[0, 2, 4, 6, 7],
+    },
+    Row {
         bytes: b"\xEF\xBB\xBF\n\xEF\xBB\xBF",
         chars: "\n\u{FEFF}",
         offsets: &[3, 4],
     },
 ];
 
+/// A row's page is read, in any pieces and in runs.
+fn is_row_read(alloc: Global, row: &Row, end: Result<(), TextFault>) -> bool {
+    is_read_in_any_pieces(alloc, row, end) && is_read_in_runs(alloc, row, end) == Ok(true)
+}
+
 #[test]
 fn reads_pages_in_any_pieces(rt: HostRuntime) {
     for rows in [WELL_FORMED.as_slice(), &LINES] {
         for row in rows {
-            assert!(rt;
-                is_read_in_any_pieces(rt.alloc(), row, Ok(())),
-                "{:?}",
-                row.bytes
-            );
+            assert!(rt; is_row_read(rt.alloc(), row, Ok(())), "{:?}", row.bytes);
         }
     }
     for broken in &ILL_FORMED {
@@ -504,7 +601,7 @@ fn reads_pages_in_any_pieces(rt: HostRuntime) {
             offset: broken.offset,
         });
         assert!(rt;
-            is_read_in_any_pieces(rt.alloc(), &broken.row, end),
+            is_row_read(rt.alloc(), &broken.row, end),
             "{:?}",
             broken.row.bytes
         );
@@ -514,7 +611,7 @@ fn reads_pages_in_any_pieces(rt: HostRuntime) {
             offset: broken.offset,
         });
         assert!(rt;
-            is_read_in_any_pieces(rt.alloc(), &broken.row, end),
+            is_row_read(rt.alloc(), &broken.row, end),
             "{:?}",
             broken.row.bytes
         );

@@ -1,5 +1,5 @@
 -- What is left at the end of a page.
-use Rattle.std.proofs.Common.{◌≡◌, ℕ, Bool, true, false, List, [], ◌∷◌, length, drop, Option, Some, None, is_none, Ok, refl, sym, ap, ◌∙◌, subst, append-nil}
+use Rattle.std.proofs.Common.{◌≡◌, ℕ, Bool, true, false, List, [], ◌∷◌, length, drop, Option, Some, None, is_none, Ok, Err, refl, sym, ap, ◌∙◌, subst, append-nil}
 use Rattle.page_text.specs.Reading.{answer}
 use Rattle.page_text.specs.declared.TextFault.{TextFault}
 use Rattle.page_text.specs.declared.TextFault.TheVariants.{BadBytes, BadChar, NoMemory}
@@ -53,6 +53,15 @@ module _ (z : Option TextFault) (closed : Bool) (n : ℕ) (s : State) (first : B
 pub answer-none : (z : Option TextFault) → Rattle.std.specs.Result.is_ok (answer z) ≡ is_none z
 answer-none None = refl
 answer-none (Some f) = refl
+
+-- the answer tells the fault that it knows of, or that there is none
+pub answer-good : (z : Option TextFault) (u : Unit) → answer z ≡ Ok u → z ≡ None
+answer-good None u e = refl
+answer-good (Some f) u e = absurd (cc)
+
+pub answer-fault : (z : Option TextFault) (f : TextFault) → answer z ≡ Err f → z ≡ Some f
+answer-fault None f e = absurd (cc)
+answer-fault (Some g) f e = cc
 
 -- nothing is broken at the end
 pub record Ends (z : Option TextFault) (us : List Byte) (s : State) : Type 0 where

@@ -1,39 +1,39 @@
 -- What a feed reads of a piece, and the bytes that the characters give.
 use Rattle.std.proofs.Common.{◌≡◌, ℕ, zero, suc, get_or, ◌+◌, ◌-◌, ◌<◌, ◌≤◌, true, List, [], ◌∷◌, ◌++◌, length, take, drop, Result, Ok, Err, OnOk, refl, sym, ap, ◌∙◌, subst, arith, append-nil, append_assoc, take-append-drop, length-drop}
 use Rattle.std.proofs.Math.Seq.{take-length}
-use Rattle.std.proofs.lemmas.Bool.{and_parts}
-use Rattle.std.proofs.lemmas.Str.{encode_ascii}
-use Rattle.std.specs.List.{list_all}
+use Rattle.std.proofs.lemmas.Str.{length-encode, chars-nil}
+use Rattle.std.specs.Char.{encode_utf8, len_utf8}
+use Rattle.std.specs.Str.{chars, encode_utf8_all}
 use Rattle.page_text.specs.Characters.{begun}
-use Rattle.page_text.specs.Plain.{is_plain, marks_from}
+use Rattle.page_text.specs.Plain.{are_plain, marks_from}
 use Rattle.page_text.specs.Reading.{Reading, Stands, after, due}
 use Rattle.page_text.specs.declared.Mark.{Mark}
+use Rattle.page_text.proofs.Plain.{plain-encodes}
 use Rattle.page_text.proofs.Readings.{stands-after, begun-due}
 use Rattle.page_tree.specs.Constructs.{counted, spread}
-use Rattle.page_tree.proofs.PlacingLaws.{spread-append}
+use Rattle.page_tree.proofs.PlacingLaws.{spread-append, counted-append}
 
-plain-small : (c : ℕ) → is_plain c ≡ true → c < 128
-plain-small c h = grind arith
+-- the bytes of characters one behind another
+pub spread-marks : (at : ℕ) (cs : List ℕ) → spread (marks_from at cs) ≡ counted at (encode_utf8_all cs)
+spread-marks at [] = refl
+spread-marks at (c ∷ cs) =
+    ap (λ z. counted at (encode_utf8 c) ++ z)
+    (spread-marks (at + len_utf8 c) cs ∙ ap (λ n. counted (at + n) (encode_utf8_all cs)) (sym (length-encode c)))
+    ∙ sym (counted-append at (encode_utf8 c) (encode_utf8_all cs))
 
-spread-plain : (at : ℕ) (cs : List ℕ) → list_all is_plain cs ≡ true → spread (marks_from at cs) ≡ counted at cs
-spread-plain at [] h = refl
-spread-plain at (c ∷ cs) h =
-    let t = and_parts (is_plain c) (list_all is_plain cs) h in
-    (λ i. counted at (encode_ascii c (plain-small c t.0) i) ++ spread-plain (at + 1) cs t.1 i)
-
-module _ (f f1 : Reading) (b text piece : List ℕ) (s : Stands f b) (is : f1 ≡ after f text) (due_is : due f text ≡ marks_from f.pushed text) where
+module _ (f f1 : Reading) (b text piece : List ℕ) (s : Stands f b) (is : f1 ≡ after f text) (due_is : due f text ≡ marks_from f.pushed (chars text)) where
   stands : Stands f1 (b ++ text)
   stands = subst (λ x. Stands x (b ++ text)) (sym is) (stands-after f b text s)
 
   -- plain characters
-  module _ (plain : list_all is_plain text ≡ true) (front : text ≡ take (length text) piece) where
+  module _ (plain : are_plain text ≡ true) (front : text ≡ take (length text) piece) where
     pub run-stands : Stands f1 (b ++ take (length text) piece)
     run-stands = subst (λ x. Stands f1 (b ++ x)) front stands
 
     pub run-begun : spread (begun (b ++ take (length text) piece)) ≡ spread (begun b) ++ counted f.pushed text
     run-begun =
         ap (λ x. spread (begun (b ++ x))) (sym front) ∙ ap spread (begun-due f b text s) ∙ spread-append (begun b) (due f text)
-        ∙ ap (λ x. spread (begun b) ++ spread x) due_is ∙ ap (λ x. spread (begun b) ++ x) (spread-plain f.pushed text plain)
+        ∙ ap (λ x. spread (begun b) ++ spread x) due_is ∙ ap (λ x. spread (begun b) ++ x) (spread-marks f.pushed (chars text) ∙ ap (counted f.pushed) (plain-encodes text plain))
 
   -- none of them, and then a byte
   module _ (none : text ≡ []) (byte : ℕ) (f2 : Reading) (ms : List Mark) (next : f2 ≡ after f1 (byte ∷ [])) (given : ms ≡ due f1 (byte ∷ [])) (cut : take 1 piece ≡ byte ∷ []) where
@@ -44,7 +44,7 @@ module _ (f f1 : Reading) (b text piece : List ℕ) (s : Stands f b) (is : f1 �
     byte-stands = subst (Stands f2) same (subst (λ x. Stands x ((b ++ text) ++ byte ∷ [])) (sym next) (stands-after f1 (b ++ text) (byte ∷ []) stands))
 
     before : begun (b ++ text) ≡ begun b
-    before = begun-due f b text s ∙ ap (λ x. begun b ++ x) (due_is ∙ ap (marks_from f.pushed) none) ∙ append-nil (begun b)
+    before = begun-due f b text s ∙ ap (λ x. begun b ++ x) (due_is ∙ ap (λ t. marks_from f.pushed (chars t)) none ∙ ap (marks_from f.pushed) chars-nil) ∙ append-nil (begun b)
 
     pub byte-begun : begun (b ++ take 1 piece) ≡ begun b ++ ms
     byte-begun = ap begun (sym same) ∙ begun-due f1 (b ++ text) (byte ∷ []) stands ∙ (λ i. before i ++ sym given i)

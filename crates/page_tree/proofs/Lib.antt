@@ -38,13 +38,13 @@ pub mod ValueLaws
 pub mod TagReading
 pub mod Around
 pub mod StateLaws
+pub mod TakingLaws
 pub mod ActingLaws
 pub mod PlacingLaws
 pub mod CutPoints
 pub mod SettleLaws
 pub mod LateLaws
 pub mod PageNumbers
-pub mod MarkBounds
 pub mod FinishLaws
 pub mod EndingLaws
 pub mod StandingLaws

@@ -18,7 +18,7 @@ pub values-counted : (at : ℕ) (xs : List ℕ) → values (counted at xs) ≡ x
 values-counted at [] = refl
 values-counted at (x ∷ xs) = ap (λ t. x ∷ t) (values-counted (at + 1) xs)
 
-counted-append : (at : ℕ) (xs ys : List ℕ) → counted at (xs ++ ys) ≡ counted at xs ++ counted (at + length xs) ys
+pub counted-append : (at : ℕ) (xs ys : List ℕ) → counted at (xs ++ ys) ≡ counted at xs ++ counted (at + length xs) ys
 counted-append at [] ys = ap (λ n. counted n ys) (omega arith)
 counted-append at (x ∷ xs) ys = ap (λ t. record { value = x; at = at } ∷ t) (counted-append (at + 1) xs ys ∙ ap (λ n. counted (at + 1) xs ++ counted n ys) (omega arith))
 

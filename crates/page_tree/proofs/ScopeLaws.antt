@@ -51,16 +51,18 @@ over-entry (e ∷ es) k v = by_order (over-entry es k v) (compared k e.0) refl w
 abbrev from : ℕ → List Attribute → List Bound
 from i all = filter_map binding_of (map attribute_of (drop i all))
 
-module _ (all : List Attribute) (i : ℕ) (d : Attribute) (r : List Bound) (l : i < length all) where
-  first : from i all ≡ cons_option (binding_of (attribute_of (get_or all i d))) (from (i + 1) all)
-  first = ap (λ as'. filter_map binding_of (map attribute_of as')) (drop_more all i d l)
+module _ (all : List Attribute) (i : ℕ) (a : Attribute) (r : List Bound) (is : a ≡ get_or all i a) (l : i < length all) where
+  first : from i all ≡ cons_option (binding_of (attribute_of a)) (from (i + 1) all)
+  first =
+      ap (λ as'. filter_map binding_of (map attribute_of as')) (drop_more all i a l)
+      ∙ ap (λ (y : Attribute). cons_option (binding_of (attribute_of y)) (from (i + 1) all)) (sym is)
 
-  pub declared-next : (old new : List (Key × Key)) (k v : Key) → new ≡ insert_entry compared old k v → Some (entered (k, v)) ≡ binding_of (attribute_of (get_or all i d))
+  pub declared-next : (old new : List (Key × Key)) (k v : Key) → new ≡ insert_entry compared old k v → Some (entered (k, v)) ≡ binding_of (attribute_of a)
       → bound_under (map entered old) (from i all) ≡ r → bound_under (map entered new) (from (i + 1) all) ≡ r
   declared-next old new k v put b so =
       ap (λ s. bound_under s (from (i + 1) all)) (ap (map entered) put ∙ over-entry old k v)
       ∙ sym (ap (bound_under (map entered old)) (first ∙ ap (λ o. cons_option o (from (i + 1) all)) (sym b))) ∙ so
 
-  pub declared-past : (old : List (Key × Key)) → None ≡ binding_of (attribute_of (get_or all i d))
+  pub declared-past : (old : List (Key × Key)) → None ≡ binding_of (attribute_of a)
       → bound_under (map entered old) (from i all) ≡ r → bound_under (map entered old) (from (i + 1) all) ≡ r
   declared-past old b so = sym (ap (bound_under (map entered old)) (first ∙ ap (λ o. cons_option o (from (i + 1) all)) (sym b))) ∙ so

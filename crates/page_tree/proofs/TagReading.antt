@@ -1,21 +1,13 @@
 -- How the code that reads tags meets its definitions.
-use Rattle.std.proofs.Common.{◌≡◌, ◌≢◌, ℕ, suc, zero, ◌+◌, ◌<◌, ◌≤◌, nat_lt, Bool, true, false, List, [], ◌∷◌, ◌++◌, map, length, Option, Some, None, option_map, refl, sym, ap, ◌∙◌, arith, Bor, bytes_eq, append_assoc, append-nil, length-append}
+use Rattle.std.proofs.Common.{◌≡◌, ◌≢◌, ℕ, suc, zero, ◌+◌, ◌<◌, ◌≤◌, nat_lt, Bool, true, false, List, [], ◌∷◌, ◌++◌, map, length, Option, Some, None, option_map, refl, sym, ap, ◌∙◌, arith, bytes_eq, append_assoc, append-nil, length-append}
 use Rattle.std.proofs.lemmas.Bool.{lt-ltb}
 use Rattle.std.proofs.lemmas.Bool.Decides.{nat_tests}
-use Rattle.std.proofs.lemmas.Str.Pattern.{IsSplitOnceResult, split_parts}
-use Rattle.ix_base.specs.NcName.{is_ncname}
-use Rattle.ix_base.specs.Scope.{has_prefix, is_qname}
-use Rattle.page_tree.specs.Meanings.{◌>>=◌, is_dark, behind_white, is_white_text, equalled, slash, attribute_at, attributes_in, before, from, ends_tag_name, tag, start_tag, behind, part_at}
+use Rattle.ix_base.specs.Scope.{is_qname}
+use Rattle.page_tree.specs.Meanings.{◌>>=◌, is_dark, behind_white, is_white_text, equalled, slash, attribute_at, attributes_in, before, from, ends_name, ends_tag_name, tag, start_tag, behind, part_at}
+use Rattle.page_tree.specs.Forms.{has}
 use Rattle.page_tree.specs.Tokens.{Attribute}
-use Rattle.page_tree.proofs.Parting.{index-none, none-has, from-short}
+use Rattle.page_tree.proofs.Parting.{from-short}
 use Rattle.page_tree.proofs.TagForms.{equal-out}
-
--- a name without a colon
-pub plain-name : (name : List ℕ) (r : Option (Bor (List ℕ) × Bor (List ℕ))) → IsSplitOnceResult 58 name r → r ≡ None → is_ncname name ≡ is_qname name
-plain-name name r h e =
-    let parts = split_parts 58 name r h (omega arith) in
-    let none : has_prefix name ≡ false = none-has 58 name (index-none 58 name (rw e at parts)) in
-    rw none refl
 
 -- what is behind a quoted value
 pub equalled-short : (text : List ℕ) (p : List ℕ × List ℕ) → Some p ≡ equalled text → length p.1 ≤ length text
@@ -23,6 +15,14 @@ equalled-short text p e =
     let q = equal-out text p (sym e) in
     let l : length text ≡ length (q.front ++ 61 ∷ (q.back ++ q.quote ∷ (p.0 ++ q.quote ∷ p.1))) = ap length q.splits in
     omega (arith, length-append q.front (61 ∷ (q.back ++ q.quote ∷ (p.0 ++ q.quote ∷ p.1))), length-append q.back (q.quote ∷ (p.0 ++ q.quote ∷ p.1)), length-append p.0 (q.quote ∷ p.1))
+
+-- no attribute
+module _ (text name rest : List ℕ) (b : before ends_name text ≡ name) (f : from ends_name text ≡ rest) (n : is_qname name ≡ true) where
+  pub attribute-open : (p : List ℕ × List ℕ) → Some p ≡ equalled rest → has 60 p.0 ≡ true → None ≡ attribute_at text
+  attribute-open p e h = rw (b, f, n, ← e, h) refl
+
+  pub attribute-unequalled : None ≡ equalled rest → None ≡ attribute_at text
+  attribute-unequalled e = rw (b, f, n, ← e) refl
 
 -- white space in front
 pub apart : (text : List ℕ) → length (behind_white text) ≢ length text → nat_lt (length (behind_white text)) (length text) ≡ true

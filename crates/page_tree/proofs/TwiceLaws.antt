@@ -142,19 +142,19 @@ name-twice seen names = list_any (λ x. list_any (λ (k : Text). bytes_eq x k.no
 pub name-none : (seen : List Text) (names : List (List ℕ)) → seen ≡ [] → name-twice seen names ≡ repeats_by bytes_eq names
 name-none = twice-none bytes_eq same-order (λ (k : Text). k.now) text_cmp text-compared
 
-module _ (attrs : List code.Attribute) (i : ℕ) (d : code.Attribute) (seen : List Text) (r : Bool) (l : i < length attrs) where
-  names-next : map (λ a. a.name.now) (drop i attrs) ≡ (get_or attrs i d).name.now ∷ map (λ a. a.name.now) (drop (i + 1) attrs)
-  names-next = ap (map (λ (a : code.Attribute). a.name.now)) (drop_more attrs i d l)
+module _ (attrs : List code.Attribute) (i : ℕ) (a : code.Attribute) (seen : List Text) (r : Bool) (is : a ≡ get_or attrs i a) (l : i < length attrs) where
+  names-next : map (λ x. x.name.name.now) (drop i attrs) ≡ a.name.name.now ∷ map (λ x. x.name.name.now) (drop (i + 1) attrs)
+  names-next = ap (map (λ (x : code.Attribute). x.name.name.now)) (drop_more attrs i a l) ∙ ap (λ (y : code.Attribute). y.name.name.now ∷ map (λ (x : code.Attribute). x.name.name.now) (drop (i + 1) attrs)) (sym is)
 
-  pub name-found : list_any (λ k. is_eq (text_cmp (get_or attrs i d).name k)) seen ≡ true → name-twice seen (map (λ a. a.name.now) (drop i attrs)) ≡ r → true ≡ r
+  pub name-found : list_any (λ k. is_eq (text_cmp a.name.name k)) seen ≡ true → name-twice seen (map (λ x. x.name.name.now) (drop i attrs)) ≡ r → true ≡ r
   name-found found so =
-      twice-found bytes_eq same-order (λ (k : Text). k.now) text_cmp text-compared seen (get_or attrs i d).name (map (λ a. a.name.now) (drop (i + 1) attrs)) r found
+      twice-found bytes_eq same-order (λ (k : Text). k.now) text_cmp text-compared seen a.name.name (map (λ x. x.name.name.now) (drop (i + 1) attrs)) r found
       (ap (name-twice seen) (sym names-next) ∙ so)
 
-  pub name-seen : (new : List Text) → list_any (λ k. is_eq (text_cmp (get_or attrs i d).name k)) seen ≡ false → new ≡ insert_key text_cmp seen (get_or attrs i d).name
-      → name-twice seen (map (λ a. a.name.now) (drop i attrs)) ≡ r → name-twice new (map (λ a. a.name.now) (drop (i + 1) attrs)) ≡ r
+  pub name-seen : (new : List Text) → list_any (λ k. is_eq (text_cmp a.name.name k)) seen ≡ false → new ≡ insert_key text_cmp seen a.name.name
+      → name-twice seen (map (λ x. x.name.name.now) (drop i attrs)) ≡ r → name-twice new (map (λ x. x.name.name.now) (drop (i + 1) attrs)) ≡ r
   name-seen new apart gains so =
-      twice-seen bytes_eq same-order (λ (k : Text). k.now) text_cmp text-compared seen new (get_or attrs i d).name (map (λ a. a.name.now) (drop (i + 1) attrs)) r apart gains
+      twice-seen bytes_eq same-order (λ (k : Text). k.now) text_cmp text-compared seen new a.name.name (map (λ x. x.name.name.now) (drop (i + 1) attrs)) r apart gains
       (ap (name-twice seen) (sym names-next) ∙ so)
 
 -- expanded names
@@ -280,6 +280,6 @@ repeats-short scope [] h = refl
 repeats-short scope (a ∷ []) h = refl
 repeats-short scope (a ∷ b ∷ attrs) h = absurd (omega arith)
 
-pub attributes-named : (attrs : List code.Attribute) → map (λ a. a.name) (map attribute_of attrs) ≡ map (λ a. a.name.now) attrs
+pub attributes-named : (attrs : List code.Attribute) → map (λ a. a.name) (map attribute_of attrs) ≡ map (λ a. a.name.name.now) attrs
 attributes-named [] = refl
-attributes-named (a ∷ attrs) = ap (λ t. a.name.now ∷ t) (attributes-named attrs)
+attributes-named (a ∷ attrs) = ap (λ t. a.name.name.now ∷ t) (attributes-named attrs)

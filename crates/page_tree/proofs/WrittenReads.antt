@@ -16,6 +16,7 @@ use Rattle.page_tree.specs.Tokens.{Token, start, empty, close, refer}
 use Rattle.page_tree.specs.declared.kind.Kind.{Kind}
 use Rattle.page_tree.specs.declared.kind.Kind.TheVariants.{StartTag, EndTag, Reference, Text}
 use Rattle.page_tree.proofs.PageMarks.{values-counted}
+use Rattle.page_tree.proofs.PlacingLaws.{counted-append}
 use Rattle.page_tree.proofs.PlainText.{any-append}
 use Rattle.page_tree.proofs.SpanLaws.{either, clash, or_right, starts-front}
 use Rattle.page_tree.proofs.SpelledCuts.{start-size, leaf-size, close-size, cut-front}
@@ -24,10 +25,6 @@ use Rattle.page_tree.proofs.SpelledRuns.{text-size, text-means, reference-size, 
 use Rattle.page_tree.proofs.WrittenTokens.{te-case, flush, runs, tokens, fine-words, fine-node, fine-leaf, fine-names}
 
 -- bytes one behind the other
-pub counted-append : (at : ℕ) (xs ys : List ℕ) → counted at (xs ++ ys) ≡ counted at xs ++ counted (at + length xs) ys
-counted-append at [] ys = ap (λ n. counted n ys) (let e : at ≡ at + length {A = ℕ} [] = omega arith in e)
-counted-append at (x ∷ xs) ys = ap (λ z. record { value = x; at = at } ∷ z) (counted-append (at + 1) xs ys ∙ ap (λ n. counted (at + 1) xs ++ counted n ys) (let e : at + 1 + length xs ≡ at + length (x ∷ xs) = omega arith in e))
-
 length-counted : (at : ℕ) (xs : List ℕ) → length (counted at xs) ≡ length xs
 length-counted at [] = refl
 length-counted at (x ∷ xs) = ap suc (length-counted (at + 1) xs)

@@ -11,6 +11,7 @@ pub mod Machine
 pub mod Views
 pub mod Stacks
 pub mod Buildings
+pub mod Taking
 pub mod Names
 pub mod Orders
 pub mod Expansions

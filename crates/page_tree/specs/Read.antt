@@ -9,6 +9,6 @@ use denote.Ref.{Bor}
 abbrev pub attribute_and_more : Attribute × Bor (List ℕ) → spec.Attribute × List ℕ
 attribute_and_more r = (attribute_of r.0, r.1.now)
 
--- attributes, and whether a `/` ends them
-abbrev pub attributes_and_end : Bor (List Attribute) × Bool → List spec.Attribute × Bool
-attributes_and_end r = (map attribute_of r.0.now, r.1)
+-- attributes that were collected, and whether a `/` ends them
+abbrev pub attributes_and_end : List Attribute → Bool → List spec.Attribute × Bool
+attributes_and_end attrs ends = (map attribute_of attrs, ends)

@@ -14,16 +14,17 @@ use Rattle.page_tree.specs.declared.builder.TreeBuilder.{TreeBuilder}
 use Rattle.page_tree.specs.declared.builder.PageFault.{PageFault}
 use Rattle.page_tree.specs.declared.builder.PageFault.TheVariants as page
 use Rattle.page_tree.specs.declared.pending.Pending.{Pending}
+use Rattle.page_tree.specs.declared.setting.Setting.{Setting}
 use Rattle.page_tree.specs.declared.settle.Break.{Break}
 use Rattle.page_tree.specs.declared.tree.Building.{Building}
 
 -- the limit of depth
 abbrev pub limit : TreeBuilder → ℕ
-limit t = t.building.depth
+limit t = t.setting.depth
 
 -- the page number of its elements
 abbrev pub page_number : TreeBuilder → ℕ
-page_number t = t.building.page
+page_number t = t.setting.page
 
 -- how many bytes it was given
 abbrev pub fed_bytes : TreeBuilder → ℕ
@@ -34,20 +35,20 @@ abbrev pub is_spent : TreeBuilder → Bool
 is_spent t = t.is_spent
 
 -- some bytes wait, to which these lead behind what is built
-pub record LeadsTo (built : Building) (p : Pending) (us : List Byte) : Type 0 where
+pub record LeadsTo (setting : Setting) (built : Building) (p : Pending) (us : List Byte) : Type 0 where
   pub left : List Byte
   pub waits : Waits p left
-  pub leads : Leads false built.depth begin true us (state_of built) p.is_first left
+  pub leads : Leads false setting.depth begin true us (state_of built) p.is_first left
 
 -- The characters that these bytes make certain lead to what is built and to what waits, or they have the break that was
 -- found.
-pub record HasLedTo (built : Building) (p : Pending) (broken : Option Break) (b : List ℕ) : Type 0 where
-  pub leads : broken ≡ None → LeadsTo built p (spread (begun b))
-  pub breaks : (f : Break) → broken ≡ Some f → Breaks false built.depth begin true (spread (begun b)) (fault_at f)
-  pub on_page : IsOnPage built.page built
+pub record HasLedTo (setting : Setting) (built : Building) (p : Pending) (broken : Option Break) (b : List ℕ) : Type 0 where
+  pub leads : broken ≡ None → LeadsTo setting built p (spread (begun b))
+  pub breaks : (f : Break) → broken ≡ Some f → Breaks false setting.depth begin true (spread (begun b)) (fault_at f)
+  pub on_page : IsOnPage setting.page built
 
 abbrev pub HasLed : TreeBuilder → List ℕ → Type 0
-HasLed t b = HasLedTo t.building t.pending t.broken b
+HasLed t b = HasLedTo t.setting t.building t.pending t.broken b
 
 -- and the bytes are those that were read
 pub record HasRead (t : TreeBuilder) (b : List ℕ) : Type 0 where
@@ -59,10 +60,9 @@ pub record HasBuilt (t : TreeBuilder) (b : List ℕ) : Type 0 where
   pub read : HasRead t b
   pub waits : t.broken ≡ None → whole_size false t.pending.is_first (string_bytes t.pending.text) ≡ None
 
--- the limit, the page number, the count of bytes and whether memory was wanting are the same
+-- the setting, the count of bytes and whether memory was wanting are the same
 pub record IsSameBut (old new : TreeBuilder) : Type 0 where
-  pub limit : new.building.depth ≡ old.building.depth
-  pub page : new.building.page ≡ old.building.page
+  pub setting : new.setting ≡ old.setting
   pub fed : new.fed ≡ old.fed
   pub spent : new.is_spent ≡ old.is_spent
 

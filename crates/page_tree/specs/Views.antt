@@ -5,21 +5,21 @@ use Rattle.page_tree.specs.Tokens as spec
 use Rattle.page_tree.specs.declared.token.Attribute.{Attribute}
 use Rattle.page_tree.specs.declared.token.Tag.{Tag}
 use Rattle.page_tree.specs.declared.token.Token.{Token}
-use Rattle.page_tree.specs.declared.token.Token.TheVariants.{Start, Empty, Close, Words, Refer, Section, Declaration, Doctype, Silent}
+use Rattle.page_tree.specs.declared.token.Token.TheVariants.{StartTag, EmptyTag, EndTag, Text, Reference, Cdata, Declaration, Doctype, Silent}
 
 abbrev pub attribute_of : Attribute → spec.Attribute
-attribute_of a = record { name = a.name.now; value = option_map (λ v. v.now) a.value }
+attribute_of a = record { name = a.name.name.now; value = option_map (λ v. v.now) a.value }
 
 abbrev pub tag_of : Tag → spec.Tag
-tag_of t = record { offset = t.offset; name = t.name.now; attrs = map attribute_of t.attrs.now }
+tag_of t = record { offset = t.offset; name = t.name.name.now; attrs = map attribute_of t.attrs.now }
 
 abbrev pub token_of : Token → spec.Token
-token_of (Start t) = start (tag_of t)
-token_of (Empty t) = empty (tag_of t)
-token_of (Close name) = close name.now
-token_of (Words text) = words text.now
-token_of (Refer char) = refer (option_map encode_utf8 char)
-token_of (Section text) = section text.now
+token_of (StartTag t) = start (tag_of t)
+token_of (EmptyTag t) = empty (tag_of t)
+token_of (EndTag name) = close name.now
+token_of (Text text) = words text.now
+token_of (Reference char) = refer (option_map encode_utf8 char)
+token_of (Cdata text) = section text.now
 token_of (Declaration version encoding) = declaration version.now (option_map (λ v. v.now) encoding)
 token_of (Doctype has_subset) = doctype has_subset
 token_of Silent = silent

@@ -3,8 +3,9 @@ ghost use Rattle.std.specs.Prelude.{◌≡◌, ◌≢◌, ◌++◌, ◌+◌, ◌
 
 use crate::ending::{end, fault_of};
 use crate::pending::Pending;
-use crate::reading::read_byte;
+use crate::setting::Setting;
 use crate::settle::{Break, settle};
+use crate::token::Attribute;
 use crate::tree::Building;
 use bumpalo::Bump;
 use ix_base::{Element, NoMemory, Rule};
@@ -36,8 +37,10 @@ impl From<NoMemory> for PageFault {
 /// its construct.
 #[derive(Drop)]
 pub struct TreeBuilder<'a> {
-    alloc: Global,
+    setting: Setting<'a>,
     building: Building<'a>,
+    /// A list in which the attributes of a tag are collected as they are written, one tag after another.
+    written: Vec<Attribute<'a>>,
     feed: Feed,
     /// How many bytes were given.
     fed: u64,
@@ -70,8 +73,14 @@ impl<'a> TreeBuilder<'a> {
         ensures fed { fed_bytes result ≡ 0 }
     {
         TreeBuilder {
-            alloc,
-            building: Building::new(alloc, arena, page, depth),
+            setting: Setting {
+                alloc,
+                arena,
+                page,
+                depth,
+            },
+            building: Building::new(alloc),
+            written: Vec::new(alloc),
             feed: Feed::new(),
             fed: 0,
             pending: Pending::new(alloc),
@@ -90,7 +99,9 @@ impl<'a> TreeBuilder<'a> {
         ensures feed { self.new.feed ≡ self.old.feed }
     {
         let settled = settle(
+            &self.setting,
             &mut self.building,
+            &mut self.written,
             false,
             self.pending.is_first,
             self.pending.text.as_str(),
@@ -169,7 +180,7 @@ impl<'a> TreeBuilder<'a> {
     {
         let run = self.feed.take_plain(piece);
         if run.text.is_empty() {
-            let mark = read_byte(&mut self.feed, piece[0]);
+            let mark = self.feed.step(piece[0]);
             self.take_mark(mark)?;
             return Ok(1);
         }
@@ -250,9 +261,17 @@ impl<'a> TreeBuilder<'a> {
         if let Some(broken) = self.broken {
             return Err(fault_of(broken));
         }
-        let mut marks = Vec::new(self.alloc);
+        let setting = self.setting;
+        let mut marks = Vec::new(setting.alloc);
         let stop = self.feed.end(&mut marks);
-        end(self.building, stop, &self.pending, self.fed)
+        end(
+            &setting,
+            self.building,
+            self.written,
+            stop,
+            &self.pending,
+            self.fed,
+        )
     }
 }
 

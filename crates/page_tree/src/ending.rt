@@ -1,5 +1,5 @@
 //! The end of a page.
-ghost use Rattle.std.specs.Prelude.{◌≡◌, ◌≢◌, ◌≤◌, ℕ, List, Option, length, drop, string_bytes, Some, None, Err, Ok, IfOk, option_map, true, []};
+ghost use Rattle.std.specs.Prelude.{◌≡◌, ◌≢◌, ◌≤◌, ℕ, List, Option, length, drop, string_bytes, Some, None, Err, Ok, IfOk, MatchResult, true, []};
 ghost use Rattle.ix_base.specs.Elements.{pages_of};
 ghost use Rattle.ix_base.specs.Trees.{tree_of};
 ghost use Rattle.page_text.specs.Reading.{answer};
@@ -14,7 +14,9 @@ ghost use Rattle.page_tree.specs.Waiting.{Waits, fault_at};
 
 use crate::builder::PageFault;
 use crate::pending::Pending;
+use crate::setting::Setting;
 use crate::settle::{Break, settle};
+use crate::token::Attribute;
 use crate::tree::Building;
 use ix_base::{Element, Rule};
 use page_text::TextFault;
@@ -28,65 +30,56 @@ pub(crate) fn fault_of(broken: Break) -> PageFault
     }
 }
 
-/// The break that the text of a page has, whose constructs have none before it.
-fn broken_in_text(fault: TextFault, size: u64) -> Break
-    ensures { (us : _) (o : _) → Some (fault_at result) ≡ behind_constructs size (Some fault) us o }
+/// What is broken in the text of a page, whose constructs have no break before it.
+fn fault_in_text(fault: TextFault) -> PageFault
+    ensures told { result ≢ PageFault.NoMemory → (size : _) (us : _) (o : _)
+        → verdict_of (Err result) ≡ behind_constructs size (Some fault) us o }
+    ensures memory { result ≡ PageFault.NoMemory → fault ≡ TextFault.NoMemory }
 {
     match fault {
-        TextFault::BadBytes { offset } => Break {
+        TextFault::BadBytes { offset } => PageFault::Broken {
             offset,
             rule: Rule::W1,
         },
-        TextFault::BadChar { offset } => Break {
+        TextFault::BadChar { offset } => PageFault::Broken {
             offset,
             rule: Rule::W2,
         },
-        TextFault::NoMemory => Break {
-            offset: size,
-            rule: Rule::W1,
-        },
+        TextFault::NoMemory => PageFault::NoMemory,
     }
 }
 
-/// The break that is left, where the text has none: `rest` is the offset of the first byte that no whole construct has.
-fn broken_behind(building: &Building<'_>, rest: Option<u64>, size: u64) -> Option<Break>
-    ensures { (us : _) → first_offset us ≡ rest
-        → option_map fault_at result ≡ behind_constructs size None us (outline_of (state_of building.now)) }
+/// The root of a page whose text has no break, or else the break that is left: `rest` is the offset of the first byte that
+/// no whole construct has.
+fn root_behind<'a>(
+    building: &Building<'a>,
+    rest: Option<u64>,
+    size: u64,
+) -> Result<&'a Element<'a>, Break>
+    ensures told { (us : _) → first_offset us ≡ rest → MatchResult result
+        (λ e. None ≡ behind_constructs size None us (outline_of (state_of building.now)))
+        (λ b. Some (fault_at b) ≡ behind_constructs size None us (outline_of (state_of building.now))) }
+    ensures root { IfOk result (λ e. Some (tree_of e.now) ≡ (state_of building.now).root) }
+    ensures page { (page : ℕ) → IsOnPage page building.now → IfOk result (λ e. AreAll page (pages_of e.now)) }
 {
     if let Some(offset) = rest {
-        return Some(Break {
+        return Err(Break {
             offset,
             rule: Rule::W3,
         });
     }
     if !building.is_outside() {
-        return Some(Break {
+        return Err(Break {
             offset: size,
             rule: Rule::W6,
         });
     }
-    if !building.is_rooted() {
-        return Some(Break {
+    match building.finished() {
+        Some(root) => Ok(root),
+        None => Err(Break {
             offset: size,
             rule: Rule::W12,
-        });
-    }
-    None
-}
-
-/// The break that the end of a page tells, whose constructs have none.
-fn broken_at_end(
-    building: &Building<'_>,
-    stop: Result<(), TextFault>,
-    rest: Option<u64>,
-    size: u64,
-) -> Option<Break>
-    ensures { (z : _) (us : _) → stop ≡ answer z → first_offset us ≡ rest
-        → option_map fault_at result ≡ behind_constructs size z us (outline_of (state_of building.now)) }
-{
-    match stop {
-        Ok(()) => broken_behind(building, rest, size),
-        Err(fault) => Some(broken_in_text(fault, size)),
+        }),
     }
 }
 
@@ -105,22 +98,26 @@ fn rest_offset(pending: &Pending, at: usize) -> Option<u64>
 
 /// Ends a page of so many bytes, whose characters ended so.
 pub(crate) fn end<'a>(
+    setting: &Setting<'a>,
     mut building: Building<'a>,
+    mut written: Vec<Attribute<'a>>,
     stop: Result<(), TextFault>,
     pending: &Pending,
     size: u64,
 ) -> Result<&'a Element<'a>, PageFault>
     ensures verdict { (us : List Byte) (z : _) → Waits pending.now us → stop ≡ answer z → result ≢ Err PageFault.NoMemory
-        → verdict_of result ≡ end_of building.entry.depth (state_of building.entry) pending.now.is_first us z size }
+        → verdict_of result ≡ end_of setting.now.depth (state_of building.entry) pending.now.is_first us z size }
     ensures root { IfOk result (λ e. (us : List Byte) (z : _) → Waits pending.now us → stop ≡ answer z → (t : State) × (z ≡ None)
         × ((finished true pending.now.is_first us).rest ≡ [])
-        × (acted_on building.entry.depth (state_of building.entry) true pending.now.is_first us ≡ Ok t)
+        × (acted_on setting.now.depth (state_of building.entry) true pending.now.is_first us ≡ Ok t)
         × (whole t.frames t.root ≡ Some (tree_of e.now))) }
-    ensures page { IfOk result (λ e. IsOnPage building.entry.page building.entry
-        → AreAll building.entry.page (pages_of e.now)) }
+    ensures page { IfOk result (λ e. IsOnPage setting.now.page building.entry
+        → AreAll setting.now.page (pages_of e.now)) }
 {
     let Ok(settled) = settle(
+        setting,
         &mut building,
+        &mut written,
         stop.is_ok(),
         pending.is_first,
         pending.text.as_str(),
@@ -132,12 +129,12 @@ pub(crate) fn end<'a>(
     if let Some(broken) = settled.broken {
         return Err(fault_of(broken));
     }
-    let rest = rest_offset(pending, settled.taken);
-    if let Some(broken) = broken_at_end(&building, stop, rest, size) {
-        return Err(fault_of(broken));
+    if let Err(fault) = stop {
+        return Err(fault_in_text(fault));
     }
-    match building.finished() {
-        Some(root) => Ok(root),
-        None => Err(PageFault::NoMemory),
+    let rest = rest_offset(pending, settled.taken);
+    match root_behind(&building, rest, size) {
+        Ok(root) => Ok(root),
+        Err(broken) => Err(fault_of(broken)),
     }
 }

@@ -9,14 +9,16 @@ mod meaning;
 mod names;
 mod opened;
 mod pending;
-mod reading;
+mod refusal;
 mod scope;
+mod setting;
 mod settle;
 mod size;
 mod stack;
 mod token;
 mod tree;
 mod twice;
+mod written;
 
 pub use builder::{PageFault, TreeBuilder};
 pub use kind::Kind;

@@ -117,7 +117,7 @@ fn worded<'a, 't>(text: &'t str) -> Option<Token<'a, 't>>
     if holds(text, "]]>") {
         None
     } else {
-        Some(Token::Words(text))
+        Some(Token::Text(text))
     }
 }
 
@@ -144,7 +144,7 @@ fn ends_of(kind: Kind) -> (&'static str, &'static str)
 pub(crate) fn meant<'a, 't>(
     alloc: Global,
     arena: &'a Bump,
-    attrs: &mut Vec<Attribute<'a>>,
+    attrs: &'t mut Vec<Attribute<'a>>,
     kind: Kind,
     offset: u64,
     text: &'t str,
@@ -158,12 +158,12 @@ pub(crate) fn meant<'a, 't>(
         Kind::Declaration => Ok(declared(inner)),
         Kind::Instruction => Ok(instructed(inner)),
         Kind::Comment => Ok(commented(inner)),
-        Kind::Cdata => Ok(Some(Token::Section(inner))),
+        Kind::Cdata => Ok(Some(Token::Cdata(inner))),
         Kind::Doctype => Ok(doctyped(inner)),
         Kind::Unknown => Ok(None),
         Kind::EndTag => Ok(end_tag(inner)),
         Kind::StartTag => start_tag(alloc, arena, attrs, offset, inner),
-        Kind::Reference => Ok(Some(Token::Refer(referred_by(text)))),
+        Kind::Reference => Ok(Some(Token::Reference(referred_by(text)))),
         Kind::Text => Ok(worded(text)),
     }
 }

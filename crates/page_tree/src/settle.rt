@@ -3,16 +3,20 @@ ghost use Rattle.std.specs.Prelude.{◌≡◌, ◌≢◌, ◌≤◌, ◌<◌, �
 ghost use Rattle.std.specs.Str.{IsCharBoundary};
 ghost use Rattle.page_tree.specs.Acting.{judged, state_behind, Leads, Breaks};
 ghost use Rattle.page_tree.specs.Break.{fault};
-ghost use Rattle.page_tree.specs.Constructs.{Byte, values, offset_of, size, whole_size as whole_size_of};
+ghost use Rattle.page_tree.specs.Constructs.{Byte, Construct, values, offset_of, size, whole_size as whole_size_of};
 ghost use Rattle.page_tree.specs.Buildings.{state_of, IsOnPage};
 ghost use Rattle.page_tree.specs.Ends.{HasEnds};
 ghost use Rattle.page_tree.specs.Placing.{IsPlaced};
 ghost use Rattle.page_tree.specs.Seeking.{IsSought};
+ghost use Rattle.page_tree.specs.Taking.{Meets};
 
 use crate::kind::Kind;
 use crate::meaning::meant;
 use crate::pending::Places;
+use crate::refusal::Refusal;
+use crate::setting::Setting;
 use crate::size::{End, Sought, kind_of, unsought, whole_size};
+use crate::token::Attribute;
 use crate::tree::Building;
 use ix_base::{NoMemory, Rule};
 
@@ -43,41 +47,35 @@ pub(crate) struct Settled {
     pub broken: Option<Break>,
 }
 
-/// Builds a construct in: the lowest rule that it breaks, where it breaks one.
+/// Builds a construct in, or the lowest rule that it breaks is an error. The attributes of a tag are collected in a list.
 fn take<'a>(
+    setting: &Setting<'a>,
     building: &mut Building<'a>,
+    written: &mut Vec<Attribute<'a>>,
     kind: Kind,
     offset: u64,
     text: &str,
-) -> Result<Option<Rule>, NoMemory>
+) -> Result<(), Refusal>
     requires { HasEnds kind text.now }
-    ensures rule { IfOk result (λ r. r ≡ judged building.old.depth (state_of building.old)
-        (record { kind = kind; start = offset; text = text.now })) }
-    ensures state { result ≡ Ok None → state_of building.new ≡ state_behind (state_of building.old)
-        (record { kind = kind; start = offset; text = text.now }) }
-    ensures same { (building.new.depth ≡ building.old.depth) × (building.new.page ≡ building.old.page) }
-    ensures on_page { OnOk result (IsOnPage building.old.page building.old → IsOnPage building.new.page building.new) }
+    ensures { let construct : Construct = record { kind = kind; start = offset; text = text.now } in
+        Meets setting.now.page building.old building.new (judged setting.now.depth (state_of building.old) construct)
+        (state_behind (state_of building.old) construct) result }
 {
-    match meant(
-        building.alloc,
-        building.arena,
-        &mut building.written,
-        kind,
-        offset,
-        text,
-    )? {
-        Some(token) => building.take(&token),
-        None => Ok(Some(Rule::W4)),
+    match meant(setting.alloc, setting.arena, written, kind, offset, text)? {
+        Some(token) => building.take(setting, &token),
+        None => Err(Refusal::Breaks(Rule::W4)),
     }
 }
 
 /// Builds the construct at the front in, where it is whole. The text starts at an offset of the page.
 fn step<'a>(
+    setting: &Setting<'a>,
     building: &mut Building<'a>,
+    written: &mut Vec<Attribute<'a>>,
+    offset: u64,
     ended: bool,
     first: bool,
     text: &str,
-    offset: u64,
     sought: Sought,
 ) -> Result<Front, NoMemory>
     requires { IsSought first text.now sought }
@@ -86,11 +84,10 @@ fn step<'a>(
     ensures takes { (k : _) → result ≡ Ok (Front.Takes k) → (0 < k) × IsCharBoundary text.now k
         × (whole_size_of ended first text.now ≡ Some k)
         × ((us : List Byte) → values us ≡ text.now → offset_of us ≡ offset
-        → Leads ended building.old.depth (state_of building.old) first us (state_of building.new) false (drop k us)) }
+        → Leads ended setting.now.depth (state_of building.old) first us (state_of building.new) false (drop k us)) }
     ensures breaks { (b : _) → result ≡ Ok (Front.Breaks b) → (us : List Byte) → values us ≡ text.now → offset_of us ≡ offset
-        → Breaks ended building.old.depth (state_of building.old) first us (fault b.offset b.rule) }
-    ensures same { (building.new.depth ≡ building.old.depth) × (building.new.page ≡ building.old.page) }
-    ensures on_page { OnOk result (IsOnPage building.old.page building.old → IsOnPage building.new.page building.new) }
+        → Breaks ended setting.now.depth (state_of building.old) first us (fault b.offset b.rule) }
+    ensures on_page { OnOk result (IsOnPage setting.now.page building.old → IsOnPage setting.now.page building.new) }
 {
     let size = match whole_size(ended, first, text.as_bytes(), sought) {
         End::At(size) => size,
@@ -98,9 +95,10 @@ fn step<'a>(
     };
     let (construct, _) = text.split_at(size);
     let kind = kind_of(first, text.as_bytes());
-    match take(building, kind, offset, construct)? {
-        Some(rule) => Ok(Front::Breaks(Break { offset, rule })),
-        None => Ok(Front::Takes(size)),
+    match take(setting, building, written, kind, offset, construct) {
+        Ok(()) => Ok(Front::Takes(size)),
+        Err(Refusal::Breaks(rule)) => Ok(Front::Breaks(Break { offset, rule })),
+        Err(Refusal::NoMemory) => Err(NoMemory),
     }
 }
 
@@ -113,12 +111,14 @@ fn is_front(first: bool, at: usize) -> bool
 
 /// Builds the construct at a place in, where it is whole.
 fn step_at<'a>(
+    setting: &Setting<'a>,
     building: &mut Building<'a>,
+    written: &mut Vec<Attribute<'a>>,
+    places: Places,
+    at: usize,
     ended: bool,
     first: bool,
     text: &str,
-    places: Places,
-    at: usize,
     sought: Sought,
 ) -> Result<Front, NoMemory>
     requires within { at < length text.now }
@@ -132,24 +132,34 @@ fn step_at<'a>(
     ensures takes { (k : _) → result ≡ Ok (Front.Takes k) → (0 < k) × IsCharBoundary text.now (at + k)
         × (whole_size_of ended (first && (at == 0)) (drop at text.now) ≡ Some k)
         × ((us : List Byte) → IsPlaced text.now places us
-        → Leads ended building.old.depth (state_of building.old) (first && (at == 0)) (drop at us)
+        → Leads ended setting.now.depth (state_of building.old) (first && (at == 0)) (drop at us)
         (state_of building.new) false (drop (at + k) us)) }
     ensures breaks { (b : _) → result ≡ Ok (Front.Breaks b) → (us : List Byte) → IsPlaced text.now places us
-        → Breaks ended building.old.depth (state_of building.old) (first && (at == 0)) (drop at us) (fault b.offset b.rule) }
-    ensures same { (building.new.depth ≡ building.old.depth) × (building.new.page ≡ building.old.page) }
-    ensures on_page { OnOk result (IsOnPage building.old.page building.old → IsOnPage building.new.page building.new) }
+        → Breaks ended setting.now.depth (state_of building.old) (first && (at == 0)) (drop at us) (fault b.offset b.rule) }
+    ensures on_page { OnOk result (IsOnPage setting.now.page building.old → IsOnPage setting.now.page building.new) }
 {
     let (_, rest) = text.split_at(at);
     let start = places.offset(at);
-    step(building, ended, is_front(first, at), rest, start, sought)
+    step(
+        setting,
+        building,
+        written,
+        start,
+        ended,
+        is_front(first, at),
+        rest,
+        sought,
+    )
 }
 
 /// Builds the constructs at the front in, one after another, up to one that isn't whole or breaks a rule.
 ///
 /// `ended` says that the text ends the page and its characters end well, `first` that it begins the page, and `sought` how
-/// far the end of its first construct was looked for.
+/// far the end of its first construct was looked for. In `written` the attributes of a tag are collected, one tag after another.
 pub(crate) fn settle<'a>(
+    setting: &Setting<'a>,
     building: &mut Building<'a>,
+    written: &mut Vec<Attribute<'a>>,
     ended: bool,
     first: bool,
     text: &str,
@@ -166,18 +176,19 @@ pub(crate) fn settle<'a>(
         → whole_size_of ended (first && (r.taken == 0)) (drop r.taken text.now) ≡ None) }
     ensures sought { IfOk result (λ r. r.broken ≡ None → IsSought (first && (r.taken == 0)) (drop r.taken text.now) r.sought) }
     ensures leads { IfOk result (λ r. r.broken ≡ None → (us : List Byte) → IsPlaced text.now places us
-        → Leads ended building.old.depth (state_of building.old) first us
+        → Leads ended setting.now.depth (state_of building.old) first us
         (state_of building.new) (first && (r.taken == 0)) (drop r.taken us)) }
     ensures breaks { IfOk result (λ r. (b : _) → r.broken ≡ Some b → (us : List Byte) → IsPlaced text.now places us
-        → Breaks ended building.old.depth (state_of building.old) first us (fault b.offset b.rule)) }
-    ensures same { (building.new.depth ≡ building.old.depth) × (building.new.page ≡ building.old.page) }
-    ensures on_page { OnOk result (IsOnPage building.old.page building.old → IsOnPage building.new.page building.new) }
+        → Breaks ended setting.now.depth (state_of building.old) first us (fault b.offset b.rule)) }
+    ensures on_page { OnOk result (IsOnPage setting.now.page building.old → IsOnPage setting.now.page building.new) }
 {
     let bytes = text.as_bytes();
     let mut at = 0;
     let mut sought = sought;
     'constructs: while at < bytes.len() {
-        match step_at(building, ended, first, text, places, at, sought)? {
+        match step_at(
+            setting, building, written, places, at, ended, first, text, sought,
+        )? {
             Front::Waits(sought) => {
                 return Ok(Settled {
                     taken: at,

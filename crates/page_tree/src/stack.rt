@@ -14,7 +14,7 @@ use crate::opened::Open;
 use crate::scope::outermost_scope;
 use crate::token::Tag;
 use bumpalo::Bump;
-use ix_base::{Attr, Binding, Element, NoMemory, Place};
+use ix_base::{Attr, Binding, Element, NoMemory, Node, Place};
 use std::alloc::Global;
 
 /// The pending text becomes a child of the innermost open element.
@@ -47,38 +47,56 @@ pub(crate) fn innermost_scope<'a>(elements: &[Open<'a>]) -> &'a [Binding<'a>]
     parent.scope
 }
 
-/// An element that begins with this tag, in a scope of its own.
+/// An empty list for the children of an element: one that another element is done with, where there is one.
+pub(crate) fn empty_list<'a>(alloc: Global, spare: &mut Vec<Vec<Node<'a>>>) -> Vec<Node<'a>>
+    ensures { result.items ≡ [] }
+{
+    match spare.pop() {
+        Some(mut children) => {
+            children.clear();
+            children
+        }
+        None => Vec::new(alloc),
+    }
+}
+
+/// An element that begins with this tag, in a scope of its own. In the list, which is empty, its children will stand.
 pub(crate) fn open_element<'a>(
-    alloc: Global,
+    children: Vec<Node<'a>>,
     arena: &'a Bump,
     page: u32,
     scope: &'a [Binding<'a>],
-    tag: &Tag<'a>,
+    tag: &Tag<'a, '_>,
     expanded: &[Expanded<'a>],
     attrs: &mut Vec<Attr<'a>>,
 ) -> Result<Open<'a>, NoMemory>
+    requires children { children.items ≡ [] }
     requires ordered { are_ordered (map bound scope.now) ≡ true }
     requires expanded { map expansion expanded.now ≡ expansions (map bound scope.now) (tag_of tag.now) }
     ensures frame { IfOk result (λ o. (outer : _) → map bound scope.now ≡ scope_under_tag outer (tag_of tag.now)
-        → frame o ≡ record { written = tag.now.name.now; head = head_of outer (tag_of tag.now); done = none }) }
+        → frame o ≡ record { written = tag.now.name.name.now; head = head_of outer (tag_of tag.now); done = none }) }
     ensures pages { IfOk result (λ o. pages_open o ≡ page ∷ []) }
 {
     let attrs = attributes_of(arena, expanded, attrs)?;
     Ok(Open {
-        written: tag.name,
+        written: tag.name.name,
         place: Place {
             page,
             offset: tag.offset,
         },
-        name: element_name(scope, tag.name),
+        name: element_name(scope, &tag.name),
         attrs,
         scope,
-        children: Vec::new(alloc),
+        children,
     })
 }
 
-/// The element, once it has ended.
-pub(crate) fn close_element<'a>(arena: &'a Bump, own: Open<'a>) -> Result<&'a Element<'a>, NoMemory>
+/// The element, once it has ended. The list of its children is put to those that other elements may use.
+pub(crate) fn close_element<'a>(
+    arena: &'a Bump,
+    own: Open<'a>,
+    spare: &mut Vec<Vec<Node<'a>>>,
+) -> Result<&'a Element<'a>, NoMemory>
     ensures tree { IfOk result (λ e. tree_of e.now ≡ record { head = (frame own.entry).head; children = (frame own.entry).done }) }
     ensures pages { IfOk result (λ e. pages_of e.now ≡ pages_open own.entry) }
 {
@@ -92,6 +110,9 @@ pub(crate) fn close_element<'a>(arena: &'a Bump, own: Open<'a>) -> Result<&'a El
         scope: own.scope,
         children,
     };
+    if spare.push(own.children).is_err() {
+        return Err(NoMemory);
+    }
     match arena.try_alloc(element) {
         Ok(e) => Ok(e),
         Err(_) => Err(NoMemory),

@@ -1,30 +1,33 @@
 //! What constructs mean.
 
+use crate::written::Written;
+
 /// An attribute as it is written. A value in which a reference is bad means nothing.
 #[derive(Clone, Copy, Debug)]
 pub(crate) struct Attribute<'a> {
-    pub name: &'a str,
+    pub name: Written<'a>,
     pub value: Option<&'a str>,
 }
 
-/// A start tag or an empty-element tag: the offset of its `<`, its written name, and its attributes in order.
+/// A start tag or an empty-element tag: the offset of its `<`, its written name, and its attributes in order, which stand in
+/// a list that is used again for the next tag.
 #[derive(Clone, Copy, Debug)]
-pub(crate) struct Tag<'a> {
+pub(crate) struct Tag<'a, 't> {
     pub offset: u64,
-    pub name: &'a str,
-    pub attrs: &'a [Attribute<'a>],
+    pub name: Written<'a>,
+    pub attrs: &'t [Attribute<'a>],
 }
 
-/// A construct of its form. What a tag says lies in the arena (`'a`); other texts are those of the page (`'t`).
+/// A construct of its form. The names and values of a tag lie in the arena (`'a`); other texts are those of the page (`'t`).
 #[derive(Clone, Copy, Debug)]
 pub(crate) enum Token<'a, 't> {
-    Start(Tag<'a>),
-    Empty(Tag<'a>),
-    Close(&'t str),
-    Words(&'t str),
+    StartTag(Tag<'a, 't>),
+    EmptyTag(Tag<'a, 't>),
+    EndTag(&'t str),
+    Text(&'t str),
     /// A reference, with the character that it means, if it is a good one.
-    Refer(Option<char>),
-    Section(&'t str),
+    Reference(Option<char>),
+    Cdata(&'t str),
     Declaration {
         version: &'t str,
         encoding: Option<&'t str>,

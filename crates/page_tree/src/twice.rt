@@ -14,11 +14,11 @@ use std::collections::BTreeSet;
 
 /// Whether two attributes have one written name.
 fn repeats_name(alloc: Global, attrs: &[Attribute<'_>]) -> Result<bool, NoMemory>
-    ensures { IfOk result (λ r. r ≡ repeats_by bytes_eq (map (λ a. a.name.now) attrs.now)) }
+    ensures { IfOk result (λ r. r ≡ repeats_by bytes_eq (map (λ a. a.name.name.now) attrs.now)) }
 {
     let mut seen = BTreeSet::new(alloc);
     for attr in attrs {
-        let is_new = seen.insert(attr.name)?;
+        let is_new = seen.insert(attr.name.name)?;
         if !is_new {
             return Ok(true);
         }

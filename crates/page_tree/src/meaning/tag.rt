@@ -1,5 +1,5 @@
 //! Tags.
-ghost use Rattle.std.specs.Prelude.{◌≡◌, ◌≤◌, ◌<◌, ℕ, Bool, length, option_map, IfOk, IfSome};
+ghost use Rattle.std.specs.Prelude.{◌≡◌, ◌≤◌, ◌<◌, ℕ, Bool, true, false, length, option_map, IfOk, IfSome, MatchOption};
 ghost use Rattle.std.specs.Str.{IsUtf8};
 ghost use Rattle.ix_base.specs.Scope.{is_qname as is_qname_of};
 ghost use Rattle.page_tree.specs.Meanings.{attribute_at as attribute_at_of, attributes_in as attributes_in_of, start_tag as start_tag_of, end_tag as end_tag_of};
@@ -9,19 +9,18 @@ ghost use Rattle.page_tree.specs.Views.{token_of};
 use crate::meaning::span::{Stop, behind_white, equalled, is_white_text, split};
 use crate::meaning::value::value_of;
 use crate::token::{Attribute, Tag, Token};
+use crate::written::{Written, is_qname, parted};
 use bumpalo::Bump;
 use ix_base::NoMemory;
-use scopes::is_ncname;
 use std::alloc::Global;
 
-/// A name without a colon, or two with one between.
-fn is_qname(name: &str) -> bool
-    ensures { result ≡ is_qname_of name.now }
+/// A name, kept in the arena, in its parts, where it is a qualified name.
+fn kept_name<'a>(arena: &'a Bump, name: &str) -> Result<Option<Written<'a>>, NoMemory>
+    ensures { IfOk result (λ r. MatchOption r (is_qname_of name.now ≡ false)
+        (λ w. (is_qname_of name.now ≡ true) × (w.name.now ≡ name.now))) }
 {
-    match name.split_once(':') {
-        Some((prefix, local)) => is_ncname(prefix) && is_ncname(local),
-        None => is_ncname(name),
-    }
+    let kept = arena.try_alloc_str(name)?;
+    Ok(parted(kept))
 }
 
 /// An attribute at the front, and what is behind it.
@@ -34,13 +33,12 @@ fn attribute_at<'a, 't>(
     ensures shorter { IfOk result (λ r. IfSome r (λ p. length p.1.now ≤ length text.now)) }
     ensures text { IfOk result (λ r. IfSome r (λ p. IsUtf8 p.1.now)) }
 {
-    let (name, rest) = split(text, Stop::Name);
-    if !is_qname(name) {
+    let (front, rest) = split(text, Stop::Name);
+    let Some(name) = kept_name(arena, front)? else {
         return Ok(None);
-    }
+    };
     match equalled(rest) {
         Some((raw, more)) if !raw.as_bytes().contains(&b'<') => {
-            let name = arena.try_alloc_str(name)?;
             let value = value_of(alloc, arena, raw)?;
             Ok(Some((Attribute { name, value }, more)))
         }
@@ -48,32 +46,25 @@ fn attribute_at<'a, 't>(
     }
 }
 
-/// The attributes of a tag, in the arena.
-fn kept<'a>(arena: &'a Bump, attrs: &[Attribute<'a>]) -> Result<&'a [Attribute<'a>], NoMemory>
-    ensures { IfOk result (λ s. s.now ≡ attrs.now) }
-{
-    let kept = arena.try_alloc_slice_copy(attrs)?;
-    Ok(kept)
-}
-
-/// Attributes, each behind white space, and whether a `/` ends them. They are collected in a list.
+/// Attributes, each behind white space, collected in a list: whether a `/` ends them.
 fn attributes_in<'a>(
     alloc: Global,
     arena: &'a Bump,
     attrs: &mut Vec<Attribute<'a>>,
     text: &str,
-) -> Result<Option<(&'a [Attribute<'a>], bool)>, NoMemory>
-    ensures { IfOk result (λ r. (n : ℕ) → length text.now < n → option_map attributes_and_end r ≡ attributes_in_of n text.now) }
+) -> Result<Option<bool>, NoMemory>
+    ensures { IfOk result (λ r. (n : ℕ) → length text.now < n
+        → option_map (attributes_and_end attrs.new.items) r ≡ attributes_in_of n text.now) }
 {
     attrs.clear();
     let mut rest = text;
     loop {
         if is_white_text(rest) {
-            return Ok(Some((kept(arena, attrs.as_slice())?, false)));
+            return Ok(Some(false));
         }
         let dark = behind_white(rest);
         if dark == "/" {
-            return Ok(Some((kept(arena, attrs.as_slice())?, true)));
+            return Ok(Some(true));
         }
         if dark.len() == rest.len() {
             return Ok(None);
@@ -92,28 +83,27 @@ fn attributes_in<'a>(
 pub(crate) fn start_tag<'a, 't>(
     alloc: Global,
     arena: &'a Bump,
-    attrs: &mut Vec<Attribute<'a>>,
+    attrs: &'t mut Vec<Attribute<'a>>,
     offset: u64,
     inner: &'t str,
 ) -> Result<Option<Token<'a, 't>>, NoMemory>
     ensures { IfOk result (λ r. option_map token_of r ≡ start_tag_of offset inner.now) }
 {
-    let (name, rest) = split(inner, Stop::TagName);
-    if !is_qname(name) {
+    let (front, rest) = split(inner, Stop::TagName);
+    let Some(name) = kept_name(arena, front)? else {
         return Ok(None);
-    }
+    };
     match attributes_in(alloc, arena, attrs, rest)? {
-        Some((attrs, is_empty)) => {
-            let name = arena.try_alloc_str(name)?;
+        Some(is_empty) => {
             let tag = Tag {
                 offset,
                 name,
-                attrs,
+                attrs: attrs.as_slice(),
             };
             if is_empty {
-                Ok(Some(Token::Empty(tag)))
+                Ok(Some(Token::EmptyTag(tag)))
             } else {
-                Ok(Some(Token::Start(tag)))
+                Ok(Some(Token::StartTag(tag)))
             }
         }
         None => Ok(None),
@@ -126,7 +116,7 @@ pub(crate) fn end_tag<'a, 't>(inner: &'t str) -> Option<Token<'a, 't>>
 {
     let (name, rest) = split(inner, Stop::White);
     if is_qname(name) && is_white_text(rest) {
-        Some(Token::Close(name))
+        Some(Token::EndTag(name))
     } else {
         None
     }

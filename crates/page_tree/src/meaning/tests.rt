@@ -8,14 +8,14 @@ use std::test::Fail;
 fn meaning<'a, 't>(
     alloc: Global,
     arena: &'a Bump,
+    attrs: &'t mut Vec<Attribute<'a>>,
     text: &'t str,
 ) -> Result<Option<Option<Token<'a, 't>>>, NoMemory> {
-    let mut attrs = Vec::new(alloc);
     match whole_size(true, true, text.as_bytes(), unsought()) {
         End::At(size) if size == text.len() => Ok(Some(meant(
             alloc,
             arena,
-            &mut attrs,
+            attrs,
             kind_of(true, text.as_bytes()),
             7,
             text,
@@ -102,7 +102,8 @@ const FORMS: [(&str, bool); 64] = [
 fn constructs_are_of_their_form(rt: HostRuntime) -> Result<(), Fail> {
     let arena = Bump::new(rt.alloc());
     for (text, is_formed) in FORMS {
-        match meaning(rt.alloc(), &arena, text)? {
+        let mut attrs = Vec::new(rt.alloc());
+        match meaning(rt.alloc(), &arena, &mut attrs, text)? {
             Some(token) => assert_eq!(rt; token.is_some(), is_formed, "at {text}"),
             None => assert!(rt; false, "{text} is not one construct"),
         }
@@ -143,8 +144,9 @@ fn values_mean_what_is_written(rt: HostRuntime) -> Result<(), Fail> {
     let arena = Bump::new(rt.alloc());
     for (raw, value) in VALUES {
         let text = format!(in rt.alloc(); "<a b=\"{raw}\">")?;
-        match meaning(rt.alloc(), &arena, text.as_str())? {
-            Some(Some(Token::Start(tag))) => {
+        let mut attrs = Vec::new(rt.alloc());
+        match meaning(rt.alloc(), &arena, &mut attrs, text.as_str())? {
+            Some(Some(Token::StartTag(tag))) => {
                 assert_eq!(rt; tag.attrs.len(), 1);
                 assert!(rt; tag.attrs[0].value == value, "at {raw}");
             }
@@ -171,8 +173,9 @@ const REFERENCES: [(&str, Option<char>); 9] = [
 fn references_mean_characters(rt: HostRuntime) -> Result<(), Fail> {
     let arena = Bump::new(rt.alloc());
     for (text, wanted) in REFERENCES {
-        match meaning(rt.alloc(), &arena, text)? {
-            Some(Some(Token::Refer(ch))) => assert_eq!(rt; ch, wanted, "at {text}"),
+        let mut attrs = Vec::new(rt.alloc());
+        match meaning(rt.alloc(), &arena, &mut attrs, text)? {
+            Some(Some(Token::Reference(ch))) => assert_eq!(rt; ch, wanted, "at {text}"),
             _ => assert!(rt; false, "{text} is no reference"),
         }
     }
@@ -183,16 +186,17 @@ fn references_mean_characters(rt: HostRuntime) -> Result<(), Fail> {
 const MEANINGS: [(&str, &str); 9] = [
     (
         "<a>",
-        "Some(Some(Start(Tag { offset: 7, name: \"a\", attrs: [] })))",
+        "Some(Some(StartTag(Tag { offset: 7, name: Written { name: \"a\", prefix: None, local: \"a\" }, attrs: [] })))",
     ),
     (
         "<a:b c='d' e:f='&x;'/>",
-        "Some(Some(Empty(Tag { offset: 7, name: \"a:b\", attrs: [Attribute { name: \"c\", value: Some(\"d\") }, \
-         Attribute { name: \"e:f\", value: None }] })))",
+        "Some(Some(EmptyTag(Tag { offset: 7, name: Written { name: \"a:b\", prefix: Some(\"a\"), local: \"b\" }, attrs: [\
+         Attribute { name: Written { name: \"c\", prefix: None, local: \"c\" }, value: Some(\"d\") }, \
+         Attribute { name: Written { name: \"e:f\", prefix: Some(\"e\"), local: \"f\" }, value: None }] })))",
     ),
-    ("</a:b\n>", "Some(Some(Close(\"a:b\")))"),
-    ("a\u{20AC} ]]", "Some(Some(Words(\"a\u{20AC} ]]\")))"),
-    ("<![CDATA[<&]]>", "Some(Some(Section(\"<&\")))"),
+    ("</a:b\n>", "Some(Some(EndTag(\"a:b\")))"),
+    ("a\u{20AC} ]]", "Some(Some(Text(\"a\u{20AC} ]]\")))"),
+    ("<![CDATA[<&]]>", "Some(Some(Cdata(\"<&\")))"),
     (
         "<?xml version='1.1' encoding='x'?>",
         "Some(Some(Declaration { version: \"1.1\", encoding: Some(\"x\") }))",
@@ -211,12 +215,19 @@ const MEANINGS: [(&str, &str); 9] = [
     ),
 ];
 
+/// All that a text says, printed.
+fn shown(alloc: Global, arena: &Bump, text: &str) -> Result<String, NoMemory> {
+    let mut attrs = Vec::new(alloc);
+    let token = meaning(alloc, arena, &mut attrs, text)?;
+    let shown = format!(in alloc; "{token:?}")?;
+    Ok(shown)
+}
+
 #[test]
 fn tokens_say_what_stands_there(rt: HostRuntime) -> Result<(), Fail> {
     let arena = Bump::new(rt.alloc());
     for (text, wanted) in MEANINGS {
-        let token = meaning(rt.alloc(), &arena, text)?;
-        let shown = format!(in rt.alloc(); "{token:?}")?;
+        let shown = shown(rt.alloc(), &arena, text)?;
         assert_eq!(rt; shown.as_str(), wanted);
     }
     Ok(())

@@ -4,7 +4,11 @@ use Rattle.std.specs.Borrow.{Bor}
 use Rattle.ix_base.specs.declared.tree.Spot.{Spot}
 use Rattle.ix_base.specs.Elements.{place_of}
 use Rattle.scopes.specs.Kept.{Kept}
+use Rattle.ixds_rows.proofs.PageRows.{own-pages}
 use Rattle.ixds_rows.proofs.texts.texts_of.Goals as goal
+
+pub add_page-requires : goal.add_page-requires
+add_page-requires c = own-pages _ _ _ c.in_ok-root.ensures
 
 pub markup-requires : goal.markup-requires
 markup-requires c =

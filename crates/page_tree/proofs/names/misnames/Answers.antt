@@ -11,7 +11,7 @@ pub returns-then-has_unknown : goal.returns-then-has_unknown
 returns-then-has_unknown c =
     let scope = map bound c.args.scope.now in
     let attrs = map attribute_of c.args.tag.now.attrs.now in
-    let name : is_unbound scope c.args.tag.now.name.now ≡ false = sym c.is_unbound.ensures ∙ c.if-is_unbound.false in
+    let name : is_unbound scope c.args.tag.now.name.name.now ≡ false = sym c.is_unbound.ensures ∙ c.if-is_unbound.false in
     let some : list_any (λ a. not (declares a) && is_unbound scope a.name) attrs ≡ true =
     sym (unbound-is scope attrs) ∙ ap (list_any is_unknown) (sym c.requires.expanded) ∙ sym c.has_unknown.ensures ∙ c.if-has_unknown.true in
     rw (name, some) refl
@@ -20,7 +20,7 @@ pub returns : goal.returns
 returns c =
     let scope = map bound c.args.scope.now in
     let attrs = map attribute_of c.args.tag.now.attrs.now in
-    let name : is_unbound scope c.args.tag.now.name.now ≡ false = sym c.is_unbound.ensures ∙ c.if-is_unbound.false in
+    let name : is_unbound scope c.args.tag.now.name.name.now ≡ false = sym c.is_unbound.ensures ∙ c.if-is_unbound.false in
     let none : list_any (λ a. not (declares a) && is_unbound scope a.name) attrs ≡ false =
     sym (unbound-is scope attrs) ∙ ap (list_any is_unknown) (sym c.requires.expanded) ∙ sym c.has_unknown.ensures ∙ c.if-has_unknown.false in
     rw (name, none) c.has_bad.ensures

@@ -16,9 +16,9 @@ loop-attr-preserved c =
     elim c.match-binding_of.branch [
       | in-Some+in_ok-insert w ↦
           ap (λ m. bound_under (map entered m.entries) (filter_map binding_of (map attribute_of (drop (i + 1) all)))) w.declared-is
-          ∙ declared-next all i _ r c.loop-attr-test.true c.loop-attr.declared.entries w.insert.new.self.entries w.in-Some.binding.prefix w.in-Some.binding.ns w.in_ok-insert.ensures.entries
+          ∙ declared-next all i c.attr-item.result r c.attr-item.is c.loop-attr-test.true c.loop-attr.declared.entries w.insert.new.self.entries w.in-Some.binding.prefix w.in-Some.binding.ns w.in_ok-insert.ensures.entries
           (ap (option_map bound) (sym w.in-Some.is) ∙ c.binding_of.ensures) c.loop-attr.invariant
       | in_default w ↦
           ap (λ m. bound_under (map entered m.entries) (filter_map binding_of (map attribute_of (drop (i + 1) all)))) w.declared-is
-          ∙ declared-past all i _ r c.loop-attr-test.true c.loop-attr.declared.entries (ap (option_map bound) (sym w.in_default.is) ∙ c.binding_of.ensures) c.loop-attr.invariant
+          ∙ declared-past all i c.attr-item.result r c.attr-item.is c.loop-attr-test.true c.loop-attr.declared.entries (ap (option_map bound) (sym w.in_default.is) ∙ c.binding_of.ensures) c.loop-attr.invariant
     ]

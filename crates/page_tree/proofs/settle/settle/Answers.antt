@@ -1,4 +1,4 @@
-use Rattle.std.proofs.Common.{◌≡◌, ◌+◌, ◌==◌, ◌&&◌, false, drop, length, Ok, refl, sym, ap, ◌∙◌, subst, arith}
+use Rattle.std.proofs.Common.{◌≡◌, ◌+◌, ◌==◌, ◌&&◌, drop, length, Ok, refl, sym, ap, subst, arith}
 use Rattle.std.proofs.lemmas.Str.{IsCharBoundary-start}
 use Rattle.page_tree.specs.Acting.{Leads, Breaks}
 use Rattle.page_tree.specs.Break.{fault}
@@ -14,12 +14,10 @@ pub constructs-init : goal.constructs-init
 constructs-init c = record {
   boundary = IsCharBoundary-start c.args.text.now c.utf8.text;
   behind = λ n. absurd (n refl);
-  depth = refl;
-  page = refl;
   on_page = λ h. h;
   sought = subst (λ x. IsSought x c.args.text.now c.args.sought) (sym (same-front c.args.first)) c.requires.sought;
-  leads = λ us h. subst (λ x. Leads c.args.ended c.args.building.now.depth (state_of c.args.building.now) c.args.first us (state_of c.args.building.now) x us) (sym (same-front c.args.first))
-      (leads-stay c.args.ended c.args.building.now.depth (state_of c.args.building.now) c.args.first us);
+  leads = λ us h. subst (λ x. Leads c.args.ended c.args.setting.now.depth (state_of c.args.building.now) c.args.first us (state_of c.args.building.now) x us) (sym (same-front c.args.first))
+      (leads-stay c.args.ended c.args.setting.now.depth (state_of c.args.building.now) c.args.first us);
 }
 
 pub step_at-requires-clause-within : goal.step_at-requires-clause-within
@@ -36,7 +34,7 @@ step_at-requires-clause-sought c = c.constructs.invariant.sought
 
 pub returns-in-Waits-clause-leads : goal.returns-in-Waits-clause-leads
 returns-in-Waits-clause-leads c = λ q us h.
-    subst (λ b. Leads c.args.ended c.args.building.now.depth (state_of c.args.building.now) c.args.first us (state_of b) (c.args.first && (c.constructs.at == 0)) (drop c.constructs.at us))
+    subst (λ b. Leads c.args.ended c.args.setting.now.depth (state_of c.args.building.now) c.args.first us (state_of b) (c.args.first && (c.constructs.at == 0)) (drop c.constructs.at us))
     (sym (c.in_ok-sought.ensures.waits c.in-Waits.sought (ap Ok c.in-Waits.is)).1) (c.constructs.invariant.leads us h)
 
 pub returns-in-Waits-clause-whole : goal.returns-in-Waits-clause-whole
@@ -49,11 +47,10 @@ pub returns-in-Breaks-clause-breaks : goal.returns-in-Breaks-clause-breaks
 returns-in-Breaks-clause-breaks c = λ b q us h.
     let is : c.in-Breaks.broken ≡ b = cc in
     let here = c.in_ok-sought.ensures.breaks c.in-Breaks.broken (ap Ok c.in-Breaks.is) us h in
-    let n = c.constructs.invariant.depth in
-    subst (λ x. Breaks c.args.ended c.args.building.now.depth (state_of c.args.building.now) c.args.first us (fault x.offset x.rule)) is
-    (breaks-on c.args.ended c.args.building.now.depth (state_of c.args.building.now) (state_of c.constructs.building) c.args.first (c.args.first && (c.constructs.at == 0)) us (drop c.constructs.at us)
+    subst (λ x. Breaks c.args.ended c.args.setting.now.depth (state_of c.args.building.now) c.args.first us (fault x.offset x.rule)) is
+    (breaks-on c.args.ended c.args.setting.now.depth (state_of c.args.building.now) (state_of c.constructs.building) c.args.first (c.args.first && (c.constructs.at == 0)) us (drop c.constructs.at us)
     (fault c.in-Breaks.broken.offset c.in-Breaks.broken.rule) (c.constructs.invariant.leads us h)
-    (subst (λ d. Breaks c.args.ended d (state_of c.constructs.building) (c.args.first && (c.constructs.at == 0)) (drop c.constructs.at us) (fault c.in-Breaks.broken.offset c.in-Breaks.broken.rule)) n here))
+    here)
 
 pub constructs-smaller : goal.constructs-smaller
 constructs-smaller c = let t = c.in_ok-sought.ensures.takes c.in-Takes.size (ap Ok c.in-Takes.is) in let p = t.0 in let b = t.1 in omega arith
@@ -61,22 +58,19 @@ constructs-smaller c = let t = c.in_ok-sought.ensures.takes c.in-Takes.size (ap 
 pub constructs-preserved : goal.constructs-preserved
 constructs-preserved c =
     let t = c.in_ok-sought.ensures.takes c.in-Takes.size (ap Ok c.in-Takes.is) in
-    let n = c.constructs.invariant.depth in
-    let d = c.args.building.now.depth in
+    let d = c.args.setting.now.depth in
     let at = c.constructs.at in
     let next = c.constructs.at + c.in-Takes.size in
     record {
       boundary = t.1;
       behind = λ z. behind-step c.args.ended c.args.first c.args.text.now c.args.places.even at c.in-Takes.size c.requires.even c.requires.unsettled c.constructs.invariant.behind t.2;
-      depth = c.in_ok-sought.ensures.same.0 ∙ n;
-      page = c.in_ok-sought.ensures.same.1 ∙ c.constructs.invariant.page;
       on_page = λ h. c.in_ok-sought.ensures.on_page (c.constructs.invariant.on_page h);
       sought = sought-none (c.args.first && (next == 0)) (drop next c.args.text.now) c.unsought-sought.result c.unsought-sought.ensures;
       leads = λ us h. leads-on c.args.ended d (state_of c.args.building.now) (state_of c.constructs.building) (state_of c.step_at.new.building) c.args.first (c.args.first && (at == 0)) (c.args.first && (next == 0))
           us (drop at us) (drop next us) (c.constructs.invariant.leads us h)
           (subst (λ x. Leads c.args.ended d (state_of c.constructs.building) (c.args.first && (at == 0)) (drop at us) (state_of c.step_at.new.building) x (drop next us))
           (sym (not-front c.args.first next (let p = t.0 in omega arith)))
-          (subst (λ x. Leads c.args.ended x (state_of c.constructs.building) (c.args.first && (at == 0)) (drop at us) (state_of c.step_at.new.building) false (drop next us)) n (t.3 us h)));
+          (t.3 us h));
     }
 
 pub overflow_add-at : goal.overflow_add-at

@@ -1,4 +1,4 @@
-use Rattle.std.proofs.Common.{◌≡◌, ◌≢◌, ◌≤◌, ◌-◌, ◌==◌, ◌&&◌, List, length, drop}
+use Rattle.std.proofs.Common.{◌≢◌, ◌≤◌, ◌-◌, ◌==◌, ◌&&◌, List, length, drop}
 use Rattle.std.specs.Str.{IsCharBoundary}
 use Rattle.page_tree.specs.Acting.{Leads}
 use Rattle.page_tree.specs.Buildings.{state_of, IsOnPage}
@@ -10,12 +10,10 @@ use Rattle.page_tree.proofs.settle.settle.Given as goal
 pub record Goes (l : goal.Live-constructs) : Type 0 where
   pub boundary : IsCharBoundary l.text l.at
   pub behind : l.at ≢ 0 → l.places.even ≤ l.at
-  pub depth : l.building.depth ≡ l.initial.building.depth
-  pub page : l.building.page ≡ l.initial.building.page
-  pub on_page : IsOnPage l.initial.building.page l.initial.building → IsOnPage l.building.page l.building
+  pub on_page : IsOnPage l.setting.page l.initial.building → IsOnPage l.setting.page l.building
   pub sought : IsSought (l.first && (l.at == 0)) (drop l.at l.text) l.sought
   pub leads : (us : List Byte) → IsPlaced l.text l.places us
-      → Leads l.ended l.initial.building.depth (state_of l.initial.building) l.first us (state_of l.building) (l.first && (l.at == 0)) (drop l.at us)
+      → Leads l.ended l.setting.depth (state_of l.initial.building) l.first us (state_of l.building) (l.first && (l.at == 0)) (drop l.at us)
 
 abbrev pub invariant-constructs : goal.invariant-constructs
 invariant-constructs l = Goes l

@@ -14,7 +14,7 @@ returns-clause-takes c = λ k q.
     let t = c.step.ensures.takes k q in
     let text = c.args.text.now in
     let at = c.args.at in
-    let d = c.args.building.now.depth in
+    let d = c.args.setting.now.depth in
     let s = state_of c.args.building.now in
     let u = state_of c.step.new.building in
     let rest = c.split_at.ensures.back in
@@ -32,7 +32,7 @@ pub returns-clause-breaks : goal.returns-clause-breaks
 returns-clause-breaks c = λ b q us h.
     let text = c.args.text.now in
     let at = c.args.at in
-    subst (λ x. Breaks c.args.ended c.args.building.now.depth (state_of c.args.building.now) x (drop at us) (fault b.offset b.rule)) c.is_front.ensures
+    subst (λ x. Breaks c.args.ended c.args.setting.now.depth (state_of c.args.building.now) x (drop at us) (fault b.offset b.rule)) c.is_front.ensures
     (c.step.ensures.breaks b q (drop at us) (says-behind text c.args.places us at h ∙ sym c.split_at.ensures.back)
     (offset-first text c.args.places us at c.requires.behind c.requires.within h ∙ sym c.offset-start.ensures))
 

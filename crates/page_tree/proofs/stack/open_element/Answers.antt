@@ -10,5 +10,5 @@ returns-clause-frame c outer e =
     let scope = map bound c.args.scope.now in
     let head = head-is outer scope (tag_of c.args.tag.now) _ _ e c.element_name.ensures
     (c.in_ok-attrs.ensures ∙ ap (map (λ x. x.valued)) c.requires.expanded ∙ valued-is scope (map attribute_of c.args.tag.now.attrs.now)) in
-    let done : nodes_of c.new.result.items ≡ none = ap nodes_of c.new.ensures.items in
-    λ i. record { written = c.args.tag.now.name.now; head = head i; done = done i }
+    let done : nodes_of c.args.children.items ≡ none = ap nodes_of c.requires.children in
+    λ i. record { written = c.args.tag.now.name.name.now; head = head i; done = done i }

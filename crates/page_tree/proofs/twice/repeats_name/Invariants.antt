@@ -5,4 +5,4 @@ use Rattle.page_tree.proofs.twice.repeats_name.Given as goal
 
 abbrev pub invariant-loop-attr : goal.invariant-loop-attr
 invariant-loop-attr l =
-    name-twice l.seen.keys (map (λ a. a.name.now) (drop l.attr-index l.attrs)) ≡ repeats_by bytes_eq (map (λ a. a.name.now) l.attrs)
+    name-twice l.seen.keys (map (λ a. a.name.name.now) (drop l.attr-index l.attrs)) ≡ repeats_by bytes_eq (map (λ a. a.name.name.now) l.attrs)

@@ -1,5 +1,6 @@
-use Rattle.std.proofs.Common.{sym, ap, ◌∙◌, ◌∷◌, []}
-use Rattle.page_text.proofs.Readings.{after-stuck, due-stuck, pushed-after}
+use Rattle.std.proofs.Common.{◌∷◌, [], ◌∙◌, ap, arith, subst, sym}
+use Rattle.page_text.proofs.InOrder.{byte-within}
+use Rattle.page_text.proofs.Readings.{IsSound, after-stuck, due-stuck, held-sound, pushed-after}
 use Rattle.page_text.proofs.feed.Feed.step.Goals as goal
 
 pub returns-then-is_some-clause-state : goal.returns-then-is_some-clause-state
@@ -16,3 +17,15 @@ returns-then-byte-lt128-clause-counts c = ap (λ r. r.pushed) c.step_ascii.ensur
 
 pub returns-else-self-eq0-clause-counts : goal.returns-else-self-eq0-clause-counts
 returns-else-self-eq0-clause-counts c = ap (λ r. r.pushed) c.step_behind_part.ensures.state ∙ pushed-after c.args.self.now (c.args.byte ∷ [])
+
+pub returns-then-byte-lt128-clause-within : goal.returns-then-byte-lt128-clause-within
+returns-then-byte-lt128-clause-within c =
+    let f = c.self.inside in
+    let sound = subst IsSound c.self.view_is (held-sound f.pushed f.held f.part f.after_cr f.fault (omega arith) c.self.invariant.1 c.self.invariant.2) in
+    byte-within c.args.self.now c.step_ascii.new.self c.args.byte c.step_ascii.result sound c.step_ascii.ensures.state c.step_ascii.ensures.given
+
+pub returns-else-self-eq0-clause-within : goal.returns-else-self-eq0-clause-within
+returns-else-self-eq0-clause-within c =
+    let f = c.self.inside in
+    let sound = subst IsSound c.self.view_is (held-sound f.pushed f.held f.part f.after_cr f.fault (omega arith) c.self.invariant.1 c.self.invariant.2) in
+    byte-within c.args.self.now c.step_behind_part.new.self c.args.byte c.step_behind_part.result sound c.step_behind_part.ensures.state c.step_behind_part.ensures.given

@@ -1,4 +1,7 @@
 use Rattle.std.proofs.Common.{◌≡◌, ◌∙◌, sym, ap, subst, arith, take, refl, [], None}
+use Rattle.std.proofs.lemmas.Str.{IsUtf8-nil, chars-nil}
+use Rattle.page_text.specs.Plain.{marks_from}
+use Rattle.page_text.proofs.PlainRuns.{text-plain}
 use Rattle.page_text.proofs.Readings.{IsSound, held-sound, after-nil, due-nil}
 use Rattle.page_text.proofs.Plain.{plain-after, plain-due, no-fault}
 use Rattle.page_text.proofs.feed.Feed.take_plain.Goals as goal
@@ -13,7 +16,10 @@ pub returns-then-is_some-clause-shown : goal.returns-then-is_some-clause-shown
 returns-then-is_some-clause-shown c =
     let f = c.self.inside in
     let sound = subst IsSound c.self.view_is (held-sound f.pushed f.held f.part f.after_cr f.fault (omega arith) c.self.invariant.1 c.self.invariant.2) in
-    due-nil c.args.self.now [] refl sound
+    due-nil c.args.self.now [] refl sound ∙ ap (marks_from c.args.self.now.pushed) (sym chars-nil)
+
+pub returns-then-is_some-clause-plain : goal.returns-then-is_some-clause-plain
+returns-then-is_some-clause-plain c = text-plain [] IsUtf8-nil refl
 
 pub returns-clause-state : goal.returns-clause-state
 returns-clause-state c =

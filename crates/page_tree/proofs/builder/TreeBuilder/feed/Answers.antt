@@ -12,7 +12,7 @@ returns-then-is_some-clause-stands c = λ b h.
       built = record {
         read = record {
           reads = λ n. absurd (let q = ap is_some n in cc);
-          led = led-behind t.building t.pending t.broken b c.args.piece.now some h.built.read.led;
+          led = led-behind t.setting t.building t.pending t.broken b c.args.piece.now some h.built.read.led;
         };
         waits = λ n. absurd (let q = ap is_some n in cc);
       };

@@ -12,4 +12,4 @@ skip_to-requires c =
 pub returns-clause-led : goal.returns-clause-led
 returns-clause-led c = λ b h.
     let t = c.work_off.new.self in
-    led-moved t.building t.pending c.skip_to.new.self t.broken b c.skip_to.ensures.same.1 c.skip_to.ensures.bytes (c.in_ok-work_off.ensures.led b h)
+    led-moved t.setting t.building t.pending c.skip_to.new.self t.broken b c.skip_to.ensures.same.1 c.skip_to.ensures.bytes (c.in_ok-work_off.ensures.led b h)

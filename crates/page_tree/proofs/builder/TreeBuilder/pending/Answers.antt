@@ -15,11 +15,11 @@ returns-then-is_some c = λ b h.
     elim c.then-is_some.branch [
       | then-is_some-via-then-is_some w ↦
           let x = is-some t.broken (sym c.is_some.ensures ∙ w.if-is_some.true) in
-          sym (pending-broken b t.building.depth (fault_at x.0) (h.built.read.led.breaks x.0 x.1))
+          sym (pending-broken b t.setting.depth (fault_at x.0) (h.built.read.led.breaks x.0 x.1))
       | then-is_some-via-else-is_some+then-is_broken w ↦
           let n = is-none t.broken (sym c.is_some.ensures ∙ w.if-is_some.false) in
           let x = is-some t.feed.fault (sym w.is_broken.ensures ∙ w.if-is_broken.true) in
-          sym (pending-stopped b t.building.depth x.0 (sym (stops t.feed b (h.built.read.reads n)) ∙ x.1))
+          sym (pending-stopped b t.setting.depth x.0 (sym (stops t.feed b (h.built.read.reads n)) ∙ x.1))
     ]
 
 pub returns : goal.returns
@@ -30,5 +30,5 @@ returns c = λ b h.
     let x = h.built.read.led.leads n in
     let count : c.count.result ≡ length (chars (string_bytes t.pending.text)) = search (rules, chars_from_encodes) in
     count ∙ ap (λ y. length (chars y)) (sym x.waits.says)
-    ∙ sym (pending-left b t.building.depth (state_of t.building) t.pending.is_first x.left x.leads (sym (stops t.feed b (h.built.read.reads n)) ∙ o)
+    ∙ sym (pending-left b t.setting.depth (state_of t.building) t.pending.is_first x.left x.leads (sym (stops t.feed b (h.built.read.reads n)) ∙ o)
     (ap (whole_size false t.pending.is_first) x.waits.says ∙ h.built.waits n))

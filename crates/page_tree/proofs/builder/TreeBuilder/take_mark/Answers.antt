@@ -9,7 +9,7 @@ use Rattle.page_tree.proofs.builder.TreeBuilder.take_mark.Goals as goal
 pub returns-in_default-clause-led : goal.returns-in_default-clause-led
 returns-in_default-clause-led c = λ b d e h.
     let t = c.args.self.now in
-    led-same t.building t.pending t.broken b d (ap spread (e ∙ ap (λ o. begun b ++ option_to_list o) c.in_default.is ∙ append-nil (begun b))) h
+    led-same t.setting t.building t.pending t.broken b d (ap spread (e ∙ ap (λ o. begun b ++ option_to_list o) c.in_default.is ∙ append-nil (begun b))) h
 
 pub returns-clause-led : goal.returns-clause-led
 returns-clause-led c = on-ok c.take_text.result (λ f b d e h.

@@ -12,15 +12,15 @@ returns-then-is_empty-clause-read c = λ b h.
     let text = c.take_plain-run.result.text.now in
     let piece = c.args.piece.now in
     let run = c.take_plain-run.ensures in
-    let byte = c.read_byte-mark.ensures in
+    let byte = c.step-mark.ensures in
     let s = h.reads c.requires.whole in
     let none : text ≡ [] = no-bytes text (sym c.is_empty.ensures ∙ c.if-is_empty.true) in
     let cut = one-taken piece 0 c.requires.some in
     record {
       reads = λ n. subst (λ x. Stands x (b ++ take 1 piece)) (sym c.in_ok-take_mark.ensures.feed)
-          (byte-stands t.feed c.take_plain-run.new.self b text piece s run.state run.shown none _ c.read_byte-mark.new.feed (option_to_list c.read_byte-mark.result) byte.state byte.mark cut);
+          (byte-stands t.feed c.take_plain-run.new.self b text piece s run.state run.shown none _ c.step-mark.new.self (option_to_list c.step-mark.result) byte.state byte.given cut);
       led = c.in_ok-take_mark.ensures.led b (b ++ take 1 piece)
-          (byte-begun t.feed c.take_plain-run.new.self b text piece s run.state run.shown none _ c.read_byte-mark.new.feed (option_to_list c.read_byte-mark.result) byte.state byte.mark cut) h.led;
+          (byte-begun t.feed c.take_plain-run.new.self b text piece s run.state run.shown none _ c.step-mark.new.self (option_to_list c.step-mark.result) byte.state byte.given cut) h.led;
     }
 
 pub returns-clause-read : goal.returns-clause-read

@@ -18,7 +18,7 @@ returns-then-is_some-clause-built c = λ b h.
     record {
       read = record {
         reads = λ z. absurd (let q = ap is_some z in cc);
-        led = subst (HasLedTo t.building t.pending t.broken) (taken-all b piece (at + n)) (led-behind t.building t.pending t.broken (b ++ take (at + n) piece) (drop (at + n) piece) some read.led);
+        led = subst (HasLedTo t.setting t.building t.pending t.broken) (taken-all b piece (at + n)) (led-behind t.setting t.building t.pending t.broken (b ++ take (at + n) piece) (drop (at + n) piece) some read.led);
       };
       waits = λ z. absurd (let q = ap is_some z in cc);
     }
@@ -34,7 +34,7 @@ parts-preserved c =
       within = (let m : n ≤ length (drop at piece) = subst (λ x. n ≤ length x) (slice-rest piece at) e.bounds.1 in let w = i.within in let l = length-drop at piece in omega arith);
       whole = is-none c.take_part.new.self.broken (sym c.is_some.ensures ∙ c.if-is_some.false);
       counts = (let x = e.counts in let y = i.counts in omega arith);
-      same = record { limit = e.same.limit ∙ i.same.limit; page = e.same.page ∙ i.same.page; fed = e.same.fed ∙ i.same.fed; spent = e.same.spent ∙ i.same.spent };
+      same = record { setting = e.same.setting ∙ i.same.setting; fed = e.same.fed ∙ i.same.fed; spent = e.same.spent ∙ i.same.spent };
       read = λ b h. subst (HasRead c.take_part.new.self) (taken-slice b piece at n i.within) (e.read (b ++ take at piece) (i.read b h));
     }
 

@@ -13,10 +13,10 @@ append-requires-clause-next c =
 pub returns-then-is_some-clause-led : goal.returns-then-is_some-clause-led
 returns-then-is_some-clause-led c = λ b d e h.
     let t = c.make_way.new.self in
-    led-broken t.building t.pending t.broken b d (counted c.args.offset c.args.text.now) e (sym c.is_some.ensures ∙ c.if-is_some.true) (c.in_ok-make_way.ensures.led b h)
+    led-broken t.setting t.building t.pending t.broken b d (counted c.args.offset c.args.text.now) e (sym c.is_some.ensures ∙ c.if-is_some.true) (c.in_ok-make_way.ensures.led b h)
 
 pub returns-clause-led : goal.returns-clause-led
 returns-clause-led c = on-ok c.append.result (λ f b d e h.
     let t = c.make_way.new.self in
-    led-text t.building t.pending t.broken b d c.append.new.self (counted c.args.offset c.args.text.now) e (is-none t.broken (sym c.is_some.ensures ∙ c.if-is_some.false)) c.append.ensures.first f
+    led-text t.setting t.building t.pending t.broken b d c.append.new.self (counted c.args.offset c.args.text.now) e (is-none t.broken (sym c.is_some.ensures ∙ c.if-is_some.false)) c.append.ensures.first f
     (c.in_ok-make_way.ensures.led b h)) c.append.ensures.bytes

@@ -1,4 +1,4 @@
-use Rattle.std.proofs.Common.{◌≡◌, [], rules, Some, true, false, arith, sym, ap, ◌∙◌, subst, map, length, bytes_eq}
+use Rattle.std.proofs.Common.{◌≡◌, [], rules, true, false, arith, sym, ap, ◌∙◌, subst, map, length, bytes_eq}
 use Rattle.page_tree.specs.Meanings.{attribute_at, behind_white, slash}
 use Rattle.page_tree.specs.Views.{attribute_of}
 use Rattle.page_tree.proofs.TagReading.{SoFar, so-far-none, so-far-more, end-white, end-slash, end-joined, end-bad, apart, joined, map-push}
@@ -11,14 +11,12 @@ loop-rest-init c =
 
 pub returns-then-is_white_text : goal.returns-then-is_white_text
 returns-then-is_white_text c = λ n l.
-    ap (λ x. Some (map attribute_of x, false)) (c.in_ok-kept.ensures ∙ c.as_slice.ensures.value)
-    ∙ end-white (map attribute_of c.loop-rest.attrs.items) c.loop-rest.rest.now c.args.text.now n (c.loop-rest.invariant.1 n l) (sym c.if-is_white_text.ensures)
+    end-white (map attribute_of c.loop-rest.attrs.items) c.loop-rest.rest.now c.args.text.now n (c.loop-rest.invariant.1 n l) (sym c.if-is_white_text.ensures)
 
 pub returns-then-eq : goal.returns-then-eq
 returns-then-eq c = λ n l.
     let ends : bytes_eq (behind_white c.loop-rest.rest.now) slash ≡ true = ap (λ x. bytes_eq x slash) (sym c.behind_white-dark.ensures) ∙ sym c.if-eq.ensures in
-    ap (λ x. Some (map attribute_of x, true)) (c.in_ok-kept-2.ensures ∙ c.as_slice-then-eq.ensures.value)
-    ∙ end-slash (map attribute_of c.loop-rest.attrs.items) c.loop-rest.rest.now c.args.text.now n (c.loop-rest.invariant.1 n l) (sym c.if-is_white_text.ensures) ends
+    end-slash (map attribute_of c.loop-rest.attrs.items) c.loop-rest.rest.now c.args.text.now n (c.loop-rest.invariant.1 n l) (sym c.if-is_white_text.ensures) ends
 
 pub returns-then-dark-rest : goal.returns-then-dark-rest
 returns-then-dark-rest c = λ n l.

@@ -10,23 +10,19 @@ use Rattle.page_tree.proofs.Spelled.{st}
 use Rattle.page_tree.proofs.StateLaws.{opening-is}
 use Rattle.page_tree.proofs.tree.Building.open.Goals as goal
 
-pub returns-clause-state : goal.returns-clause-state
-returns-clause-state c =
-    let s = state_of c.args.self.now in
-    let o = c.in_ok-element.element in
-    let mid = c.begin.new.self.elements.items in
-    let pushed : c.push.new.self.items ≡ mid ++ o ∷ [] = search rules in
-    let rest = c.in_ok-element.ensures.rest in
-    (λ i. st (frames_of c.push.new.self.items) (string_bytes c.begin.new.self.text) (option_map (λ (e : Bor Element). tree_of e.now) (rest.0 i)) (rest.1 i))
-    ∙ opening-is s (tag_of c.args.tag.now) mid c.push.new.self.items o _ pushed c.in_ok-element.ensures.frames c.in_ok-element.ensures.frame c.in_ok-element.ensures.text
-
-pub returns-clause-on_page : goal.returns-clause-on_page
-returns-clause-on_page c all =
+pub returns : goal.returns
+returns c =
+    let page = c.args.setting.now.page in
     let b = c.args.self.now in
+    let s = state_of b in
     let o = c.in_ok-element.element in
     let mid = c.begin.new.self.elements.items in
     let more = c.push.new.self.items in
     let pushed : more ≡ mid ++ o ∷ [] = search rules in
-    subst (λ p. AreAll p (pages_built more c.begin.new.self.root)) (sym c.in_ok-element.ensures.same.1)
-    (subst (λ r. AreAll b.page (pages_built more r)) (sym c.in_ok-element.ensures.rest.0)
-    (open-built b.page b.elements.items mid more o b.root c.in_ok-element.ensures.on_page pushed c.in_ok-element.ensures.pages all))
+    let rest = c.in_ok-element.ensures.rest in
+    record {
+      state = (λ i. st (frames_of more) (string_bytes c.begin.new.self.text) (option_map (λ (e : Bor Element). tree_of e.now) (rest.0 i)) (rest.1 i))
+          ∙ opening-is s (tag_of c.args.tag.now) mid more o _ pushed c.in_ok-element.ensures.frames c.in_ok-element.ensures.frame c.in_ok-element.ensures.text;
+      on_page = λ all. subst (λ r. AreAll page (pages_built more r)) (sym rest.0)
+          (open-built page b.elements.items mid more o b.root c.in_ok-element.ensures.on_page pushed c.in_ok-element.ensures.pages all);
+    }
