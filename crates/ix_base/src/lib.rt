@@ -2,6 +2,7 @@
 //! in memory that stand in for it.
 #![tactic(auto)]
 
+mod allowed;
 mod attribute;
 mod breach;
 pub mod breach_laws;
@@ -23,6 +24,7 @@ mod text;
 mod tree;
 mod white;
 
+pub use allowed::{are_allowed, is_allowed};
 pub use attribute::{attr_of, token_at};
 pub use breach::{Breach, Breaches, Class, Found, Report};
 pub use content::{

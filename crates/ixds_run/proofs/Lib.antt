@@ -13,6 +13,7 @@ pub mod ReadBackLaws
 pub mod ReadLaws
 pub mod RearrangedPages
 pub mod ReportLaws
+mod SoundPages
 pub mod SummaryLaws
 pub mod Taken
 pub mod TargetLaws

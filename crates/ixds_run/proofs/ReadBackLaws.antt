@@ -1,7 +1,6 @@
 -- What pages say is read back.
-use Rattle.std.proofs.Common.{ℕ, List, [], ◌∷◌, All, inl, inr}
-use Rattle.std.proofs.lemmas.List.Elements.{All-cons, All-nil, All-weaker}
-use Rattle.ix_base.specs.Located.{Paged}
+use Rattle.std.proofs.Common.{ℕ, List, [], ◌∷◌, inl, inr}
+use Rattle.std.proofs.lemmas.List.Elements.{All-weaker}
 use Rattle.ix_base.specs.Said.{said_of}
 use Rattle.ix_base.specs.Sound.{IsSoundTree}
 use Rattle.ix_base.specs.Trees.{Tree}
@@ -18,8 +17,9 @@ use Rattle.targets.specs.declared.outcome.Outcome.TheVariants.{Broken, Whole}
 use Rattle.targets.specs.declared.outcome.Target.{Target}
 use Rattle.targets.proofs.ProperLaws.{comes-proper}
 use Rattle.ixds_run.specs.Made.{paged}
-use Rattle.ixds_run.specs.Outcomes.{AreReadBack, AreTrees, Says}
+use Rattle.ixds_run.specs.Outcomes.{AreReadBack, Says}
 use Rattle.ixds_run.specs.Told.{on_page, text_faults}
+use Rattle.ixds_run.proofs.SoundPages.{sound_pages}
 
 -- a report has no targets
 report_back : (names : List (List ℕ)) (found : List Found) (o : Outcome) → IsReport names found o → AreReadBack o
@@ -30,14 +30,6 @@ module _
     (sound : (b : List ℕ) (n : ℕ) (t : Tree) → page b n t → IsSoundTree t n)
     (back : (c : Content) → Proper (said_of c) → IsReadBack (canon c) c)
   where
-    -- the trees of pages are sound
-    sound_pages : (names bs : List (List ℕ)) (trees : List Tree) → AreTrees bs trees → All (λ (p : Paged). IsSoundTree p.tree 256) (paged names trees)
-    sound_pages [] bs trees are = All-nil (λ (p : Paged). IsSoundTree p.tree 256)
-    sound_pages (name ∷ names) bs [] are = All-nil (λ (p : Paged). IsSoundTree p.tree 256)
-    sound_pages (name ∷ names) [] (t ∷ trees) are = absurd are
-    sound_pages (name ∷ names) (b ∷ bs) (t ∷ trees) are =
-        All-cons (λ (p : Paged). IsSoundTree p.tree 256) (record { name = name; tree = t }) (paged names trees) (sound b 256 t are.0) (sound_pages names bs trees are.1)
-
     proper_back : (o : Outcome) → AreProper o → AreReadBack o
     proper_back (Broken report) h = tt
     proper_back (Whole ts) h =
@@ -47,4 +39,4 @@ module _
     said_back base names bs o (inl (rule, set, report)) = report_back names (on_page 0 0 rule ∷ []) o report
     said_back base names bs o (inr (kept, inl (some, report))) = report_back names (text_faults 0 bs) o report
     said_back base names bs o (inr (kept, inr (trees, are, made))) =
-        proper_back o (comes-proper (record { base = base; pages = paged names trees }) (sound_pages names bs trees are) o made)
+        proper_back o (comes-proper (record { base = base; pages = paged names trees }) (sound_pages sound names bs trees are) o made)

@@ -1,9 +1,8 @@
 -- Pages that are handed over in another order say the same.
-use Rattle.std.proofs.Common.{◌≡◌, ◌≢◌, ◌∙◌, ◌++◌, ◌+◌, ap, inl, inr, refl, subst, sym, ⊎_elim, ℕ, suc, Bool, true, false, List, [], ◌∷◌, All, length, map, Option, Some, None, arith}
+use Rattle.std.proofs.Common.{◌≡◌, ◌≢◌, ◌∙◌, ◌++◌, ◌+◌, ap, inl, inr, refl, subst, sym, ⊎_elim, ℕ, suc, Bool, true, false, List, [], ◌∷◌, length, map, Option, Some, None, arith}
 use Rattle.std.specs.Prelude.{nat_lt, if◌then◌else◌}
 use Rattle.std.specs.List.Sorted.{IsPermutation}
 use Rattle.std.proofs.lemmas.List.Sorted.{IsPermutation-append, IsPermutation-append_comm, IsPermutation-cons, IsPermutation-refl}
-use Rattle.std.proofs.lemmas.List.Elements.{All-cons, All-nil}
 use Rattle.ix_base.specs.declared.breach.Class.TheVariants as class
 use Rattle.ix_base.specs.declared.breach.Found.{Found}
 use Rattle.ix_base.specs.declared.rule.Rule.{Rule}
@@ -23,6 +22,7 @@ use Rattle.ixds_run.specs.Outcomes.{AreTrees, Says}
 use Rattle.ixds_run.specs.Rearrangement.{Handed, names_of, bytes_of}
 use Rattle.ixds_run.specs.Sizes.{size_rule, tags_in}
 use Rattle.ixds_run.specs.Told.{all_tags_in, bytes_in, fault_row, on_page, set_rule, text_fault, text_faults}
+use Rattle.ixds_run.proofs.SoundPages.{sound_pages}
 use Rattle.targets.proofs.Exchanged.{exchanged, numbered, said_at, swap_at}
 use Rattle.targets.proofs.FaultsMoved.{found_moved}
 use Rattle.targets.proofs.Rearranged.{rearranged}
@@ -105,13 +105,6 @@ trees-exchanged (p ∷ front) back a b (t ∷ ts) h =
 -- All.
 
 module _ (sound : (b : List ℕ) (n : ℕ) (t : Tree) → page b n t → IsSoundTree t n) where
-  all-sound : (ps : List Handed) (ts : List Tree) → AreTrees (bytes_of ps) ts → All (λ p. IsSoundTree p.tree 256) (paged (names_of ps) ts)
-  all-sound [] [] h = All-nil (λ (p : Paged). IsSoundTree p.tree 256)
-  all-sound [] (t ∷ ts) h = absurd h
-  all-sound (p ∷ ps) [] h = absurd h
-  all-sound (p ∷ ps) (t ∷ ts) h =
-      All-cons (λ (q : Paged). IsSoundTree q.tree 256) (record { name = p.name; tree = t }) (paged (names_of ps) ts) (sound p.bytes 256 t h.0) (all-sound ps ts h.1)
-
   module _ (base : List ℕ) (o : Outcome) where
     abbrev Say : List Handed → Type 0
     Say ps = Says base (names_of ps) (bytes_of ps) o
@@ -133,7 +126,7 @@ module _ (sound : (b : List ℕ) (n : ℕ) (t : Tree) → page b n t → IsSound
         ) in
         let made : (ts : List Tree) × AreTrees (bytes_of P) ts × Made base (names_of P) ts o → (ts : List Tree) × AreTrees (bytes_of Q) ts × Made base (names_of Q) ts o =
         λ s. (let next = trees-exchanged front back a b s.0 s.1 in
-        (next.0, next.1, rearranged base (paged (names_of P) s.0) (paged (names_of Q) next.0) next.2 (all-sound P s.0 s.1) o s.2)) in
+        (next.0, next.1, rearranged base (paged (names_of P) s.0) (paged (names_of Q) next.0) next.2 (sound_pages sound (names_of P) (bytes_of P) s.0 s.1) o s.2)) in
         ⊎_elim size (λ e. inr (sym same ∙ e.0, ⊎_elim (λ s. inl (text s)) (λ s. inr (made s)) e.1)) h
 
     pub says-rearranged : (ps qs : List Handed) → IsPermutation ps qs → Say ps → Say qs

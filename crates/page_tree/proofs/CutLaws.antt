@@ -4,7 +4,7 @@ use Rattle.std.specs.List.{list_all}
 use Rattle.std.proofs.lemmas.List.{drop-append-le}
 use Rattle.std.proofs.lemmas.Bool.{and_parts}
 use Rattle.ix_base.specs.NcName.{is_white}
-use Rattle.page_tree.specs.Constructs.{starts, after, after_tag, text_size, reference_size, starts_white, kind_of, behind, size_by, size}
+use Rattle.page_tree.specs.Constructs.{starts, after, after_tag, text_size, reference_size, starts_white, kind_of, with_front, size_by, size}
 use Rattle.page_tree.specs.declared.kind.Kind.{Kind}
 use Rattle.page_tree.specs.declared.kind.Kind.TheVariants.{Declaration, Instruction, Comment, Cdata, Doctype, Unknown, EndTag, StartTag, Reference, Text}
 use Rattle.page_tree.proofs.SpanLaws.{clash, one_number, starts-front}
@@ -68,14 +68,14 @@ reference_size-append (c ∷ cs) more =
 
 -- what is found behind some bytes stays found there
 stays-behind : (f : List ℕ → Option ℕ) → f [] ≡ None → ((cs more : List ℕ) → Stays (f cs) (f (cs ++ more)))
-    → (n : ℕ) (cs more : List ℕ) → Stays (behind n (f (drop n cs))) (behind n (f (drop n (cs ++ more))))
+    → (n : ℕ) (cs more : List ℕ) → Stays (with_front n (f (drop n cs))) (with_front n (f (drop n (cs ++ more))))
 stays-behind f nothing stays n cs more k e = long (drop n cs) refl k e where
-  long : (r : List ℕ) → drop n cs ≡ r → (k : ℕ) → behind n (f r) ≡ Some k → behind n (f (drop n (cs ++ more))) ≡ Some k
-  long [] d k q = absurd (let z : behind n (f []) ≡ None = ap (behind n) nothing in cc)
+  long : (r : List ℕ) → drop n cs ≡ r → (k : ℕ) → with_front n (f r) ≡ Some k → with_front n (f (drop n (cs ++ more))) ≡ Some k
+  long [] d k q = absurd (let z : with_front n (f []) ≡ None = ap (with_front n) nothing in cc)
   long (c ∷ r) d k q =
       let l : length (drop n cs) ≡ suc (length r) = ap length d in
       let room : n ≤ length cs = omega (arith, length-drop n cs) in
-      ap (λ x. behind n (f x)) (drop-append-le n cs more room ∙ ap (λ x. x ++ more) d)
+      ap (λ x. with_front n (f x)) (drop-append-le n cs more room ∙ ap (λ x. x ++ more) d)
       ∙ stays-map (λ j. j + n) _ _ (stays (c ∷ r) more) k q
 
 pub size_by-append : (kind : Kind) (cs more : List ℕ) → Stays (size_by kind cs) (size_by kind (cs ++ more))
@@ -224,14 +224,14 @@ reference_size-within [] = λ k e. absurd (cc)
 reference_size-within (c ∷ cs) = within-if (c == 59) _ _ _ (within-some 1 (suc (length cs)) (omega arith))
     (within-if (is_white c || c == 60 || c == 38) _ _ _ (within-some 0 (suc (length cs)) (omega arith)) (within-suc _ _ (reference_size-within cs)))
 
-takes-behind : (f : List ℕ → Option ℕ) → f [] ≡ None → ((cs : List ℕ) → Within (f cs) (length cs)) → (n : ℕ) (cs : List ℕ) (k : ℕ) → behind (suc n) (f (drop (suc n) cs)) ≡ Some k → (0 < k) × (k ≤ length cs)
+takes-behind : (f : List ℕ → Option ℕ) → f [] ≡ None → ((cs : List ℕ) → Within (f cs) (length cs)) → (n : ℕ) (cs : List ℕ) (k : ℕ) → with_front (suc n) (f (drop (suc n) cs)) ≡ Some k → (0 < k) × (k ≤ length cs)
 takes-behind f nothing w n cs k e = long (drop (suc n) cs) refl k e where
-  found : (o : Option ℕ) (m : ℕ) → suc n + m ≤ length cs → Within o m → (k : ℕ) → behind (suc n) o ≡ Some k → (0 < k) × (k ≤ length cs)
+  found : (o : Option ℕ) (m : ℕ) → suc n + m ≤ length cs → Within o m → (k : ℕ) → with_front (suc n) o ≡ Some k → (0 < k) × (k ≤ length cs)
   found None m l v k q = absurd (cc)
   found (Some j) m l v k q = let s : j + suc n ≡ k = cc in let b = v j refl in (omega arith, omega arith)
 
-  long : (r : List ℕ) → drop (suc n) cs ≡ r → (k : ℕ) → behind (suc n) (f r) ≡ Some k → (0 < k) × (k ≤ length cs)
-  long [] d k q = absurd (let z : behind (suc n) (f []) ≡ None = ap (behind (suc n)) nothing in cc)
+  long : (r : List ℕ) → drop (suc n) cs ≡ r → (k : ℕ) → with_front (suc n) (f r) ≡ Some k → (0 < k) × (k ≤ length cs)
+  long [] d k q = absurd (let z : with_front (suc n) (f []) ≡ None = ap (with_front (suc n)) nothing in cc)
   long (c ∷ r) d k q =
       let l : length (drop (suc n) cs) ≡ suc (length r) = ap length d in
       found (f (c ∷ r)) (suc (length r)) (omega (arith, length-drop (suc n) cs)) (w (c ∷ r)) k q

@@ -2,7 +2,7 @@
 use Rattle.std.proofs.Common.{◌≡◌, ℕ, suc, ◌+◌, ◌==◌, Bool, true, false, ◌&&◌, ◌||◌, if◌then◌else◌, inl, inr, List, [], ◌∷◌, ◌++◌, length, take, drop, Option, Some, None, option_map, refl, sym, ap, ◌∙◌, arith, subst, append_assoc, length-append, codes}
 use Rattle.std.proofs.lemmas.Bool.Decides.{Decides-eqb}
 use Rattle.std.proofs.lemmas.Bool.{and_parts}
-use Rattle.page_tree.specs.Constructs.{starts, after, after_tag, starts_white, kind_of, behind, size_by, size, is_run, settled_or, whole_size}
+use Rattle.page_tree.specs.Constructs.{starts, after, after_tag, starts_white, kind_of, with_front, size_by, size, is_run, settled_or, whole_size}
 use Rattle.page_tree.specs.Forms.{between}
 use Rattle.page_tree.specs.declared.kind.Kind.{Kind}
 use Rattle.page_tree.specs.declared.kind.Kind.TheVariants.{Declaration, Instruction, Comment, Cdata, Doctype, Unknown, EndTag, StartTag, Reference, Text}
@@ -135,7 +135,7 @@ declared (a ∷ b ∷ c ∷ d ∷ w) v r e =
     let h3 = firsts d 108 (w ++ (63 ∷ 62 ∷ v)) r e3 in
     (w, rw (h0, h1, h2, h3) refl)
 
-pub map-behind : (n : ℕ) (o : Option ℕ) (k : ℕ) → behind n o ≡ Some k → (j : ℕ) × (o ≡ Some j) × (k ≡ j + n)
+pub map-behind : (n : ℕ) (o : Option ℕ) (k : ℕ) → with_front n o ≡ Some k → (j : ℕ) × (o ≡ Some j) × (k ≡ j + n)
 map-behind n None k e = absurd (cc)
 map-behind n (Some j) k e = (j, refl, let z : j + n ≡ k = cc in sym z)
 
@@ -143,10 +143,10 @@ map-behind n (Some j) k e = (j, refl, let z : j + n ≡ k = cc in sym z)
 pub ends-behind : (front ends cs : List ℕ) (k : ℕ) → starts front cs ≡ true → (j : ℕ) × (Found ends (drop (length front) cs) j) × (k ≡ j + length front) → (inner : List ℕ) × (take k cs ≡ between front inner ends)
 ends-behind front ends cs k s f = (f.1.front, ap (λ m. take m cs) f.2 ∙ taken front ends cs (drop (length front) cs) f.0 (starts-front front cs s) f.1)
 
-pub found-behind : (ends : List ℕ) (n : ℕ) (cs : List ℕ) (k : ℕ) → behind n (after ends (drop n cs)) ≡ Some k → (j : ℕ) × (Found ends (drop n cs) j) × (k ≡ j + n)
+pub found-behind : (ends : List ℕ) (n : ℕ) (cs : List ℕ) (k : ℕ) → with_front n (after ends (drop n cs)) ≡ Some k → (j : ℕ) × (Found ends (drop n cs) j) × (k ≡ j + n)
 found-behind ends n cs k e = let m = map-behind n (after ends (drop n cs)) k e in (m.0, after-found ends (drop n cs) m.0 m.1, m.2)
 
-tag-behind : (n : ℕ) (cs : List ℕ) (k : ℕ) → behind n (after_tag None (drop n cs)) ≡ Some k → (j : ℕ) × (Found (62 ∷ []) (drop n cs) j) × (k ≡ j + n)
+tag-behind : (n : ℕ) (cs : List ℕ) (k : ℕ) → with_front n (after_tag None (drop n cs)) ≡ Some k → (j : ℕ) × (Found (62 ∷ []) (drop n cs) j) × (k ≡ j + n)
 tag-behind n cs k e = let m = map-behind n (after_tag None (drop n cs)) k e in (m.0, tag-found None (drop n cs) m.0 m.1, m.2)
 
 -- an instruction or a declaration, whose end is looked for from its `?` on
@@ -156,14 +156,14 @@ record Marked (cs : List ℕ) (k : ℕ) : Type 0 where
   splits : drop 1 cs ≡ front ++ (63 ∷ 62 ∷ rest)
   piece : take k cs ≡ 60 ∷ (front ++ codes "?>")
 
-marked : (cs : List ℕ) (k : ℕ) → starts (codes "<") cs ≡ true → behind 1 (after (codes "?>") (drop 1 cs)) ≡ Some k → Marked cs k
+marked : (cs : List ℕ) (k : ℕ) → starts (codes "<") cs ≡ true → with_front 1 (after (codes "?>") (drop 1 cs)) ≡ Some k → Marked cs k
 unfolding found-behind ends-behind
 marked cs k s e =
     let f = found-behind (codes "?>") 1 cs k e in
     record { front = f.1.front; rest = f.1.rest; splits = f.1.splits; piece = (ends-behind (codes "<") (codes "?>") cs k s f).1 }
 
 module _ (cs : List ℕ) (k : ℕ) where
-  instruction-ends : starts (codes "<?") cs ≡ true → behind 1 (after (codes "?>") (drop 1 cs)) ≡ Some k → HasEnds Instruction (take k cs)
+  instruction-ends : starts (codes "<?") cs ≡ true → with_front 1 (after (codes "?>") (drop 1 cs)) ≡ Some k → HasEnds Instruction (take k cs)
   instruction-ends s e = by_front m.front m.splits m.piece where
     tail_of : cs ≡ 60 ∷ 63 ∷ drop 2 cs
     tail_of = starts-front (codes "<?") cs s
@@ -177,7 +177,7 @@ module _ (cs : List ℕ) (k : ℕ) where
         let same : c ≡ 63 = firsts c 63 (u ++ (63 ∷ 62 ∷ m.rest)) (drop 2 cs) (sym q ∙ ap (drop 1) tail_of) in
         inl (u, p ∙ ap (λ x. 60 ∷ x ∷ (u ++ codes "?>")) same)
 
-  declaration-ends : starts (codes "<?xml") cs ≡ true → behind 1 (after (codes "?>") (drop 1 cs)) ≡ Some k → HasEnds Declaration (take k cs)
+  declaration-ends : starts (codes "<?xml") cs ≡ true → with_front 1 (after (codes "?>") (drop 1 cs)) ≡ Some k → HasEnds Declaration (take k cs)
   declaration-ends s e =
       let w = declared m.front m.rest (drop 5 cs) (sym m.splits ∙ ap (drop 1) tail_of) in
       (w.0, m.piece ∙ ap (λ x. 60 ∷ (x ++ codes "?>")) w.1)

@@ -8,7 +8,7 @@ use Rattle.ix_base.specs.Scope.{is_qname}
 use Rattle.page_tree.specs.Constructs.{starts}
 use Rattle.page_tree.specs.Ends.{HasEnds}
 use Rattle.page_tree.specs.Forms.{AreWhite, holds, has_bracket, between, IsPart, IsStandalone, IsDeclared, IsInstruction, IsInTag, HasForm}
-use Rattle.page_tree.specs.Meanings.{given, ◌>>=◌, before, from, is_dark, behind_white, is_white_text, behind, equalled, inside, slash, tag, start_tag, end_tag, part_at, is_answer, ends_standalone, ends_declaration, declared_behind, declared, instructed, commented, doctyped, meant_by}
+use Rattle.page_tree.specs.Meanings.{given, ◌>>=◌, before, from, is_dark, behind_white, is_white_text, behind_front, equalled, inside, slash, tag, start_tag, end_tag, part_at, is_answer, ends_standalone, ends_declaration, declared_behind, declared, instructed, commented, doctyped, meant_by}
 use Rattle.page_tree.specs.Tokens.{Tag, Token, start, empty, close, words, refer, section, declaration, doctype, silent}
 use Rattle.page_tree.specs.Values.{referred_by}
 use Rattle.page_tree.specs.declared.kind.Kind.{Kind}
@@ -38,13 +38,13 @@ part-in c name raw more text d p =
     let e : behind_white text ≡ c ∷ (name ++ p.behind) = ap behind_white p.splits ∙ white-before p.white c (name ++ p.behind) p.are_white d in
     let l : length text ≡ length (p.white ++ (c ∷ name ++ p.behind)) = ap length p.splits in
     let apart = lt-ltb (length (behind_white text)) (length text) (let w = some-length p.white p.apart in let z : length (behind_white text) ≡ length (c ∷ name ++ p.behind) = ap length e in omega (arith, length-append p.white (c ∷ name ++ p.behind))) in
-    let rest : behind (c ∷ name) (behind_white text) ≡ Some p.behind = ap (behind (c ∷ name)) e ∙ rw (starts-append (c ∷ name) p.behind, drop-front (c ∷ name) p.behind) refl in
+    let rest : behind_front (c ∷ name) (behind_white text) ≡ Some p.behind = ap (behind_front (c ∷ name)) e ∙ rw (starts-append (c ∷ name) p.behind, drop-front (c ∷ name) p.behind) refl in
     rw (apart, rest) (equal-in raw more p.behind p.equal)
 
 pub part-out : (name text : List ℕ) (q : List ℕ × List ℕ) → part_at name text ≡ Some q → IsPart name q.0 q.1 text
 part-out name text q e =
     let a = given-some (nat_lt (length (behind_white text)) (length text)) _ q e in
-    let b = bind-some (behind name (behind_white text)) _ q a.1 in
+    let b = bind-some (behind_front name (behind_white text)) _ q a.1 in
     record {
       white = before is_dark text;
       behind = b.0;
@@ -80,7 +80,7 @@ standalone-out text h = cases (or_cases (is_white_text text) (ends_standalone (p
 
 part-none : (name text : List ℕ) → starts name (behind_white text) ≡ false → part_at name text ≡ None
 part-none name text h =
-    elim (nat_lt (length (behind_white text)) (length text)) as (λ b. (given b >>= (λ apart. behind name (behind_white text) >>= (λ rest. equalled rest))) ≡ None) [
+    elim (nat_lt (length (behind_white text)) (length text)) as (λ b. (given b >>= (λ apart. behind_front name (behind_white text) >>= (λ rest. equalled rest))) ≡ None) [
       | true ↦ rw h refl
       | false ↦ refl
     ]

@@ -3,7 +3,7 @@ use Rattle.std.proofs.Common.{◌≡◌, ◌≢◌, ℕ, zero, suc, ◌+◌, ◌
 use Rattle.std.proofs.lemmas.Bool.{cases_lt}
 use Rattle.std.proofs.lemmas.List.{drop-append-le, length-take-le}
 use Rattle.ix_base.specs.NcName.{is_white}
-use Rattle.page_tree.specs.Constructs.{starts, after, after_tag, text_size, reference_size, starts_white, kind_of, behind, size_by, size, settled_or, is_run, whole_size}
+use Rattle.page_tree.specs.Constructs.{starts, after, after_tag, text_size, reference_size, starts_white, kind_of, with_front, size_by, size, settled_or, is_run, whole_size}
 use Rattle.page_tree.specs.declared.kind.Kind.{Kind}
 use Rattle.page_tree.specs.declared.kind.Kind.TheVariants.{Declaration, Instruction, Comment, Cdata, Doctype, Unknown, EndTag, StartTag, Reference, Text}
 use Rattle.page_tree.proofs.CutLaws.{starts-append, starts-length, size_by-takes}
@@ -61,19 +61,19 @@ near-reference (c ∷ cs) more =
     near-if (c == 59) _ _ _ _ (suc (length cs)) (λ k e l. e)
     (near-if (is_white c || c == 60 || c == 38) _ _ _ _ (suc (length cs)) (λ k e l. e) (near-suc _ _ (length cs) (near-reference cs more)))
 
-least-behind : (n : ℕ) (o : Option ℕ) (k : ℕ) → behind n o ≡ Some k → n ≤ k
+least-behind : (n : ℕ) (o : Option ℕ) (k : ℕ) → with_front n o ≡ Some k → n ≤ k
 least-behind n None k e = absurd (cc)
 least-behind n (Some j) k e = let is : j + n ≡ k = cc in omega arith
 
 near-behind : (f : List ℕ → Option ℕ) → ((cs more : List ℕ) → Near (f (cs ++ more)) (f cs) (length cs)) → (n : ℕ) (cs more : List ℕ)
-    → Near (behind n (f (drop n (cs ++ more)))) (behind n (f (drop n cs))) (length cs)
+    → Near (with_front n (f (drop n (cs ++ more)))) (with_front n (f (drop n cs))) (length cs)
 near-behind f near n cs more k e l =
     let room = least-behind n (f (drop n (cs ++ more))) k e in
     let cut = drop-append-le n cs more (omega arith) in
-    found (f (drop n cs ++ more)) refl (ap (λ x. behind n (f x)) (sym cut) ∙ e) where
-      found : (o : Option ℕ) → f (drop n cs ++ more) ≡ o → behind n o ≡ Some k → behind n (f (drop n cs)) ≡ Some k
+    found (f (drop n cs ++ more)) refl (ap (λ x. with_front n (f x)) (sym cut) ∙ e) where
+      found : (o : Option ℕ) → f (drop n cs ++ more) ≡ o → with_front n o ≡ Some k → with_front n (f (drop n cs)) ≡ Some k
       found None s q = absurd (cc)
-      found (Some j) s q = let is : j + n ≡ k = cc in ap (behind n) (near (drop n cs) more j s (omega (arith, length-drop n cs))) ∙ q
+      found (Some j) s q = let is : j + n ≡ k = cc in ap (with_front n) (near (drop n cs) more j s (omega (arith, length-drop n cs))) ∙ q
 
 near-size : (kind : Kind) (cs more : List ℕ) → Near (size_by kind (cs ++ more)) (size_by kind cs) (length cs)
 unfolding size_by

@@ -10,7 +10,7 @@ use Rattle.std.proofs.lemmas.Str.Pattern.{IsSplitOnceResult, split_parts}
 use Rattle.ix_base.specs.NcName.{is_white}
 use Rattle.page_tree.specs.Constructs.{starts}
 use Rattle.page_tree.specs.Forms.{has, is_quote}
-use Rattle.page_tree.specs.Meanings.{before, from, is_dark, behind, behind_white, is_white_text, ends_name, ends_tag_name, quoted}
+use Rattle.page_tree.specs.Meanings.{before, from, is_dark, behind_front, behind_white, is_white_text, ends_name, ends_tag_name, quoted}
 use Rattle.page_tree.specs.Stops.{stops, is_special}
 use Rattle.page_tree.specs.Spans.{parted}
 use Rattle.page_tree.specs.declared.meaning.span.Stop.{Stop}
@@ -109,8 +109,8 @@ white-none (c ∷ t) = elim (either (is_white c)) as (λ x. (length (behind_whit
 ]
 
 -- a text at the front
-pub strip-behind : (front text : List ℕ) (r : Option (Bor (List ℕ))) → MatchOption r (FindsTextPrefix front text None) (λ x. StripsPrefix (FindsTextPrefix front) text x.now) → option_map (λ x. x.now) r ≡ behind front text
-strip-behind front text None h = elim (either (starts front text)) as (λ x. None ≡ behind front text) [
+pub strip-behind : (front text : List ℕ) (r : Option (Bor (List ℕ))) → MatchOption r (FindsTextPrefix front text None) (λ x. StripsPrefix (FindsTextPrefix front) text x.now) → option_map (λ x. x.now) r ≡ behind_front front text
+strip-behind front text None h = elim (either (starts front text)) as (λ x. None ≡ behind_front front text) [
   | inl y ↦ absurd (h (drop (length front) text) (starts-front front text y))
   | inr n ↦ rw n refl
 ]

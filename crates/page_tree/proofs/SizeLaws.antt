@@ -3,7 +3,7 @@ use Rattle.std.proofs.Common.{◌≡◌, ◌≢◌, ℕ, suc, ◌+◌, ◌<◌, 
 use Rattle.std.proofs.lemmas.Bool.{cases_lt}
 use Rattle.std.proofs.lemmas.List.{get_or_append_left, drop-append-le}
 use Rattle.std.proofs.Math.ListN.{drop_of_length-le}
-use Rattle.page_tree.specs.Constructs.{starts, starts_white, after, after_tag, kind_of, behind, size_by, size}
+use Rattle.page_tree.specs.Constructs.{starts, starts_white, after, after_tag, kind_of, with_front, size_by, size}
 use Rattle.page_tree.specs.Seeking.{seek, skipped, further, GoesOn, IsSought}
 use Rattle.page_tree.specs.declared.kind.Kind.{Kind}
 use Rattle.page_tree.specs.declared.kind.Kind.TheVariants.{Declaration, Instruction, Comment, Cdata, Doctype, Unknown, EndTag, StartTag, Reference, Text}
@@ -77,7 +77,7 @@ after-short ends t i h = (elim (after ends (drop i t)) as (λ o. after ends (dro
 ]) refl
 
 -- a construct's size is what is found behind its first bytes
-behind-further : (n : ℕ) (o : Option ℕ) → behind n o ≡ further n o
+behind-further : (n : ℕ) (o : Option ℕ) → with_front n o ≡ further n o
 behind-further n None = refl
 behind-further n (Some k) = ap Some (omega arith)
 

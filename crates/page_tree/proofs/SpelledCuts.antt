@@ -7,7 +7,7 @@ use Rattle.ix_base.specs.Escapes.{ae}
 use Rattle.ix_base.specs.NcName.{is_name_char, is_name_start}
 use Rattle.ix_base.specs.Scope.{is_qname}
 use Rattle.ix_base.specs.Written as written
-use Rattle.page_tree.specs.Constructs.{Byte, values, offset_of, after, after_tag, kind_of, size_by, size, whole_size, settled_or, is_run, behind, finished}
+use Rattle.page_tree.specs.Constructs.{Byte, values, offset_of, after, after_tag, kind_of, size_by, size, whole_size, settled_or, is_run, with_front, finished}
 use Rattle.page_tree.specs.Forms.{has}
 use Rattle.page_tree.specs.Spellings.{HasName, put_first}
 use Rattle.page_tree.specs.declared.kind.Kind.TheVariants.{StartTag, EndTag}
@@ -85,7 +85,7 @@ tag-size : (first : Bool) (name : List ℕ) (attrs : List written.Attribute) (en
 unfolding size_by
 tag-size first name attrs end k n h e =
     ap (λ z. size_by z (60 ∷ (name ++ written.attrs_text attrs end))) (tag-kind first name (written.attrs_text attrs end) n)
-    ∙ ap (behind 1) (plain-skip name (written.attrs_text attrs end) (name-plain name n) ∙ ap (more (length name)) (attrs-skip attrs end h ∙ ap (more (length (written.attrs_text attrs []))) e))
+    ∙ ap (with_front 1) (plain-skip name (written.attrs_text attrs end) (name-plain name n) ∙ ap (more (length name)) (attrs-skip attrs end h ∙ ap (more (length (written.attrs_text attrs []))) e))
     ∙ ap Some (omega arith)
 
 pub start-size : (first : Bool) (name : List ℕ) (attrs : List written.Attribute) (rest : List ℕ) → is_qname name ≡ true → All HasName attrs
@@ -125,7 +125,7 @@ pub close-size : (first : Bool) (name rest : List ℕ) → is_qname name ≡ tru
     → (kind_of first (written.close_text name ++ rest) ≡ EndTag) × (size first (written.close_text name ++ rest) ≡ Some (length (written.close_text name)))
 unfolding kind_of size_by
 close-size first name rest n =
-    (refl, ap (behind 2) (ap (after (62 ∷ [])) (append_assoc name (62 ∷ []) rest) ∙ after-name name rest (name-plain name n)) ∙ ap Some (omega (arith, length-append name (62 ∷ []))))
+    (refl, ap (with_front 2) (ap (after (62 ∷ [])) (append_assoc name (62 ∷ []) rest) ∙ after-name name rest (name-plain name n)) ∙ ap Some (omega (arith, length-append name (62 ∷ []))))
 
 -- what is cut in front of anything: the construct, and then what the rest gives
 pub cut-front : (ended first : Bool) (us vs : List Byte) → size first (values (us ++ vs)) ≡ Some (length us)

@@ -2,7 +2,7 @@
 use Rattle.std.proofs.Common.{◌≡◌, ℕ, suc, ◌+◌, ◌-◌, ◌==◌, Bool, true, false, ◌||◌, if◌then◌else◌, List, [], ◌∷◌, ◌++◌, length, take, drop, Some, None, option_map, refl, sym, ap, ◌∙◌, arith, append_assoc, length-append, bytes_eq, codes}
 use Rattle.std.specs.List.{list_any}
 use Rattle.ix_base.specs.NcName.{is_white}
-use Rattle.page_tree.specs.Constructs.{text_size, reference_size, kind_of, size_by, size, behind}
+use Rattle.page_tree.specs.Constructs.{text_size, reference_size, kind_of, size_by, size, with_front}
 use Rattle.page_tree.specs.Forms.{HasForm, holds}
 use Rattle.page_tree.specs.Spellings.{is_markup, ends_reference}
 use Rattle.page_tree.specs.Tokens.{words, refer}
@@ -19,7 +19,7 @@ text-goes (c ∷ text) next rest h n =
 pub text-size : (first : Bool) (c : ℕ) (text : List ℕ) (next : ℕ) (rest : List ℕ) → list_any is_markup (c ∷ text) ≡ false → is_markup next ≡ true
     → (kind_of first ((c ∷ text) ++ next ∷ rest) ≡ Text) × (size first ((c ∷ text) ++ next ∷ rest) ≡ Some (length (c ∷ text)))
 unfolding kind_of size_by
-text-size first c text next rest h n = (kind, ap (λ k. size_by k (c ∷ (text ++ next ∷ rest))) kind ∙ ap (behind 1) (text-goes text next rest (or_right (is_markup c) (list_any is_markup text) h) n) ∙ ap Some (omega arith)) where
+text-size first c text next rest h n = (kind, ap (λ k. size_by k (c ∷ (text ++ next ∷ rest))) kind ∙ ap (with_front 1) (text-goes text next rest (or_right (is_markup c) (list_any is_markup text) h) n) ∙ ap Some (omega arith)) where
   here : is_markup c ≡ false
   here = or_left (is_markup c) (list_any is_markup text) h
 
@@ -41,7 +41,7 @@ pub reference-size : (first : Bool) (inner rest : List ℕ) → list_any ends_re
     → (kind_of first ((38 ∷ (inner ++ 59 ∷ [])) ++ rest) ≡ Reference) × (size first ((38 ∷ (inner ++ 59 ∷ [])) ++ rest) ≡ Some (length (38 ∷ (inner ++ 59 ∷ []))))
 unfolding kind_of size_by
 reference-size first inner rest h =
-    (refl, ap (behind 1) (ap reference_size (append_assoc inner (59 ∷ []) rest) ∙ reference-goes inner rest h) ∙ ap Some (omega (arith, length-append inner (59 ∷ []))))
+    (refl, ap (with_front 1) (ap reference_size (append_assoc inner (59 ∷ []) rest) ∙ reference-goes inner rest h) ∙ ap Some (omega (arith, length-append inner (59 ∷ []))))
 
 pub reference-means : (at : ℕ) (inner : List ℕ) → HasForm Reference at (38 ∷ (inner ++ 59 ∷ [])) (refer (spelled (referred inner)))
 reference-means at inner = sym (ap (λ b. if b then spelled (referred (take (length (38 ∷ (inner ++ 59 ∷ [])) - 2) (inner ++ 59 ∷ []))) else None) last ∙ ap (λ t. spelled (referred t)) front) where

@@ -6,7 +6,7 @@ use Rattle.ix_base.specs.NcName.{is_white}
 use Rattle.ix_base.specs.Scope.{is_qname}
 use Rattle.page_tree.specs.Constructs.{starts}
 use Rattle.page_tree.specs.Forms.{AreWhite, has, is_quote, IsEqual, IsAttribute, AreAttributes, IsInTag}
-use Rattle.page_tree.specs.Meanings.{given, ◌>>=◌, before, from, is_dark, behind_white, is_white_text, behind, quoted, equalled, ends_name, ends_tag_name, attribute_at, slash, attributes_in, tag, start_tag}
+use Rattle.page_tree.specs.Meanings.{given, ◌>>=◌, before, from, is_dark, behind_white, is_white_text, behind_front, quoted, equalled, ends_name, ends_tag_name, attribute_at, slash, attributes_in, tag, start_tag}
 use Rattle.page_tree.specs.Tokens.{Attribute, Tag, Token}
 use Rattle.page_tree.specs.Values.{value_of}
 use Rattle.page_tree.proofs.SpanLaws.{clash, is_same, one_number, or_left, or_right, either, NoneStops, Stops, before-span, from-span, before-from, before-none, none-all, all-none, bind-some, given-some, starts-front, bytes-one, bytes-apart}
@@ -112,18 +112,18 @@ quoted-out (q ∷ text) p e = found (is_quote q && has q text) refl e where
         unquoted = none-any (λ c. c == q) (before (λ c. c == q) text) (before-none (λ c. c == q) text);
       })
 
-behind-out : (front text rest : List ℕ) → behind front text ≡ Some rest → text ≡ front ++ rest
+behind-out : (front text rest : List ℕ) → behind_front front text ≡ Some rest → text ≡ front ++ rest
 behind-out front text rest e = found (starts front text) refl e where
   found : (b : Bool) → starts front text ≡ b → (if b then Some (drop (length front) text) else None) ≡ Some rest → text ≡ front ++ rest
   found false t s = absurd (cc)
   found true t s = let same : drop (length front) text ≡ rest = cc in starts-front front text t ∙ ap (λ x. front ++ x) same
 
-pub behind-is : (front text rest : List ℕ) → behind front text ≡ Some rest → text ≡ front ++ rest
+pub behind-is : (front text rest : List ℕ) → behind_front front text ≡ Some rest → text ≡ front ++ rest
 behind-is front text rest e = behind-out front text rest e
 
 pub equal-out : (text : List ℕ) (p : List ℕ × List ℕ) → equalled text ≡ Some p → IsEqual p.0 p.1 text
 equal-out text p e =
-    let a = bind-some (behind (codes "=") (behind_white text)) _ p e in
+    let a = bind-some (behind_front (codes "=") (behind_white text)) _ p e in
     let b = quoted-out (behind_white a.0) p a.2 in
     let sign = behind-out (codes "=") (behind_white text) a.0 a.1 in
     record {

@@ -3,7 +3,7 @@ use Rattle.std.proofs.Common.{◌≡◌, ◌≢◌, ℕ, suc, zero, ◌+◌, ◌
 use Rattle.std.proofs.lemmas.Bool.{lt-ltb}
 use Rattle.std.proofs.lemmas.Bool.Decides.{nat_tests}
 use Rattle.ix_base.specs.Scope.{is_qname}
-use Rattle.page_tree.specs.Meanings.{◌>>=◌, is_dark, behind_white, is_white_text, equalled, slash, attribute_at, attributes_in, before, from, ends_name, ends_tag_name, tag, start_tag, behind, part_at}
+use Rattle.page_tree.specs.Meanings.{◌>>=◌, is_dark, behind_white, is_white_text, equalled, slash, attribute_at, attributes_in, before, from, ends_name, ends_tag_name, tag, start_tag, behind_front, part_at}
 use Rattle.page_tree.specs.Forms.{has}
 use Rattle.page_tree.specs.Tokens.{Attribute}
 use Rattle.page_tree.proofs.Parting.{from-short}
@@ -125,5 +125,5 @@ module _ (at : ℕ) (inner name rest : List ℕ) (b : before ends_tag_name inner
   tag-some as' s e = let whole = sym e ∙ read-whole in rw (b, n, ← whole) refl
 
 -- a part of a declaration
-pub part-some : (name text rest : List ℕ) → nat_lt (length (behind_white text)) (length text) ≡ true → behind name (behind_white text) ≡ Some rest → equalled rest ≡ part_at name text
+pub part-some : (name text rest : List ℕ) → nat_lt (length (behind_white text)) (length text) ≡ true → behind_front name (behind_white text) ≡ Some rest → equalled rest ≡ part_at name text
 part-some name text rest a e = rw (a, e) refl

@@ -54,22 +54,22 @@ kind_of first cs =
     else (if starts (codes "&") cs then Reference
     else Text)))))))
 
--- so many more bytes
-abbrev pub behind : ℕ → Option ℕ → Option ℕ
-behind n size = option_map (λ k. k + n) size
+-- a size, with that of a front
+abbrev pub with_front : ℕ → Option ℕ → Option ℕ
+with_front n size = option_map (λ k. k + n) size
 
 -- how many bytes a construct of a kind takes, where it ends whatever follows; the `?` of `<?` may be that of its `?>`
 unfoldable pub size_by : Kind → List ℕ → Option ℕ
-size_by Declaration cs = behind 1 (after (codes "?>") (drop 1 cs))
-size_by Instruction cs = behind 1 (after (codes "?>") (drop 1 cs))
-size_by Comment cs = behind 4 (after (codes "-->") (drop 4 cs))
-size_by Cdata cs = behind 9 (after (codes "]]>") (drop 9 cs))
-size_by Doctype cs = behind 9 (after_tag None (drop 9 cs))
-size_by Unknown cs = behind 2 (after (codes ">") (drop 2 cs))
-size_by EndTag cs = behind 2 (after (codes ">") (drop 2 cs))
-size_by StartTag cs = behind 1 (after_tag None (drop 1 cs))
-size_by Reference cs = behind 1 (reference_size (drop 1 cs))
-size_by Text cs = behind 1 (text_size (drop 1 cs))
+size_by Declaration cs = with_front 1 (after (codes "?>") (drop 1 cs))
+size_by Instruction cs = with_front 1 (after (codes "?>") (drop 1 cs))
+size_by Comment cs = with_front 4 (after (codes "-->") (drop 4 cs))
+size_by Cdata cs = with_front 9 (after (codes "]]>") (drop 9 cs))
+size_by Doctype cs = with_front 9 (after_tag None (drop 9 cs))
+size_by Unknown cs = with_front 2 (after (codes ">") (drop 2 cs))
+size_by EndTag cs = with_front 2 (after (codes ">") (drop 2 cs))
+size_by StartTag cs = with_front 1 (after_tag None (drop 1 cs))
+size_by Reference cs = with_front 1 (reference_size (drop 1 cs))
+size_by Text cs = with_front 1 (text_size (drop 1 cs))
 
 -- how many bytes the first construct takes, where it ends whatever follows
 abbrev pub size : Bool → List ℕ → Option ℕ

@@ -39,8 +39,8 @@ abbrev pub is_white_text : List ℕ → Bool
 is_white_text text = list_all is_white text
 
 -- what stands behind this text at the front
-abbrev pub behind : List ℕ → List ℕ → Option (List ℕ)
-behind front text = if starts front text then Some (drop (length front) text) else None
+abbrev pub behind_front : List ℕ → List ℕ → Option (List ℕ)
+behind_front front text = if starts front text then Some (drop (length front) text) else None
 
 -- a value in the quotes that stand at the front, as it is written, and what is behind it
 abbrev pub quoted : List ℕ → Option (List ℕ × List ℕ)
@@ -51,7 +51,7 @@ quoted (q ∷ text) =
 -- the same behind `=`, with white space allowed around that
 abbrev pub equalled : List ℕ → Option (List ℕ × List ℕ)
 equalled text = do
-  value ← behind (codes "=") (behind_white text)
+  value ← behind_front (codes "=") (behind_white text)
   quoted (behind_white value)
 
 -- what ends the name of an attribute, and what ends that of a tag
@@ -109,7 +109,7 @@ end_tag inner = do
 abbrev pub part_at : List ℕ → List ℕ → Option (List ℕ × List ℕ)
 part_at name text = do
   apart ← given (nat_lt (length (behind_white text)) (length text))
-  rest ← behind name (behind_white text)
+  rest ← behind_front name (behind_white text)
   equalled rest
 
 abbrev pub is_answer : List ℕ → Bool

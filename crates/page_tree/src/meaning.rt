@@ -12,11 +12,10 @@ mod tag;
 mod value;
 
 use crate::kind::Kind;
-use crate::size::is_white;
 use crate::token::{Attribute, Token};
 use bumpalo::Bump;
 use declaration::declared;
-use ix_base::NoMemory;
+use ix_base::{NoMemory, is_white};
 use scopes::is_ncname;
 use span::{Stop, split};
 use std::alloc::Global;

@@ -1,9 +1,11 @@
 //! Where constructs end.
 ghost use Rattle.std.specs.Prelude.{◌≡◌, ◌≢◌, ◌∷◌, ◌==◌, ◌||◌, suc, is_none, false, ◌+◌, ◌≤◌, ◌<◌, ◌++◌, ℕ, List, length, take, drop, Some, None, option_map, IfSome};
+ghost use Rattle.ix_base.specs.NcName.{is_white as is_white_byte};
 ghost use Rattle.page_tree.specs.Constructs.{starts as starts_of, after as after_of, after_tag as after_tag_of, text_size as text_size_of, reference_size as reference_size_of, starts_white as starts_white_of, kind_of as kind_of_spec, size as size_of, size_by as size_by_spec, is_run as is_run_of, whole_size as whole_size_of};
 ghost use Rattle.page_tree.specs.Seeking.{seek as seek_of, skipped, further, found, GoesOn, IsSought};
 
 use crate::kind::Kind;
+use ix_base::is_white;
 
 /// How far the end of a construct was looked for: behind so many of its bytes, where this quote is open. At 0 it wasn't
 /// looked for.
@@ -36,14 +38,6 @@ fn starts(text: &[u8], front: &[u8]) -> bool
         None => false,
     }
 }
-
-pub(crate) fn is_white(byte: u8) -> bool
-    ensures { result ≡ is_white_byte byte }
-{
-    matches!(byte, b' ' | b'\t' | b'\n' | b'\r')
-}
-
-ghost use Rattle.ix_base.specs.NcName.{is_white as is_white_byte};
 
 fn starts_white(text: &[u8]) -> bool
     ensures { result ≡ starts_white_of text.now }

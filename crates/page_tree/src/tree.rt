@@ -19,12 +19,11 @@ use crate::opened::Open;
 use crate::refusal::Refusal;
 use crate::scope::scope_of;
 use crate::setting::Setting;
-use crate::size::is_white;
 use crate::stack::{
     close_element, empty_list, flush_innermost, innermost_scope, open_element, put,
 };
 use crate::token::{Tag, Token};
-use ix_base::{Attr, Binding, Element, NoMemory, Node, Rule};
+use ix_base::{Attr, Binding, Element, NoMemory, Node, Rule, is_white};
 use std::alloc::Global;
 
 /// What is built of the constructs so far: the open elements, the innermost last, the text since the last tag, the root
@@ -299,7 +298,7 @@ impl<'a> Building<'a> {
 
     /// Takes a start tag.
     #[tactic(auto, unfolding(crate::specs::Break::broken_by, crate::specs::Machine::moved))]
-    fn take_start(&mut self, setting: &Setting<'a>, tag: &Tag<'a, '_>) -> Result<(), Refusal>
+    fn take_start_tag(&mut self, setting: &Setting<'a>, tag: &Tag<'a, '_>) -> Result<(), Refusal>
         ensures { Takes setting.now self.old self.new (start (tag_of tag.now)) result }
     {
         let scope = self.judge(setting, tag)?;
@@ -309,7 +308,7 @@ impl<'a> Building<'a> {
 
     /// Takes an empty-element tag.
     #[tactic(auto, unfolding(crate::specs::Break::broken_by, crate::specs::Machine::moved))]
-    fn take_empty(&mut self, setting: &Setting<'a>, tag: &Tag<'a, '_>) -> Result<(), Refusal>
+    fn take_empty_tag(&mut self, setting: &Setting<'a>, tag: &Tag<'a, '_>) -> Result<(), Refusal>
         ensures { Takes setting.now self.old self.new (empty (tag_of tag.now)) result }
     {
         let scope = self.judge(setting, tag)?;
@@ -319,7 +318,7 @@ impl<'a> Building<'a> {
 
     /// Takes an end tag.
     #[tactic(auto, unfolding(crate::specs::Break::broken_by, crate::specs::Machine::moved))]
-    fn take_close(&mut self, setting: &Setting<'a>, name: &str) -> Result<(), Refusal>
+    fn take_end_tag(&mut self, setting: &Setting<'a>, name: &str) -> Result<(), Refusal>
         ensures { Takes setting.now self.old self.new (close name.now) result }
     {
         if !self.matches(name) {
@@ -338,7 +337,7 @@ impl<'a> Building<'a> {
 
     /// Takes a text.
     #[tactic(auto, unfolding(crate::specs::Break::broken_by, crate::specs::Machine::moved))]
-    fn take_words(&mut self, text: &str) -> Result<(), Refusal>
+    fn take_text(&mut self, text: &str) -> Result<(), Refusal>
         ensures { (setting : _) → Takes setting self.old self.new (words text.now) result }
     {
         if self.is_misplaced(text) {
@@ -350,7 +349,7 @@ impl<'a> Building<'a> {
 
     /// Takes a reference, with the character that it means, if it is a good one.
     #[tactic(auto, unfolding(crate::specs::Break::broken_by, crate::specs::Machine::moved))]
-    fn take_refer(&mut self, meant: Option<char>) -> Result<(), Refusal>
+    fn take_reference(&mut self, meant: Option<char>) -> Result<(), Refusal>
         ensures { (setting : _) → Takes setting self.old self.new (refer (option_map encode_utf8 meant)) result }
     {
         let Some(ch) = meant else {
@@ -363,9 +362,9 @@ impl<'a> Building<'a> {
         Ok(())
     }
 
-    /// Takes a section.
+    /// Takes a CDATA section.
     #[tactic(auto, unfolding(crate::specs::Break::broken_by, crate::specs::Machine::moved))]
-    fn take_section(&mut self, text: &str) -> Result<(), Refusal>
+    fn take_cdata(&mut self, text: &str) -> Result<(), Refusal>
         ensures { (setting : _) → Takes setting self.old self.new (section text.now) result }
     {
         if self.is_outside() {
@@ -414,12 +413,12 @@ impl<'a> Building<'a> {
         ensures { Takes setting.now self.old self.new (token_of token.now) result }
     {
         match token {
-            Token::StartTag(tag) => self.take_start(setting, tag),
-            Token::EmptyTag(tag) => self.take_empty(setting, tag),
-            Token::EndTag(name) => self.take_close(setting, name),
-            Token::Text(text) => self.take_words(text),
-            Token::Reference(meant) => self.take_refer(*meant),
-            Token::Cdata(text) => self.take_section(text),
+            Token::StartTag(tag) => self.take_start_tag(setting, tag),
+            Token::EmptyTag(tag) => self.take_empty_tag(setting, tag),
+            Token::EndTag(name) => self.take_end_tag(setting, name),
+            Token::Text(text) => self.take_text(text),
+            Token::Reference(meant) => self.take_reference(*meant),
+            Token::Cdata(text) => self.take_cdata(text),
             Token::Declaration { version, encoding } => self.take_declaration(version, *encoding),
             Token::Doctype { has_subset } => self.take_doctype(*has_subset),
             Token::Silent => Ok(()),

@@ -1,12 +1,10 @@
 //! Texts as URLs (the URL Standard), and links against a base.
-ghost use Rattle.std.specs.Prelude.{◌≡◌, ◌<◌, length, chars, IfOk};
-ghost use Rattle.std.specs.List.{list_all};
+ghost use Rattle.std.specs.Prelude.{◌≡◌, ◌<◌, length, IfOk};
 ghost use Rattle.url.specs.Parser.{Gives, Parsed, parse_url};
 ghost use Rattle.url.specs.Parts.{Parts};
-ghost use Rattle.ix_base.specs.NcName as spec;
 ghost use Rattle.ix_base.specs.Address as address;
 
-use ix_base::{NoMemory, Text, token};
+use ix_base::{NoMemory, Text, are_allowed, token};
 use std::alloc::Global;
 use url::{ParseError, ParseResult, Url};
 
@@ -50,25 +48,6 @@ pub(crate) fn joined_or(alloc: Global, base: &str, text: &str) -> Result<Text, N
         Some(url) => Text::of(alloc, url.as_str()),
         None => Text::of(alloc, base),
     }
-}
-
-#[tactic(auto, unfolding(ix_base::specs::NcName::is_allowed))]
-fn is_allowed(c: char) -> bool
-    ensures { result ≡ spec.is_allowed c }
-{
-    matches!(c, '\t' | '\n' | '\r' | ' '..='\u{D7FF}' | '\u{E000}'..='\u{FFFD}' | '\u{10000}'..)
-}
-
-fn each_allowed(text: &str) -> bool
-    ensures { result ≡ list_all spec.is_allowed (chars text.now) }
-{
-    text.chars().all(|c| is_allowed(c))
-}
-
-fn are_allowed(text: &str) -> bool
-    ensures { result ≡ spec.are_allowed text.now }
-{
-    each_allowed(text)
 }
 
 #[tactic(auto, unfolding(ix_base::specs::Token::is_token))]

@@ -1,8 +1,7 @@
 //! What is asked of texts.
-ghost use Rattle.std.specs.Prelude.{◌≡◌, ◌∷◌, [], chars, flat_map, map};
+ghost use Rattle.std.specs.Prelude.{◌≡◌, ◌∷◌, []};
 ghost use Rattle.std.specs.List.{list_all};
 ghost use Rattle.ix_base.specs.Forms.{is_empty};
-ghost use Rattle.ix_base.specs.NcName as spec;
 ghost use Rattle.instance_out.specs.Holds as holds;
 ghost use Rattle.instance_out.specs.Lists.{of_option};
 ghost use Rattle.instance_out.specs.Proper as proper;
@@ -14,7 +13,7 @@ ghost use Rattle.instance_in.specs.TextTests.{parts, passes, references, rest};
 use crate::proper::held::Held;
 use ix_base::{
     Accuracy, Arc, Content, Context, Dim, Footnote, Item, Linkbase, Member, NoteLink, OwnName,
-    RoleRef, Text, Unit, Value, token,
+    RoleRef, Text, Unit, Value, are_allowed, token,
 };
 
 /// What is asked of a text.
@@ -24,25 +23,6 @@ pub enum Test {
     Allowed,
     /// A token that isn't empty.
     Full,
-}
-
-#[tactic(auto, unfolding(ix_base::specs::NcName::is_allowed))]
-fn may_stand(c: char) -> bool
-    ensures { result ≡ spec.is_allowed c }
-{
-    matches!(c, '\t' | '\n' | '\r' | ' '..='\u{D7FF}' | '\u{E000}'..='\u{FFFD}' | '\u{10000}'..)
-}
-
-fn each_may_stand(text: &str) -> bool
-    ensures { result ≡ list_all spec.is_allowed (chars text.now) }
-{
-    text.chars().all(|c| may_stand(c))
-}
-
-fn are_allowed(text: &str) -> bool
-    ensures { result ≡ spec.are_allowed text.now }
-{
-    each_may_stand(text)
 }
 
 /// Whether a text is a token that isn't empty.

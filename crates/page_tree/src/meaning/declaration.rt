@@ -4,7 +4,7 @@ ghost use Rattle.page_tree.specs.Meanings.{part_at as part_at_of, is_answer as i
 ghost use Rattle.page_tree.specs.Spans.{parted};
 ghost use Rattle.page_tree.specs.Views.{token_of};
 
-use crate::meaning::span::{behind, behind_white, equalled, is_white_text};
+use crate::meaning::span::{behind_front, behind_white, equalled, is_white_text};
 use crate::token::Token;
 
 /// A part at the front, behind white space: its quoted value, and what is behind that.
@@ -15,7 +15,7 @@ fn part_at<'t>(name: &str, text: &'t str) -> Option<(&'t str, &'t str)>
     if dark.len() == text.len() {
         return None;
     }
-    equalled(behind(name, dark)?)
+    equalled(behind_front(name, dark)?)
 }
 
 fn is_answer(raw: &str) -> bool

@@ -1,10 +1,10 @@
 //! Spans of a text, and what stands behind them.
 ghost use Rattle.std.specs.Prelude.{◌≡◌, ◌≤◌, ◌<◌, length, option_map, IfSome};
-ghost use Rattle.page_tree.specs.Meanings.{before, from, behind_white as behind_white_of, is_white_text as is_white_text_of, behind as behind_of, quoted as quoted_of, equalled as equalled_of};
+ghost use Rattle.page_tree.specs.Meanings.{before, from, behind_white as behind_white_of, is_white_text as is_white_text_of, behind_front as behind_front_of, quoted as quoted_of, equalled as equalled_of};
 ghost use Rattle.page_tree.specs.Stops.{stops};
 ghost use Rattle.page_tree.specs.Spans.{parted};
 
-use crate::size::is_white;
+use ix_base::is_white;
 
 /// What ends a span of a text: always a byte that is a character by itself, or whatever isn't white space.
 #[derive(Clone, Copy)]
@@ -66,8 +66,8 @@ pub(crate) fn is_white_text(text: &str) -> bool
 }
 
 /// What stands behind this text at the front.
-pub(crate) fn behind<'t>(front: &str, text: &'t str) -> Option<&'t str>
-    ensures { option_map (λ r. r.now) result ≡ behind_of front.now text.now }
+pub(crate) fn behind_front<'t>(front: &str, text: &'t str) -> Option<&'t str>
+    ensures { option_map (λ r. r.now) result ≡ behind_front_of front.now text.now }
 {
     text.strip_prefix(front)
 }
@@ -86,6 +86,6 @@ fn quoted(text: &str) -> Option<(&str, &str)>
 pub(crate) fn equalled(text: &str) -> Option<(&str, &str)>
     ensures { option_map parted result ≡ equalled_of text.now }
 {
-    let value = behind("=", behind_white(text))?;
+    let value = behind_front("=", behind_white(text))?;
     quoted(behind_white(value))
 }

@@ -3,7 +3,6 @@ ghost use Rattle.std.specs.Prelude.{◌≡◌, ◌≤◌, ◌<◌, [], None, Som
 ghost use Rattle.std.specs.Option.{option_and_then};
 ghost use Rattle.std.specs.Str.{IsUtf8};
 ghost use Rattle.std.specs.String.{string_bytes};
-ghost use Rattle.ix_base.specs.NcName.{is_allowed as is_allowed_of};
 ghost use Rattle.page_tree.specs.Values.{digit as digit_of, below, number_in as number_in_of, allowed as allowed_of, referred as referred_of, meant_in, value_of as value_of_spec, referred_by as referred_by_of};
 ghost use Rattle.page_tree.specs.Spans.{up_to_beyond, after_char};
 ghost use Rattle.page_tree.specs.Stops.{begins_special};
@@ -11,7 +10,7 @@ ghost use Rattle.page_tree.specs.Stops.{begins_special};
 use crate::meaning::span::{Stop, split};
 use crate::size::behind_first;
 use bumpalo::Bump;
-use ix_base::NoMemory;
+use ix_base::{NoMemory, is_allowed};
 use std::alloc::Global;
 
 /// Above the numbers of all characters.
@@ -54,14 +53,6 @@ fn number_in(base: u32, digits: &[u8]) -> Option<u32>
         number = (number * base + digit).min(BEYOND);
     }
     Some(number)
-}
-
-/// The characters that a page may have.
-#[tactic(auto, unfolding(ix_base::specs::NcName::is_allowed))]
-fn is_allowed(ch: char) -> bool
-    ensures { result ≡ is_allowed_of ch }
-{
-    matches!(ch, '\t' | '\n' | '\r' | '\u{20}'..='\u{D7FF}' | '\u{E000}'..='\u{FFFD}' | '\u{10000}'..='\u{10FFFF}')
 }
 
 fn allowed(number: u32) -> Option<char>

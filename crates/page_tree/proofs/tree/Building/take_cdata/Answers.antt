@@ -2,8 +2,8 @@ use Rattle.std.proofs.Common.{arith}
 use Rattle.std.proofs.lemmas.Grind.{common_steps}
 use Rattle.page_tree.specs.Break.{broken_by}
 use Rattle.page_tree.specs.Machine.{moved}
-use Rattle.page_tree.proofs.tree.Building.take_refer.Goals as goal
+use Rattle.page_tree.proofs.tree.Building.take_cdata.Goals as goal
 
 pub returns : goal.returns
 unfolding broken_by moved
-returns c = λ setting. (grind (arith, common_steps), rw c.in-Some.is (c.in_ok-run_char.ensures setting.page))
+returns c = λ setting. (grind (arith, common_steps), c.in_ok-run.ensures setting.page)

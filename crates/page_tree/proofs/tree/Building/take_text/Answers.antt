@@ -2,7 +2,7 @@ use Rattle.std.proofs.Common.{arith}
 use Rattle.std.proofs.lemmas.Grind.{common_steps}
 use Rattle.page_tree.specs.Break.{broken_by}
 use Rattle.page_tree.specs.Machine.{moved}
-use Rattle.page_tree.proofs.tree.Building.take_section.Goals as goal
+use Rattle.page_tree.proofs.tree.Building.take_text.Goals as goal
 
 pub returns : goal.returns
 unfolding broken_by moved

@@ -2,7 +2,7 @@ use Rattle.std.proofs.Common.{rules, ◌≡◌, true}
 use Rattle.std.specs.Str.{is_utf8}
 use Rattle.std.proofs.lemmas.Str.{is_utf8-from_IsUtf8}
 use Rattle.ix_base.specs.NcName.{are_allowed}
-use Rattle.instance_in.proofs.proper.texts.are_allowed.Goals as goal
+use Rattle.ix_base.proofs.allowed.are_allowed.Goals as goal
 
 pub returns : goal.returns
 unfolding are_allowed
