@@ -1,75 +1,84 @@
 //! Views of elements that are made by hand.
 use crate::view;
 use ix_base::namespaces::XSI;
-use ix_base::{Attr, Binding, Element, Name, Place, Spot};
+use ix_base::{Attr, Binding, Element, Name, Place, Scope, Spot};
 
-const NUMBER: Element<'static> = Element {
-    place: Place { page: 0, offset: 7 },
-    name: Name {
-        ns: "http://www.xbrl.org/2013/inlineXBRL",
-        local: "nonFraction",
+static ATTRS: [Attr<'static>; 6] = [
+    Attr {
+        name: Name {
+            ns: "",
+            local: "name",
+        },
+        value: " e:Profit ",
     },
-    attrs: &[
-        Attr {
-            name: Name {
-                ns: "",
-                local: "name",
-            },
-            value: " e:Profit ",
+    Attr {
+        name: Name {
+            ns: "",
+            local: "scale",
         },
-        Attr {
-            name: Name {
-                ns: "",
-                local: "scale",
-            },
-            value: "-03",
+        value: "-03",
+    },
+    Attr {
+        name: Name {
+            ns: "",
+            local: "sign",
         },
-        Attr {
-            name: Name {
-                ns: "",
-                local: "sign",
-            },
-            value: "-",
+        value: "-",
+    },
+    Attr {
+        name: Name {
+            ns: "",
+            local: "format",
         },
-        Attr {
-            name: Name {
-                ns: "",
-                local: "format",
-            },
-            value: "t:dot",
+        value: "t:dot",
+    },
+    Attr {
+        name: Name {
+            ns: "",
+            local: "target",
         },
-        Attr {
-            name: Name {
-                ns: "",
-                local: "target",
-            },
-            value: " x",
+        value: " x",
+    },
+    Attr {
+        name: Name {
+            ns: XSI,
+            local: "nil",
         },
-        Attr {
-            name: Name {
-                ns: XSI,
-                local: "nil",
-            },
-            value: " 1 ",
+        value: " 1 ",
+    },
+];
+
+static BINDINGS: [Binding<'static>; 2] = [
+    Binding {
+        prefix: "e",
+        ns: "http://example.com/e",
+    },
+    Binding {
+        prefix: "t",
+        ns: "http://example.com/t",
+    },
+];
+
+fn number<'a>() -> Element<'a> {
+    Element {
+        place: Place { page: 0, offset: 7 },
+        name: Name {
+            ns: "http://www.xbrl.org/2013/inlineXBRL",
+            local: "nonFraction",
         },
-    ],
-    scope: &[
-        Binding {
-            prefix: "e",
-            ns: "http://example.com/e",
+        attrs: &ATTRS,
+        scope: Scope {
+            bindings: &BINDINGS,
         },
-        Binding {
-            prefix: "t",
-            ns: "http://example.com/t",
-        },
-    ],
-    children: &[],
-};
+        children: &[],
+    }
+}
 
 #[test]
 fn a_number_is_seen_with_what_its_attributes_say(rt: HostRuntime) {
+    let number = number();
     let spot = Spot {
-        element: &NUMBER,
+        element: &number,
         up: None,
     };
     let seen = view(&spot);

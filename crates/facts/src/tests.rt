@@ -7,8 +7,8 @@ use bumpalo::Bump;
 use id_table::Index;
 use ix_base::namespaces::{IX, XHTML, XSI};
 use ix_base::{
-    Accuracy, Attr, Binding, Breaches, Element, Item, Name, NoMemory, Node, Place, Spot, Text,
-    Value,
+    Accuracy, Attr, Binding, Breaches, Element, Item, Name, NoMemory, Node, Place, Scope, Spot,
+    Text, Value,
 };
 use scopes::Bases;
 use std::alloc::Global;
@@ -78,7 +78,7 @@ fn element<'a>(
         place: PLACE,
         name,
         attrs,
-        scope: &SCOPE,
+        scope: Scope { bindings: &SCOPE },
         children: arena.try_alloc_slice_copy(children)?,
     })?;
     Ok(element)
@@ -648,7 +648,7 @@ fn lonely<'a>(arena: &'a Bump, local: &'a str) -> Result<&'a Element<'a>, NoMemo
         place: PLACE,
         name: Name { ns: IX, local },
         attrs: arena.try_alloc_slice_copy(&attrs)?,
-        scope: &[],
+        scope: Scope::empty(),
         children: &[],
     })?;
     Ok(element)

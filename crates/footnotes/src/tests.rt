@@ -10,7 +10,7 @@ use continuations::{Chains, link};
 use id_table::Index;
 use ix_base::namespaces::{IX, XML};
 use ix_base::{
-    Arc, Attr, Breaches, Element, Footnote, Name, NoMemory, Node, NoteLink, Place, Spot,
+    Arc, Attr, Breaches, Element, Footnote, Name, NoMemory, Node, NoteLink, Place, Scope, Spot,
 };
 use scopes::Bases;
 use std::alloc::Global;
@@ -62,7 +62,7 @@ fn page_of<'a>(
         place: Place { page, offset: 50 },
         name: Name { ns: IX, local },
         attrs,
-        scope: &[],
+        scope: Scope::empty(),
         children,
     })?;
     Ok(element)
@@ -80,24 +80,27 @@ fn index_of<'a>(alloc: Global, arena: &'a Bump, pages: &[Page]) -> Result<Index<
 }
 
 /// The page from which bases are taken.
-const BARE: Element<'static> = Element {
-    place: Place {
-        page: 0,
-        offset: 50,
-    },
-    name: Name { ns: "", local: "p" },
-    attrs: &[],
-    scope: &[],
-    children: &[],
-};
+fn bare<'a>() -> Element<'a> {
+    Element {
+        place: Place {
+            page: 0,
+            offset: 50,
+        },
+        name: Name { ns: "", local: "p" },
+        attrs: &[],
+        scope: Scope::empty(),
+        children: &[],
+    }
+}
 
 /// So many bases.
 fn bases_of(alloc: Global, count: usize) -> Result<Bases, NoMemory>
     ensures { IfOk result (λ b. length b.pages ≡ count) }
 {
+    let bare = bare();
     let mut bases = Bases::new(alloc);
     for _number in 0..count {
-        bases.add_page("http://example.com/", "a.html", &BARE)?;
+        bases.add_page("http://example.com/", "a.html", &bare)?;
     }
     Ok(bases)
 }

@@ -3,14 +3,14 @@ use crate::{
     are_blank, element_alone, first_element, first_named, has_no_elements, holds_only, is_blank,
     is_blank_beside, is_of, sole_named, text_alone,
 };
-use ix_base::{Element, Name, Node, Place};
+use ix_base::{Element, Name, Node, Place, Scope};
 
 const fn element<'a>(local: &'a str) -> Element<'a> {
     Element {
         place: Place { page: 0, offset: 0 },
         name: Name { ns: "n", local },
         attrs: &[],
-        scope: &[],
+        scope: Scope::empty(),
         children: &[],
     }
 }

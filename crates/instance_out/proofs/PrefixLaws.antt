@@ -8,7 +8,8 @@ use Rattle.std.proofs.lemmas.Map.Text.{is_eq-slice_cmp}
 use Rattle.ix_base.specs.Once.{put, in_order}
 use Rattle.ix_base.specs.Sorted.{text_cmp}
 use Rattle.ix_base.specs.declared.content.OwnName.{OwnName}
-use Rattle.instance_out.specs.Prefixes.{Bound, prefix_in, is_known, with_space, spaces_of}
+use Rattle.ix_base.specs.Trees.{Bound}
+use Rattle.instance_out.specs.Prefixes.{prefix_in, is_known, with_space, spaces_of}
 use Rattle.instance_out.specs.Tables.{own_spaces}
 
 prefix_in-by : (t : Bool) (p : List ℕ) (o more : Option (List ℕ)) (r : Option (List ℕ)) → cond t (Some p) o ≡ r → (o ≡ r → more ≡ r) → cond t (Some p) more ≡ r
@@ -18,12 +19,12 @@ prefix_in-by false p o more r e f = f e
 -- a prefix that is found stays the first
 pub prefix_in-found : (bs cs : List Bound) (space p : List ℕ) → prefix_in bs space ≡ Some p → prefix_in (bs ++ cs) space ≡ Some p
 prefix_in-found [] cs space p e = absurd (cc)
-prefix_in-found (b ∷ bs) cs space p e = prefix_in-by (bytes_eq space b.space) b.prefix (prefix_in bs space) (prefix_in (bs ++ cs) space) (Some p) e (prefix_in-found bs cs space p)
+prefix_in-found (b ∷ bs) cs space p e = prefix_in-by (bytes_eq space b.ns) b.prefix (prefix_in bs space) (prefix_in (bs ++ cs) space) (Some p) e (prefix_in-found bs cs space p)
 
 -- and where there is none, the others are looked through
 pub prefix_in-missed : (bs cs : List Bound) (space : List ℕ) → prefix_in bs space ≡ None → prefix_in (bs ++ cs) space ≡ prefix_in cs space
 prefix_in-missed [] cs space e = refl
-prefix_in-missed (b ∷ bs) cs space e = later (bytes_eq space b.space) e (prefix_in-missed bs cs space)
+prefix_in-missed (b ∷ bs) cs space e = later (bytes_eq space b.ns) e (prefix_in-missed bs cs space)
   where
     later : (t : Bool) → cond t (Some b.prefix) (prefix_in bs space) ≡ None → (prefix_in bs space ≡ None → prefix_in (bs ++ cs) space ≡ prefix_in cs space)
         → cond t (Some b.prefix) (prefix_in (bs ++ cs) space) ≡ prefix_in cs space

@@ -14,14 +14,14 @@ use Rattle.ix_base.specs.NcName.{is_ncname, is_name_start, is_name_char}
 use Rattle.ix_base.specs.Namespaces.{xml_namespace, iso4217_namespace, link_namespace, xbrldi_namespace, xbrli_namespace, xlink_namespace, xsi_namespace}
 use Rattle.ix_base.specs.Scope.{namespace_of, bound_over, declared_over, scope_under, outermost}
 use Rattle.ix_base.specs.Trees.{Bound}
-use Rattle.instance_out.specs.Prefixes.{Bound as Declared, xml, fixed, numeral, numbered, declared_for, declaration, prefix_in, is_known, with_space, spaces_of}
+use Rattle.instance_out.specs.Prefixes.{xml, fixed, numeral, numbered, declared_for, declaration, prefix_in, is_known, with_space, spaces_of}
 use Rattle.page_tree.specs.Tags.{binding_of}
 use Rattle.page_tree.proofs.AllowedText.{is_low, low-ncname}
 use Rattle.page_tree.proofs.SpanLaws.{bytes-one, bytes-same, bytes-apart, either}
 use Rattle.instance_out.specs.Canonical.{Spaces, root}
 use Rattle.page_tree.specs.Spellings.{read as meant}
 use Rattle.page_tree.specs.Fine.{scope_in}
-use Rattle.instance_out.specs.Good.{bound_as, declared_scope}
+use Rattle.instance_out.specs.Good.{declared_scope}
 use Rattle.instance_out.proofs.NameLaws.{Knows, is_listed}
 use Rattle.instance_out.proofs.RunLaws.{Each}
 
@@ -49,36 +49,36 @@ over-kept (x ∷ scope) b p a = by (bytes_eq x.prefix b.prefix) (is_lt (slice_cm
 
 -- Declarations.
 
-declared-bindings : (ds : List Declared) → filter_map binding_of (map meant (map declaration ds)) ≡ map bound_as ds
+declared-bindings : (ds : List Bound) → filter_map binding_of (map meant (map declaration ds)) ≡ ds
 declared-bindings [] = refl
-declared-bindings (d ∷ ds) = ap (λ x. bound_as d ∷ x) (declared-bindings ds)
+declared-bindings (d ∷ ds) = ap (λ x. d ∷ x) (declared-bindings ds)
 
 -- none of them has this prefix, and none is empty
-abbrev pub AreOther : List ℕ → List Declared → Type 0
+abbrev pub AreOther : List ℕ → List Bound → Type 0
 AreOther p ds = Each (λ d. (bytes_eq d.prefix p ≡ false) × (bytes_eq d.prefix [] ≡ false)) ds
 
-declared-put : (scope : List Bound) (d : Declared) → bytes_eq d.prefix [] ≡ false → declared_over scope (bound_as d) ≡ bound_over scope (bound_as d)
+declared-put : (scope : List Bound) (d : Bound) → bytes_eq d.prefix [] ≡ false → declared_over scope d ≡ bound_over scope d
 declared-put scope d e = rw e refl
 
-under-kept : (ds : List Declared) (scope : List Bound) (p : List ℕ) → AreOther p ds → namespace_of (scope_under scope (map bound_as ds)) p ≡ namespace_of scope p
+under-kept : (ds : List Bound) (scope : List Bound) (p : List ℕ) → AreOther p ds → namespace_of (scope_under scope ds) p ≡ namespace_of scope p
 under-kept [] scope p h = refl
-under-kept (d ∷ ds) scope p (h, hs) = ap (λ x. namespace_of (scope_under x (map bound_as ds)) p) (declared-put scope d h.1) ∙ (under-kept ds (bound_over scope (bound_as d)) p hs ∙ over-kept scope (bound_as d) p h.0)
+under-kept (d ∷ ds) scope p (h, hs) = ap (λ x. namespace_of (scope_under x ds) p) (declared-put scope d h.1) ∙ (under-kept ds (bound_over scope d) p hs ∙ over-kept scope d p h.0)
 
-abbrev pub AreFresh : List Declared → Type 0
+abbrev pub AreFresh : List Bound → Type 0
 AreFresh [] = Unit {0}
 AreFresh (d ∷ ds) = (bytes_eq d.prefix [] ≡ false) × AreOther d.prefix ds × AreFresh ds
 
-under-found : (ds : List Declared) (scope : List Bound) (ns p : List ℕ) → AreFresh ds → prefix_in ds ns ≡ Some p → namespace_of (scope_under scope (map bound_as ds)) p ≡ Some ns
+under-found : (ds : List Bound) (scope : List Bound) (ns p : List ℕ) → AreFresh ds → prefix_in ds ns ≡ Some p → namespace_of (scope_under scope ds) p ≡ Some ns
 under-found [] scope ns p h e = absurd (cc)
-under-found (d ∷ ds) scope ns p (some, other, rest) e = ap (λ x. namespace_of (scope_under x (map bound_as ds)) p) (declared-put scope d some) ∙ (by (bytes_eq ns d.space) refl e (under-found ds (bound_over scope (bound_as d)) ns p rest))
+under-found (d ∷ ds) scope ns p (some, other, rest) e = ap (λ x. namespace_of (scope_under x ds) p) (declared-put scope d some) ∙ (by (bytes_eq ns d.ns) refl e (under-found ds (bound_over scope d) ns p rest))
   where
-    by : (b : Bool) → bytes_eq ns d.space ≡ b → cond b (Some d.prefix) (prefix_in ds ns) ≡ Some p
-        → (prefix_in ds ns ≡ Some p → namespace_of (scope_under (bound_over scope (bound_as d)) (map bound_as ds)) p ≡ Some ns)
-        → namespace_of (scope_under (bound_over scope (bound_as d)) (map bound_as ds)) p ≡ Some ns
+    by : (b : Bool) → bytes_eq ns d.ns ≡ b → cond b (Some d.prefix) (prefix_in ds ns) ≡ Some p
+        → (prefix_in ds ns ≡ Some p → namespace_of (scope_under (bound_over scope d) ds) p ≡ Some ns)
+        → namespace_of (scope_under (bound_over scope d) ds) p ≡ Some ns
     by true s e ih =
         let q : d.prefix ≡ p = cc in
-        subst (λ x. namespace_of (scope_under (bound_over scope (bound_as d)) (map bound_as ds)) x ≡ Some ns) q
-        (under-kept ds (bound_over scope (bound_as d)) d.prefix other ∙ over-same scope (bound_as d) ∙ ap Some (sym (bytes-one ns d.space s)))
+        subst (λ x. namespace_of (scope_under (bound_over scope d) ds) x ≡ Some ns) q
+        (under-kept ds (bound_over scope d) d.prefix other ∙ over-same scope d ∙ ap Some (sym (bytes-one ns d.ns s)))
     by false s e ih = ih e
 
 some-same : (a b : List ℕ) → Some a ≡ Some b → a ≡ b
@@ -170,7 +170,7 @@ pub numbered-name : (k : ℕ) → is_ncname (110 ∷ numeral k) ≡ true
 unfolding is_name_start
 numbered-name k = let q = digits-low (digits_of 10 k) (all_below_base_digits_of 10 k (omega arith)) in low-ncname (110 ∷ numeral k) q.0 q.1
 
-abbrev AreNames : List Declared → Type 0
+abbrev AreNames : List Bound → Type 0
 AreNames ds = Each (λ d. is_ncname d.prefix ≡ true) ds
 
 numbered-names : (k : ℕ) (ss : Spaces) → AreNames (numbered k ss)
@@ -181,9 +181,9 @@ pub declared-names : (ss : Spaces) → AreNames (xml ∷ declared_for ss)
 unfolding xml fixed is_ncname is_name_start is_name_char chars_of is_utf8 encode
 declared-names ss = (refl, (refl, (refl, (refl, (refl, (refl, (refl, numbered-names 1 ss)))))))
 
-pub prefix-name : (ds : List Declared) (ns p : List ℕ) → AreNames ds → prefix_in ds ns ≡ Some p → is_ncname p ≡ true
+pub prefix-name : (ds : List Bound) (ns p : List ℕ) → AreNames ds → prefix_in ds ns ≡ Some p → is_ncname p ≡ true
 prefix-name [] ns p h e = absurd (cc)
-prefix-name (d ∷ ds) ns p (h, hs) e = by (bytes_eq ns d.space) e (prefix-name ds ns p hs)
+prefix-name (d ∷ ds) ns p (h, hs) e = by (bytes_eq ns d.ns) e (prefix-name ds ns p hs)
   where
     by : (b : Bool) → cond b (Some d.prefix) (prefix_in ds ns) ≡ Some p → (prefix_in ds ns ≡ Some p → is_ncname p ≡ true) → is_ncname p ≡ true
     by true e ih = let q : d.prefix ≡ p = cc in subst (λ x. is_ncname x ≡ true) q h
@@ -211,13 +211,13 @@ root-scope ss = ap (scope_under outermost) (declared-bindings (declared_for ss))
 
 pub bound-prefix : (ss : Spaces) (ns p : List ℕ) → prefix_in (xml ∷ declared_for ss) ns ≡ Some p → namespace_of (declared_scope ss) p ≡ Some ns
 unfolding xml xml_namespace declared_scope
-bound-prefix ss ns p e = by (bytes_eq ns xml.space) refl e
+bound-prefix ss ns p e = by (bytes_eq ns xml.ns) refl e
   where
-    by : (b : Bool) → bytes_eq ns xml.space ≡ b → cond b (Some xml.prefix) (prefix_in (declared_for ss) ns) ≡ Some p → namespace_of (scope_under outermost (map bound_as (declared_for ss))) p ≡ Some ns
+    by : (b : Bool) → bytes_eq ns xml.ns ≡ b → cond b (Some xml.prefix) (prefix_in (declared_for ss) ns) ≡ Some p → namespace_of (scope_under outermost (declared_for ss)) p ≡ Some ns
     by true s e =
         let q : codes "xml" ≡ p = some-same (codes "xml") p e in
-        subst (λ x. namespace_of (scope_under outermost (map bound_as (declared_for ss))) x ≡ Some ns) q
-        (under-kept (declared_for ss) outermost (codes "xml") (declared-xml ss) ∙ ap Some (sym (bytes-one ns xml.space s)))
+        subst (λ x. namespace_of (scope_under outermost (declared_for ss)) x ≡ Some ns) q
+        (under-kept (declared_for ss) outermost (codes "xml") (declared-xml ss) ∙ ap Some (sym (bytes-one ns xml.ns s)))
     by false s e = under-found (declared_for ss) outermost ns p (declared-fresh ss) e
 
 pub root-knows : (ss : Spaces) → AreFilled ss → Knows (root_scope ss) ss
@@ -301,18 +301,18 @@ spaces-there (n ∷ ns) = by (is_known n.ns) refl (spaces-there ns)
     by true e ih = (or_left (is_known n.ns) (among (spaces_of ns) n.ns) e, ih)
     by false e ih = (or_right (is_known n.ns) (among (with_space n.ns (spaces_of ns)) n.ns) (with-itself n.ns (spaces_of ns)), all-more n.ns (spaces_of ns) ns ih)
 
-append-some : (ds es : List Declared) (ns : List ℕ) → is_some (prefix_in ds ns) ≡ true → is_some (prefix_in (ds ++ es) ns) ≡ true
+append-some : (ds es : List Bound) (ns : List ℕ) → is_some (prefix_in ds ns) ≡ true → is_some (prefix_in (ds ++ es) ns) ≡ true
 append-some [] es ns h = absurd (cc)
-append-some (d ∷ ds) es ns h = by (bytes_eq ns d.space) h (append-some ds es ns)
+append-some (d ∷ ds) es ns h = by (bytes_eq ns d.ns) h (append-some ds es ns)
   where
     by : (b : Bool) → is_some (cond b (Some d.prefix) (prefix_in ds ns)) ≡ true → (is_some (prefix_in ds ns) ≡ true → is_some (prefix_in (ds ++ es) ns) ≡ true)
         → is_some (cond b (Some d.prefix) (prefix_in (ds ++ es) ns)) ≡ true
     by true h ih = refl
     by false h ih = ih h
 
-prepend-some : (ds es : List Declared) (ns : List ℕ) → is_some (prefix_in es ns) ≡ true → is_some (prefix_in (ds ++ es) ns) ≡ true
+prepend-some : (ds es : List Bound) (ns : List ℕ) → is_some (prefix_in es ns) ≡ true → is_some (prefix_in (ds ++ es) ns) ≡ true
 prepend-some [] es ns h = h
-prepend-some (d ∷ ds) es ns h = by (bytes_eq ns d.space) (prepend-some ds es ns h)
+prepend-some (d ∷ ds) es ns h = by (bytes_eq ns d.ns) (prepend-some ds es ns h)
   where
     by : (b : Bool) → is_some (prefix_in (ds ++ es) ns) ≡ true → is_some (cond b (Some d.prefix) (prefix_in (ds ++ es) ns)) ≡ true
     by true ih = refl

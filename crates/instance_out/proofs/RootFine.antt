@@ -5,7 +5,8 @@ use Rattle.std.proofs.lemmas.Bool.{and_parts}
 use Rattle.ix_base.specs.NcName.{is_allowed, are_allowed, is_ncname}
 use Rattle.ix_base.specs.Namespaces.{xml_namespace, xmlns_namespace, iso4217_namespace, link_namespace, xbrldi_namespace, xbrli_namespace, xlink_namespace, xsi_namespace}
 use Rattle.ix_base.specs.Scope.{namespace_of, outermost, is_qname}
-use Rattle.instance_out.specs.Prefixes.{Bound, xml, fixed, numbered, declared_for, declaration, prefix_in, qualified, name_text}
+use Rattle.ix_base.specs.Trees.{Bound}
+use Rattle.instance_out.specs.Prefixes.{xml, fixed, numbered, declared_for, declaration, prefix_in, qualified, name_text}
 use Rattle.ix_base.specs.declared.content.OwnName.{OwnName}
 use Rattle.page_tree.specs.Fine.{declaring, is_fine_binding, are_apart, is_simple, are_bound, is_fine_tag}
 use Rattle.page_tree.specs.Tags.{is_unbound, is_bad}
@@ -15,23 +16,23 @@ use Rattle.page_tree.proofs.FineLaws.{bytes-swapped}
 use Rattle.page_tree.proofs.FineTags.{simple-ncname}
 use Rattle.page_tree.proofs.SpanLaws.{and_both}
 use Rattle.instance_out.specs.Canonical.{Spaces, root}
-use Rattle.instance_out.specs.Good.{bound_as, declared_scope, is_space}
+use Rattle.instance_out.specs.Good.{declared_scope, is_space}
 use Rattle.instance_out.proofs.ApartLaws.{not-is}
 use Rattle.instance_out.proofs.PrefixReading.{AreOther, AreFresh, declared-fresh, declared-names, numbered-name, prefix-name, bound-prefix}
 
 -- Each prefix once.
 
-other-apart : (p : List ℕ) (ds : List Bound) → AreOther p ds → list_any (λ x. bytes_eq p x.prefix) (map bound_as ds) ≡ false
+other-apart : (p : List ℕ) (ds : List Bound) → AreOther p ds → list_any (λ x. bytes_eq p x.prefix) ds ≡ false
 other-apart p [] h = refl
 other-apart p (d ∷ ds) (h, hs) = rw (bytes-swapped d.prefix p h.0) (other-apart p ds hs)
 
-fresh-apart : (ds : List Bound) → AreFresh ds → are_apart (map bound_as ds) ≡ true
+fresh-apart : (ds : List Bound) → AreFresh ds → are_apart ds ≡ true
 fresh-apart [] h = refl
 fresh-apart (d ∷ ds) (some, other, rest) = rw (other-apart d.prefix ds other) (fresh-apart ds rest)
 
 -- What they are bound to.
 
-numbered-fine : (k : ℕ) (ss : Spaces) → list_all is_space ss ≡ true → list_all is_fine_binding (map bound_as (numbered k ss)) ≡ true
+numbered-fine : (k : ℕ) (ss : Spaces) → list_all is_space ss ≡ true → list_all is_fine_binding (numbered k ss) ≡ true
 numbered-fine k [] h = refl
 numbered-fine k (s ∷ ss) h =
     let z = and_parts (is_space s) (list_all is_space ss) h in
@@ -44,7 +45,7 @@ numbered-fine k (s ∷ ss) h =
 fixed-binding : (p ns : List ℕ) → is_simple p ≡ true → are_allowed ns ≡ true → is_bad (record { prefix = p; ns = ns }) ≡ false → is_fine_binding (record { prefix = p; ns = ns }) ≡ true
 fixed-binding p ns a b c = rw (simple-ncname p a, b, c) refl
 
-declared-fine : (ss : Spaces) → list_all is_space ss ≡ true → list_all is_fine_binding (map bound_as (declared_for ss)) ≡ true
+declared-fine : (ss : Spaces) → list_all is_space ss ≡ true → list_all is_fine_binding (declared_for ss) ≡ true
 unfolding fixed is_allowed xml_namespace xmlns_namespace iso4217_namespace link_namespace xbrldi_namespace xbrli_namespace xlink_namespace xsi_namespace
 declared-fine ss h =
     and_both _ _ (fixed-binding (codes "iso4217") (codes "http://www.xbrl.org/2003/iso4217") refl (low-allowed (codes "http://www.xbrl.org/2003/iso4217") refl refl) refl)
@@ -89,7 +90,7 @@ own-name ss n h = by (prefix_in (xml ∷ declared_for ss) n.ns) refl
 
 -- The root's tag.
 
-declared-as : (bs : List Bound) → map declaration bs ≡ map declaring (map bound_as bs)
+declared-as : (bs : List Bound) → map declaration bs ≡ map declaring bs
 declared-as [] = refl
 declared-as (b ∷ bs) = ap (λ x. declaration b ∷ x) (declared-as bs)
 
@@ -97,6 +98,6 @@ pub root-fine : (ss : Spaces) → list_all is_space ss ≡ true → is_fine_tag 
 unfolding fixed xml xml_namespace iso4217_namespace link_namespace xbrldi_namespace xbrli_namespace declared_scope
 root-fine ss h =
     ap (is_fine_tag outermost root) (declared-as (declared_for ss))
-    ∙ declaring-fine outermost root (map bound_as (declared_for ss)) (prefixed-qname (codes "xbrli") (codes "xbrl") (simple-ncname (codes "xbrli") refl) (simple-ncname (codes "xbrl") refl))
+    ∙ declaring-fine outermost root (declared_for ss) (prefixed-qname (codes "xbrli") (codes "xbrl") (simple-ncname (codes "xbrli") refl) (simple-ncname (codes "xbrl") refl))
     (declared-fine ss h) (fresh-apart (declared_for ss) (declared-fresh ss))
     (prefix-bound (declared_scope ss) (codes "xbrli") (codes "xbrl") (simple-ncname (codes "xbrli") refl) (some-bound ss xbrli_namespace (codes "xbrli") refl))

@@ -16,7 +16,7 @@ root_line-is ss = ap (λ x. ROOT.now ++ x) (attrs_text-append (map declaration (
 
 -- one more declaration
 pub root_step : (spaces : List (List ℕ)) (k : ℕ) (s old new all more : List ℕ)
-    → ((m : List ℕ) → new ++ m ≡ old ++ attrs_text (declaration (record { prefix = 110 ∷ numeral k; space = s }) ∷ []) m)
+    → ((m : List ℕ) → new ++ m ≡ old ++ attrs_text (declaration (record { prefix = 110 ∷ numeral k; ns = s }) ∷ []) m)
     → old ++ attrs_text (map declaration (numbered k (s ∷ spaces))) more ≡ all
     → new ++ attrs_text (map declaration (numbered (k + 1) spaces)) more ≡ all
 root_step spaces k s old new all more h inv = rw add-one (h _ ∙ inv)

@@ -24,22 +24,18 @@ use Rattle.ix_base.specs.Facts.{Facts, none, item, tuple}
 use Rattle.ix_base.specs.Namespaces.{xml_namespace, xmlns_namespace}
 use Rattle.ix_base.specs.NcName.{is_ncname, are_allowed}
 use Rattle.ix_base.specs.Scope.{scope_under, outermost}
-use Rattle.ix_base.specs.Trees as trees
+use Rattle.ix_base.specs.Trees.{Bound}
 use Rattle.ix_base.specs.Written.{Markup, nothing, node, leaf}
 use Rattle.instance_out.specs.Canonical.{Spaces}
 use Rattle.instance_out.specs.Moments.{start_text as start_moment, end_text as end_moment}
-use Rattle.instance_out.specs.Prefixes.{Bound, declared_for}
+use Rattle.instance_out.specs.Prefixes.{declared_for}
 use Rattle.page_tree.specs.Fine.{is_fine}
 
 -- Scopes and elements.
 
--- a declared prefix as a scope has it
-abbrev pub bound_as : Bound → trees.Bound
-bound_as b = record { prefix = b.prefix; ns = b.space }
-
 -- the scope of a root that declares what these namespaces need
-unfoldable pub declared_scope : Spaces → List trees.Bound
-declared_scope spaces = scope_under outermost (map bound_as (declared_for spaces))
+unfoldable pub declared_scope : Spaces → List Bound
+declared_scope spaces = scope_under outermost (declared_for spaces)
 
 -- a namespace that a prefix of its own may be bound to
 abbrev pub is_space : List ℕ → Bool
@@ -119,7 +115,7 @@ abbrev pub is_spaced : OwnName → Bool
 is_spaced n = are_allowed n.ns && not (bytes_eq n.ns xmlns_namespace)
 
 -- a footnote, whose body is given as markup
-abbrev pub good_footnote : (List ℕ → Markup) → ℕ → List trees.Bound → Footnote → Bool
+abbrev pub good_footnote : (List ℕ → Markup) → ℕ → List Bound → Footnote → Bool
 good_footnote bodies below scope f =
     are_allowed f.id && (are_allowed f.role && (allowed_if f.title && (are_allowed f.lang && is_fine (bodies f.body) below scope)))
 
@@ -127,6 +123,6 @@ abbrev pub good_arc : Arc → Bool
 good_arc a = are_allowed a.arcrole && (are_allowed a.from_id && (are_allowed a.to_id && are_allowed a.order))
 
 -- a footnote link, with markup for each body
-abbrev pub good_link : (List ℕ → Markup) → ℕ → List trees.Bound → NoteLink → Bool
+abbrev pub good_link : (List ℕ → Markup) → ℕ → List Bound → NoteLink → Bool
 good_link bodies below scope l =
     are_allowed l.role && (list_all are_allowed l.locs && (list_all (good_footnote bodies below scope) l.footnotes && list_all good_arc l.arcs))

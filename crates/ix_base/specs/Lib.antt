@@ -1,6 +1,7 @@
 pub mod Address
 pub mod Asks
 pub mod Attributes
+pub mod Bindings
 pub mod Breaches
 pub mod Calls
 pub mod Chain

@@ -1,10 +1,11 @@
 -- A page's tree without where it lies in memory.
 use Rattle.std.specs.Prelude.{ℕ, List, [], ◌∷◌, map}
 use Rattle.ix_base.specs.declared.tree.Attr.{Attr}
-use Rattle.ix_base.specs.declared.tree.Binding.{Binding}
 use Rattle.ix_base.specs.declared.tree.Name.{Name}
 use Rattle.ix_base.specs.declared.tree.Node.{Node}
 use Rattle.ix_base.specs.declared.tree.Element.{Element}
+use Rattle.ix_base.specs.declared.tree.Scope.{Scope}
+pub use Rattle.ix_base.specs.Bindings.{Bound, bound}
 use Rattle.ix_base.specs.declared.tree.Node.TheOpen.{Node-F, Element-F}
 use Rattle.ix_base.specs.declared.tree.Node.TheFolds.{fold-Node, fold-Element}
 
@@ -15,10 +16,6 @@ pub record Named : Type 0 where
 pub record Valued : Type 0 where
   pub name : Named
   pub value : List ℕ
-
-pub record Bound : Type 0 where
-  pub prefix : List ℕ
-  pub ns : List ℕ
 
 -- what an element says of itself
 pub record Head : Type 0 where
@@ -43,11 +40,12 @@ named n = record { ns = n.ns.now; local = n.local.now }
 abbrev pub valued : Attr → Valued
 valued a = record { name = named a.name; value = a.value.now }
 
-abbrev pub bound : Binding → Bound
-bound b = record { prefix = b.prefix.now; ns = b.ns.now }
+-- what a scope binds
+abbrev pub bindings_in : Scope → List Bound
+bindings_in s = map bound s.bindings.now
 
 abbrev pub head_of : {X Y : Type 0} → Element-F X Y → Head
-head_of e = record { offset = e.place.offset; name = named e.name; attrs = map valued e.attrs.now; scope = map bound e.scope.now }
+head_of e = record { offset = e.place.offset; name = named e.name; attrs = map valued e.attrs.now; scope = bindings_in e.scope }
 
 -- each node put before those after it
 abbrev pub joined : List (Nodes → Nodes) → Nodes

@@ -18,6 +18,7 @@ mod once;
 mod outside;
 mod place;
 mod rule;
+mod scope;
 #[cfg(test)]
 mod tests;
 mod text;
@@ -40,10 +41,11 @@ pub use once::each_once;
 pub use outside::{Failed, PageSource, TargetSink, TextSink};
 pub use place::Place;
 pub use rule::Rule;
+pub use scope::place_in;
 use std::alloc::{AllocError, AllocFailed};
 pub use text::Text;
 use thiserror::Error;
-pub use tree::{Attr, Binding, Element, Name, Node, Spot};
+pub use tree::{Attr, Binding, Element, Name, Node, Scope, Spot};
 pub use white::{is_white, token, trim_start};
 
 /// Want of memory.

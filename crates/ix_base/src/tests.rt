@@ -4,7 +4,7 @@ ghost use Rattle.ix_base.specs.MemTargets.{sink_faults};
 
 use crate::{
     Attr, Element, Failed, List, MemPage, MemPages, MemTargets, MemText, Name, PageSource, Place,
-    Rule, TargetSink, Text, TextSink, attr_of, each_once, push_ae, push_te, token,
+    Rule, Scope, TargetSink, Text, TextSink, attr_of, each_once, push_ae, push_te, token,
 };
 use std::alloc::Global;
 use std::test::Fail;
@@ -88,7 +88,7 @@ fn an_attribute_is_found_by_namespace_and_local_name(rt: HostRuntime) {
         place: Place { page: 0, offset: 0 },
         name: Name { ns: "", local: "p" },
         attrs: &attrs,
-        scope: &[],
+        scope: Scope::empty(),
         children: &[],
     };
     assert_eq!(rt; attr_of(&element, "n", "base"), Some("named"));

@@ -1,4 +1,6 @@
 //! Trees of pages. They lie in an arena, and borrow their texts from it.
+ghost use Rattle.std.specs.Prelude.{◌≡◌, true, map};
+ghost use Rattle.ix_base.specs.Bindings.{bound, are_ordered};
 
 use crate::place::Place;
 
@@ -23,6 +25,13 @@ pub struct Binding<'a> {
     pub ns: &'a str,
 }
 
+/// The bindings that hold in an element, each prefix once, in byte order of the prefixes (Namespaces in XML 1.0, section 6).
+#[derive(Clone, Copy)]
+pub struct Scope<'a> {
+    pub bindings: &'a [Binding<'a>],
+    ghost ordered: { are_ordered (map bound bindings.now) ≡ true },
+}
+
 /// A child of an element: an element or a text.
 #[derive(Clone, Copy)]
 #[cycle(tree)]
@@ -31,15 +40,14 @@ pub enum Node<'a> {
     Chars(&'a str),
 }
 
-/// An element. Its place is that of the `<` of its tag; its scope lists the bindings that hold in it, each prefix once,
-/// in byte order of the prefixes.
+/// An element. Its place is that of the `<` of its tag.
 #[derive(Clone, Copy)]
 #[cycle(tree)]
 pub struct Element<'a> {
     pub place: Place,
     pub name: Name<'a>,
     pub attrs: &'a [Attr<'a>],
-    pub scope: &'a [Binding<'a>],
+    pub scope: Scope<'a>,
     pub children: &'a [Node<'a>],
 }
 

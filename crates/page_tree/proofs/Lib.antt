@@ -15,7 +15,6 @@ pub mod PieceLaws
 pub mod SizeLaws
 pub mod CodeNames
 pub mod ScopeLaws
-pub mod OrderLaws
 pub mod MergeLaws
 pub mod TwiceLaws
 pub mod Children

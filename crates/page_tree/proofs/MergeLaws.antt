@@ -5,13 +5,12 @@ use Rattle.std.specs.List.{list_all}
 use Rattle.std.proofs.lemmas.List.Folds.{list_all-append}
 use Rattle.std.proofs.lemmas.List.{map-append, take-map, drop-map}
 use Rattle.ix_base.specs.declared.tree.Binding.{Binding}
-use Rattle.ix_base.specs.Trees.{Bound, bound}
+use Rattle.ix_base.specs.Bindings.{Bound, bound, is_below, are_ordered, place_of}
 use Rattle.ix_base.specs.Scope.{namespace_of, bound_over, declared_over, scope_under}
-use Rattle.page_tree.specs.Names.{place_of}
-use Rattle.page_tree.specs.Orders.{is_below, are_ordered, bound_under, entered, kept, unheaded, merged}
-use Rattle.page_tree.proofs.OrderLaws.{below-back, below-self, same-order, all-behind, head-order, tail-order, none-before}
+use Rattle.page_tree.specs.Orders.{bound_under, entered, kept, unheaded, merged}
+use Rattle.ix_base.proofs.ScopeLemmas.{below-back, below-self, either-below, same-order, all-behind, head-order, tail-order, none-before}
 use Rattle.page_tree.proofs.SpanLaws.{clash, and_both, bytes-one, bytes-same}
-use Rattle.page_tree.proofs.SoundScopes.{either-below, over-same, over-other}
+use Rattle.page_tree.proofs.SoundScopes.{over-same, over-other}
 use Rattle.page_tree.proofs.TagLaws.{and_left, and_right}
 
 -- the bindings before and behind a prefix

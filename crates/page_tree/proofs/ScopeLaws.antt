@@ -10,22 +10,12 @@ use Rattle.std.proofs.lemmas.Map.Text.{is_eq-slice_cmp}
 use Rattle.ix_base.specs.declared.tree.Binding.{Binding}
 use Rattle.ix_base.specs.Trees.{Bound, bound}
 use Rattle.ix_base.specs.Scope.{bound_over}
-use Rattle.page_tree.specs.Names.{has_at}
 use Rattle.page_tree.specs.Orders.{bound_under, entered}
 use Rattle.page_tree.specs.Tags.{binding_of}
 use Rattle.page_tree.specs.Views.{attribute_of}
 use Rattle.page_tree.specs.declared.token.Attribute.{Attribute}
-use Rattle.page_tree.proofs.OrderLaws.{same-order}
+use Rattle.ix_base.proofs.ScopeLemmas.{same-order}
 use Rattle.page_tree.proofs.SpanLaws.{bytes-one}
-
-pub has_at-index : (xs : List Binding) (at : ℕ) (p : List ℕ) (d : Binding) → at < length xs → has_at (map bound xs) at p ≡ bytes_eq (bound (get_or xs at d)).prefix p
-has_at-index [] at p d h = absurd (omega arith)
-has_at-index (x ∷ xs) zero p d h = refl
-has_at-index (x ∷ xs) (suc at) p d h = has_at-index xs at p d (omega arith)
-
-pub has_at-end : (xs : List Binding) (p : List ℕ) → has_at (map bound xs) (length xs) p ≡ false
-has_at-end [] p = refl
-has_at-end (x ∷ xs) p = has_at-end xs p
 
 -- a map's entries as the bindings of a scope
 abbrev Key : Type 0

@@ -17,7 +17,7 @@ use Rattle.page_tree.specs.declared.names.Expanded.{Expanded}
 use Rattle.page_tree.specs.declared.token.Attribute as code
 use Rattle.std.specs.Borrow.{Bor}
 use Rattle.std.proofs.lemmas.List.{drop_more}
-use Rattle.page_tree.proofs.OrderLaws.{same-order}
+use Rattle.ix_base.proofs.ScopeLemmas.{same-order}
 
 or-swap : (a b c d : Bool) → ((a || b) || (c || d)) ≡ ((a || c) || (b || d))
 or-swap true b c d = refl

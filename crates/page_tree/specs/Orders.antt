@@ -1,20 +1,8 @@
--- Scopes in byte order of their prefixes, and declarations put over one at once.
-use Rattle.std.specs.Prelude.{ℕ, Bool, true, ◌&&◌, List, [], ◌∷◌, ◌++◌, take, drop, if◌then◌else◌, bytes_eq}
-use Rattle.std.specs.List.{list_all}
+-- Declarations put over a scope at once.
+use Rattle.std.specs.Prelude.{ℕ, ◌&&◌, List, [], ◌∷◌, ◌++◌, take, drop, if◌then◌else◌, bytes_eq}
 use Rattle.std.specs.Borrow.{Bor}
-use Rattle.std.specs.Ordering.{nat_cmp, is_lt}
-use Rattle.std.specs.Cmp.Lexicographic.{slice_cmp}
-use Rattle.ix_base.specs.Trees.{Bound}
+use Rattle.ix_base.specs.Bindings.{Bound, place_of}
 use Rattle.ix_base.specs.Scope.{bound_over}
-use Rattle.page_tree.specs.Names.{place_of}
-
-abbrev pub is_below : List ℕ → List ℕ → Bool
-is_below p q = is_lt (slice_cmp nat_cmp p q)
-
--- each prefix comes before all those behind it
-abbrev pub are_ordered : List Bound → Bool
-are_ordered [] = true
-are_ordered (b ∷ scope) = list_all (λ x. is_below b.prefix x.prefix) scope && are_ordered scope
 
 -- a prefix with what it is bound to
 abbrev pub entered : Bor (List ℕ) × Bor (List ℕ) → Bound

@@ -1,12 +1,11 @@
 //! An open element of a page.
-ghost use Rattle.std.specs.Prelude.{◌≡◌, ◌++◌, [], true, OnOk, string_bytes, map, flat_map};
+ghost use Rattle.std.specs.Prelude.{◌≡◌, ◌++◌, [], OnOk, string_bytes, flat_map};
 ghost use Rattle.ix_base.specs.Elements.{pages_of, pages_in};
-ghost use Rattle.ix_base.specs.Trees.{none, elem, tree_of, nodes_of, bound};
+ghost use Rattle.ix_base.specs.Trees.{none, elem, tree_of, nodes_of};
 ghost use Rattle.page_tree.specs.Machine.{append, flush};
-ghost use Rattle.page_tree.specs.Orders.{are_ordered};
 
 use bumpalo::Bump;
-use ix_base::{Attr, Binding, Element, Name, NoMemory, Node, Place};
+use ix_base::{Attr, Element, Name, NoMemory, Node, Place, Scope};
 
 /// An open element.
 #[derive(Drop)]
@@ -15,9 +14,8 @@ pub(crate) struct Open<'a> {
     pub place: Place,
     pub name: Name<'a>,
     pub attrs: &'a [Attr<'a>],
-    pub scope: &'a [Binding<'a>],
+    pub scope: Scope<'a>,
     pub children: Vec<Node<'a>>,
-    ghost ordered: { are_ordered (map bound scope.now) ≡ true },
 }
 
 /// The pending text becomes a child.

@@ -1,74 +1,33 @@
-//! Scopes of elements. They are in byte order of the prefixes, so that a prefix is found by halving.
-ghost use Rattle.std.specs.Prelude.{◌≡◌, ◌≤◌, ◌<◌, ◌++◌, ◌&&◌, [], true, length, IfOk, OnOk, map, option_map, bytes_eq};
+//! Scopes of elements: what a tag declares, put over the scope of its parent.
+ghost use Rattle.std.specs.Prelude.{◌≡◌, ◌++◌, ◌&&◌, [], true, IfOk, OnOk, map, bytes_eq};
 ghost use Rattle.std.specs.List.{filter_map};
-ghost use Rattle.ix_base.specs.Trees.{bound};
-ghost use Rattle.ix_base.specs.Scope.{namespace_of as namespace_in, scope_under, outermost};
+ghost use Rattle.ix_base.specs.Bindings.{are_ordered};
+ghost use Rattle.ix_base.specs.Trees.{bound, bindings_in};
+ghost use Rattle.ix_base.specs.Scope.{scope_under, outermost};
 ghost use Rattle.ix_base.specs.Namespaces.{xml_namespace};
 ghost use Rattle.page_tree.specs.Views.{attribute_of};
-ghost use Rattle.page_tree.specs.Names.{place_of, has_at};
-ghost use Rattle.page_tree.specs.Orders.{are_ordered, bound_under, entered, merged as merged_of, kept as kept_of, unheaded as unheaded_of};
+ghost use Rattle.page_tree.specs.Orders.{bound_under, entered, merged as merged_of, kept as kept_of, unheaded as unheaded_of};
 ghost use Rattle.page_tree.specs.Tags.{binding_of as binding_of_attribute};
 
 use crate::names::binding_of;
 use crate::token::Attribute;
 use bumpalo::Bump;
 use ix_base::namespaces::XML;
-use ix_base::{Binding, NoMemory};
+use ix_base::{Binding, NoMemory, Scope, place_in};
 use std::alloc::Global;
 use std::collections::BTreeMap;
 
 /// The scope above the root: the prefix xml is always bound.
 #[tactic(auto, unfolding(ix_base::specs::Namespaces::xml_namespace))]
-pub(crate) fn outermost_scope<'a>() -> &'a [Binding<'a>]
-    ensures value { map bound result.now ≡ outermost }
-    ensures ordered { are_ordered (map bound result.now) ≡ true }
+pub(crate) fn outermost_scope<'a>() -> Scope<'a>
+    ensures { bindings_in result ≡ outermost }
 {
-    &[Binding {
-        prefix: "xml",
-        ns: XML,
-    }]
-}
-
-/// The index of the first binding whose prefix isn't below this one.
-fn place(scope: &[Binding<'_>], prefix: &str) -> usize
-    requires { are_ordered (map bound scope.now) ≡ true }
-    ensures value { result ≡ place_of (map bound scope.now) prefix.now }
-    ensures within { result ≤ length scope.now }
-{
-    let mut low = 0;
-    let mut high = scope.len();
-    while low < high {
-        let middle = low + (high - low) / 2;
-        if scope[middle].prefix < prefix {
-            low = middle + 1;
-        } else {
-            high = middle;
-        }
+    Scope {
+        bindings: &[Binding {
+            prefix: "xml",
+            ns: XML,
+        }],
     }
-    low
-}
-
-fn is_bound_at(scope: &[Binding<'_>], at: usize, prefix: &str) -> bool
-    requires { at ≤ length scope.now }
-    ensures value { result ≡ has_at (map bound scope.now) at prefix.now }
-    ensures within { result ≡ true → at < length scope.now }
-{
-    if at == scope.len() {
-        return false;
-    }
-    scope[at].prefix == prefix
-}
-
-/// The namespace to which a prefix is bound.
-pub(crate) fn namespace_of<'a>(scope: &[Binding<'a>], prefix: &str) -> Option<&'a str>
-    requires { are_ordered (map bound scope.now) ≡ true }
-    ensures { option_map (λ s. s.now) result ≡ namespace_in (map bound scope.now) prefix.now }
-{
-    let at = place(scope, prefix);
-    if is_bound_at(scope, at, prefix) {
-        return Some(scope[at].ns);
-    }
-    None
 }
 
 /// What a tag declares, in byte order of the prefixes: of one prefix the last.
@@ -131,7 +90,7 @@ fn merged<'a>(
     let mut bindings = Vec::new(alloc);
     let mut rest = scope;
     for (prefix, ns) in declared {
-        let at = place(rest, prefix);
+        let at = place_in(rest, prefix);
         let (before, from) = rest.split_at(at);
         bindings.extend_from_slice(before)?;
         keep(&mut bindings, Binding { prefix, ns })?;
@@ -145,19 +104,18 @@ fn merged<'a>(
 pub(crate) fn scope_of<'a>(
     alloc: Global,
     arena: &'a Bump,
-    scope: &'a [Binding<'a>],
+    scope: Scope<'a>,
     attrs: &[Attribute<'a>],
-) -> Result<&'a [Binding<'a>], NoMemory>
-    requires { are_ordered (map bound scope.now) ≡ true }
-    ensures value { IfOk result (λ s. map bound s.now
-        ≡ scope_under (map bound scope.now) (filter_map binding_of_attribute (map attribute_of attrs.now))) }
-    ensures ordered { IfOk result (λ s. are_ordered (map bound s.now) ≡ true) }
+) -> Result<Scope<'a>, NoMemory>
+    ensures { IfOk result (λ s. bindings_in s
+        ≡ scope_under (bindings_in scope.entry) (filter_map binding_of_attribute (map attribute_of attrs.now))) }
 {
     let declared = declarations(alloc, attrs)?;
     if declared.is_empty() {
         return Ok(scope);
     }
-    let bindings = merged(alloc, scope, &declared)?;
-    let scope = arena.try_alloc_slice_copy(bindings.as_slice())?;
-    Ok(scope)
+    let bindings = merged(alloc, scope.bindings, &declared)?;
+    Ok(Scope {
+        bindings: arena.try_alloc_slice_copy(bindings.as_slice())?,
+    })
 }

@@ -1,8 +1,7 @@
 //! The open elements of a page, and what is built of them.
-ghost use Rattle.std.specs.Prelude.{◌≡◌, ◌∷◌, [], ℕ, Bool, true, OnOk, IfOk, string_bytes, option_map, map, flat_map};
+ghost use Rattle.std.specs.Prelude.{◌≡◌, ◌∷◌, [], ℕ, Bool, OnOk, IfOk, string_bytes, option_map, map, flat_map};
 ghost use Rattle.ix_base.specs.Elements.{pages_of, pages_in};
-ghost use Rattle.ix_base.specs.Trees.{none, tree_of, nodes_of, bound};
-ghost use Rattle.page_tree.specs.Orders.{are_ordered};
+ghost use Rattle.ix_base.specs.Trees.{none, tree_of, nodes_of, bindings_in};
 ghost use Rattle.page_tree.specs.Machine.{flushed, scope_in, closed};
 ghost use Rattle.page_tree.specs.Tags.{head_of, scope_of as scope_under_tag};
 ghost use Rattle.page_tree.specs.Views.{tag_of};
@@ -14,7 +13,7 @@ use crate::opened::Open;
 use crate::scope::outermost_scope;
 use crate::token::Tag;
 use bumpalo::Bump;
-use ix_base::{Attr, Binding, Element, NoMemory, Node, Place};
+use ix_base::{Attr, Element, NoMemory, Node, Place, Scope};
 use std::alloc::Global;
 
 /// The pending text becomes a child of the innermost open element.
@@ -37,9 +36,8 @@ pub(crate) fn flush_innermost<'a>(
 }
 
 /// The scope in the innermost open element, or that above the root.
-pub(crate) fn innermost_scope<'a>(elements: &[Open<'a>]) -> &'a [Binding<'a>]
-    ensures value { map bound result.now ≡ scope_in (frames_of elements.now) }
-    ensures ordered { are_ordered (map bound result.now) ≡ true }
+pub(crate) fn innermost_scope<'a>(elements: &[Open<'a>]) -> Scope<'a>
+    ensures { bindings_in result ≡ scope_in (frames_of elements.now) }
 {
     let Some(parent) = elements.last() else {
         return outermost_scope();
@@ -65,15 +63,14 @@ pub(crate) fn open_element<'a>(
     children: Vec<Node<'a>>,
     arena: &'a Bump,
     page: u32,
-    scope: &'a [Binding<'a>],
+    scope: Scope<'a>,
     tag: &Tag<'a, '_>,
     expanded: &[Expanded<'a>],
     attrs: &mut Vec<Attr<'a>>,
 ) -> Result<Open<'a>, NoMemory>
     requires children { children.items ≡ [] }
-    requires ordered { are_ordered (map bound scope.now) ≡ true }
-    requires expanded { map expansion expanded.now ≡ expansions (map bound scope.now) (tag_of tag.now) }
-    ensures frame { IfOk result (λ o. (outer : _) → map bound scope.now ≡ scope_under_tag outer (tag_of tag.now)
+    requires expanded { map expansion expanded.now ≡ expansions (bindings_in scope) (tag_of tag.now) }
+    ensures frame { IfOk result (λ o. (outer : _) → bindings_in scope.entry ≡ scope_under_tag outer (tag_of tag.now)
         → frame o ≡ record { written = tag.now.name.name.now; head = head_of outer (tag_of tag.now); done = none }) }
     ensures pages { IfOk result (λ o. pages_open o ≡ page ∷ []) }
 {

@@ -3,11 +3,10 @@ ghost use Rattle.std.specs.Prelude.{◌≡◌, ◌≢◌, ◌∷◌, [], ◌&&�
 ghost use Rattle.std.specs.List.{list_all};
 ghost use Rattle.ix_base.specs.Elements.{pages_of};
 ghost use Rattle.ix_base.specs.NcName.{is_white as is_white_byte};
-ghost use Rattle.ix_base.specs.Trees.{tree_of, bound, none};
+ghost use Rattle.ix_base.specs.Trees.{tree_of, bindings_in, none};
 ghost use Rattle.page_tree.specs.Break.{broken_by_tag, is_outside as is_outside_of, matches as matches_of};
 ghost use Rattle.page_tree.specs.Expansions.{expansion, expansions};
 ghost use Rattle.page_tree.specs.Machine.{outline_of, scope_in, begin, flushed, opening, standing, closing, running};
-ghost use Rattle.page_tree.specs.Orders.{are_ordered};
 ghost use Rattle.page_tree.specs.Page.{is_within as is_within_profile, is_encoding as is_known_encoding};
 ghost use Rattle.page_tree.specs.Stacks.{frame, frames_of, pages_open, AreAll};
 ghost use Rattle.page_tree.specs.Tags.{head_of, scope_of as scope_under_tag};
@@ -23,7 +22,7 @@ use crate::stack::{
     close_element, empty_list, flush_innermost, innermost_scope, open_element, put,
 };
 use crate::token::{Tag, Token};
-use ix_base::{Attr, Binding, Element, NoMemory, Node, Rule, is_white};
+use ix_base::{Attr, Element, NoMemory, Node, Rule, Scope, is_white};
 use std::alloc::Global;
 
 /// What is built of the constructs so far: the open elements, the innermost last, the text since the last tag, the root
@@ -135,13 +134,8 @@ impl<'a> Building<'a> {
     }
 
     /// The scope of an element that begins here.
-    fn element_scope(
-        &self,
-        setting: &Setting<'a>,
-        tag: &Tag<'a, '_>,
-    ) -> Result<&'a [Binding<'a>], NoMemory>
-        ensures value { IfOk result (λ s. map bound s.now ≡ scope_under_tag (scope_in (state_of self.now).frames) (tag_of tag.now)) }
-        ensures ordered { IfOk result (λ s. are_ordered (map bound s.now) ≡ true) }
+    fn element_scope(&self, setting: &Setting<'a>, tag: &Tag<'a, '_>) -> Result<Scope<'a>, NoMemory>
+        ensures { IfOk result (λ s. bindings_in s ≡ scope_under_tag (scope_in (state_of self.now).frames) (tag_of tag.now)) }
     {
         let outer = innermost_scope(&self.elements);
         scope_of(setting.alloc, setting.arena, outer, tag.attrs)
@@ -151,12 +145,11 @@ impl<'a> Building<'a> {
     fn judge_tag(
         &self,
         setting: &Setting<'_>,
-        scope: &[Binding<'_>],
+        scope: Scope<'_>,
         tag: &Tag<'_, '_>,
     ) -> Result<(), Refusal>
-        requires scope { map bound scope.now ≡ scope_under_tag (scope_in (state_of self.now).frames) (tag_of tag.now) }
-        requires ordered { are_ordered (map bound scope.now) ≡ true }
-        requires expanded { map expansion self.now.expanded.items ≡ expansions (map bound scope.now) (tag_of tag.now) }
+        requires scope { bindings_in scope ≡ scope_under_tag (scope_in (state_of self.now).frames) (tag_of tag.now) }
+        requires expanded { map expansion self.now.expanded.items ≡ expansions (bindings_in scope) (tag_of tag.now) }
         ensures { Judges (broken_by_tag setting.now.depth (outline_of (state_of self.now)) (tag_of tag.now)) result }
     {
         judge_names(setting.alloc, scope, tag, self.expanded.as_slice())?;
@@ -173,12 +166,11 @@ impl<'a> Building<'a> {
     fn begin(
         &mut self,
         setting: &Setting<'a>,
-        scope: &'a [Binding<'a>],
+        scope: Scope<'a>,
         tag: &Tag<'a, '_>,
     ) -> Result<Open<'a>, NoMemory>
-        requires scope { map bound scope.now ≡ scope_under_tag (scope_in (state_of self.old).frames) (tag_of tag.now) }
-        requires ordered { are_ordered (map bound scope.now) ≡ true }
-        requires expanded { map expansion self.old.expanded.items ≡ expansions (map bound scope.now) (tag_of tag.now) }
+        requires scope { bindings_in scope ≡ scope_under_tag (scope_in (state_of self.old).frames) (tag_of tag.now) }
+        requires expanded { map expansion self.old.expanded.items ≡ expansions (bindings_in scope) (tag_of tag.now) }
         ensures frame { IfOk result (λ o. frame o ≡ record {
           written = tag.now.name.name.now;
           head = head_of (scope_in (state_of self.old).frames) (tag_of tag.now);
@@ -210,12 +202,11 @@ impl<'a> Building<'a> {
     fn open(
         &mut self,
         setting: &Setting<'a>,
-        scope: &'a [Binding<'a>],
+        scope: Scope<'a>,
         tag: &Tag<'a, '_>,
     ) -> Result<(), NoMemory>
-        requires scope { map bound scope.now ≡ scope_under_tag (scope_in (state_of self.old).frames) (tag_of tag.now) }
-        requires ordered { are_ordered (map bound scope.now) ≡ true }
-        requires expanded { map expansion self.old.expanded.items ≡ expansions (map bound scope.now) (tag_of tag.now) }
+        requires scope { bindings_in scope ≡ scope_under_tag (scope_in (state_of self.old).frames) (tag_of tag.now) }
+        requires expanded { map expansion self.old.expanded.items ≡ expansions (bindings_in scope) (tag_of tag.now) }
         ensures { OnOk result (Becomes setting.now.page self.old self.new (opening (state_of self.old) (tag_of tag.now))) }
     {
         let element = self.begin(setting, scope, tag)?;
@@ -227,12 +218,11 @@ impl<'a> Building<'a> {
     fn stand(
         &mut self,
         setting: &Setting<'a>,
-        scope: &'a [Binding<'a>],
+        scope: Scope<'a>,
         tag: &Tag<'a, '_>,
     ) -> Result<(), NoMemory>
-        requires ordered { are_ordered (map bound scope.now) ≡ true }
-        requires scope { map bound scope.now ≡ scope_under_tag (scope_in (state_of self.old).frames) (tag_of tag.now) }
-        requires expanded { map expansion self.old.expanded.items ≡ expansions (map bound scope.now) (tag_of tag.now) }
+        requires expanded { map expansion self.old.expanded.items ≡ expansions (bindings_in scope) (tag_of tag.now) }
+        requires scope { bindings_in scope ≡ scope_under_tag (scope_in (state_of self.old).frames) (tag_of tag.now) }
         ensures { OnOk result (Becomes setting.now.page self.old self.new (standing (state_of self.old) (tag_of tag.now))) }
     {
         let own = self.begin(setting, scope, tag)?;
@@ -279,14 +269,9 @@ impl<'a> Building<'a> {
     }
 
     /// The scope of a tag's element. The lowest rule that the tag breaks is an error. Its attributes are expanded.
-    fn judge(
-        &mut self,
-        setting: &Setting<'a>,
-        tag: &Tag<'a, '_>,
-    ) -> Result<&'a [Binding<'a>], Refusal>
-        ensures scope { IfOk result (λ s. map bound s.now ≡ scope_under_tag (scope_in (state_of self.old).frames) (tag_of tag.now)) }
-        ensures ordered { IfOk result (λ s. are_ordered (map bound s.now) ≡ true) }
-        ensures expanded { IfOk result (λ s. map expansion self.new.expanded.items ≡ expansions (map bound s.now) (tag_of tag.now)) }
+    fn judge(&mut self, setting: &Setting<'a>, tag: &Tag<'a, '_>) -> Result<Scope<'a>, Refusal>
+        ensures scope { IfOk result (λ s. bindings_in s ≡ scope_under_tag (scope_in (state_of self.old).frames) (tag_of tag.now)) }
+        ensures expanded { IfOk result (λ s. map expansion self.new.expanded.items ≡ expansions (bindings_in s) (tag_of tag.now)) }
         ensures rule { Judges (broken_by_tag setting.now.depth (outline_of (state_of self.old)) (tag_of tag.now)) result }
         ensures becomes { Becomes setting.now.page self.old self.new (state_of self.old) }
     {

@@ -1,8 +1,9 @@
-ghost use Rattle.std.specs.Prelude.{◌≡◌, IfOk};
+ghost use Rattle.std.specs.Prelude.{◌≡◌, true, map, IfOk};
+ghost use Rattle.ix_base.specs.Bindings.{bound, are_ordered};
 
 use crate::{Bases, NameFault, is_ncname, resolve, resolved};
 use bumpalo::Bump;
-use ix_base::{Attr, Binding, Element, Name, NoMemory, Node, Place, Spot, Text};
+use ix_base::{Attr, Binding, Element, Name, NoMemory, Node, Place, Scope, Spot, Text};
 use std::alloc::Global;
 use std::test::Fail;
 
@@ -10,8 +11,10 @@ const XML: &str = "http://www.w3.org/XML/1998/namespace";
 
 const XHTML: &str = "http://www.w3.org/1999/xhtml";
 
-fn named<'a>(qname: &'a str, scope: &[Binding<'a>]) -> Result<(&'a str, &'a str), NameFault> {
-    match resolve(qname, scope) {
+fn named<'a>(qname: &'a str, bindings: &'a [Binding<'a>]) -> Result<(&'a str, &'a str), NameFault>
+    requires { are_ordered (map bound bindings.now) ≡ true }
+{
+    match resolve(qname, Scope { bindings }) {
         Ok(name) => Ok((name.ns, name.local)),
         Err(fault) => Err(fault),
     }
@@ -206,7 +209,7 @@ fn element<'a>(
             local: name.1,
         },
         attrs: arena.try_alloc_slice_copy(attrs)?,
-        scope: &[],
+        scope: Scope::empty(),
         children: arena.try_alloc_slice_copy(children)?,
     })?;
     Ok(element)

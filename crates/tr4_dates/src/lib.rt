@@ -11,6 +11,7 @@ ghost use Rattle.tr4_dates.specs.Languages.{names};
 ghost use Rattle.tr4_dates.specs.Parts.{IsNameIn};
 ghost use Rattle.tr4_dates.specs.Transformation.{Tr};
 ghost use Rattle.tr4_dates.specs.declared.TrFault.TheVariants as fault;
+ghost use Rattle.tr4_dates.specs.declared.format.DateFormat.{DateFormat};
 ghost use Rattle.tr4_dates.specs.declared.format.Language.{Language};
 
 mod format;
@@ -23,7 +24,7 @@ mod value;
 use crate::format::{language_in, layout_in, parts_in};
 use crate::read::fields_in;
 use crate::value::{is_real, written};
-pub use format::DateFormat;
+pub use format::{DateFormat, Language};
 use ix_base::{NoMemory, Text};
 use std::alloc::Global;
 use thiserror::Error;
@@ -76,8 +77,8 @@ pub fn apply(alloc: Global, format: DateFormat, text: &str) -> Result<Text, TrFa
 }
 
 /// A text has one value at most in a format.
-pub fn one_value(format: DateFormat)
-    ensures { (text a b : List ℕ) → Tr format text a → Tr format text b → a ≡ b }
+pub fn one_value()
+    ensures { (format : DateFormat) → (text a b : List ℕ) → Tr format text a → Tr format text b → a ≡ b }
 {}
 
 /// No text matches names of two months of one language.

@@ -11,7 +11,7 @@ use crate::{Members, membership};
 use bumpalo::Bump;
 use id_table::Index;
 use ix_base::namespaces::{IX, XSI};
-use ix_base::{Attr, Breaches, Element, Name, NoMemory, Place, Spot, attr_of};
+use ix_base::{Attr, Breaches, Element, Name, NoMemory, Place, Scope, Spot, attr_of};
 use std::alloc::Global;
 use std::fmt::Write;
 use std::test::Fail;
@@ -57,7 +57,7 @@ fn page_of<'a>(
         place: Place { page, offset: 50 },
         name: Name { ns: IX, local },
         attrs,
-        scope: &[],
+        scope: Scope::empty(),
         children: &[],
     })?;
     Ok(element)

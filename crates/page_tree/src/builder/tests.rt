@@ -279,7 +279,7 @@ fn inner_scope(alloc: Global, page: &[u8]) -> Result<String, NoMemory> {
         return Ok(String::new(alloc));
     };
     match root.children.first() {
-        Some(Node::Elem(child)) => bindings(alloc, child.scope),
+        Some(Node::Elem(child)) => bindings(alloc, child.scope.bindings),
         _ => Ok(String::new(alloc)),
     }
 }

@@ -2,4 +2,4 @@ use Rattle.tr4_dates.proofs.FormatLaws.{one_value as one_value_law}
 use Rattle.tr4_dates.proofs.one_value.Goals as goal
 
 pub returns : goal.returns
-returns c = λ text a b x y. one_value_law c.args.format text a b x y
+returns c = one_value_law

@@ -7,5 +7,5 @@ use Rattle.page_tree.proofs.names.expand.Given as goal
 
 abbrev pub invariant-loop-attr : goal.invariant-loop-attr
 invariant-loop-attr l =
-    map expansion l.expanded.items ++ filter_map (expansion_of (map bound l.scope)) (map attribute_of (drop l.attr-index l.attrs))
-    ≡ filter_map (expansion_of (map bound l.scope)) (map attribute_of l.attrs)
+    map expansion l.expanded.items ++ filter_map (expansion_of (map bound l.scope.bindings.now)) (map attribute_of (drop l.attr-index l.attrs))
+    ≡ filter_map (expansion_of (map bound l.scope.bindings.now)) (map attribute_of l.attrs)

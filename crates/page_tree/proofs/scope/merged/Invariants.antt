@@ -1,6 +1,6 @@
 use Rattle.std.proofs.Common.{◌≡◌, ◌++◌, true, map}
-use Rattle.ix_base.specs.Trees.{bound}
-use Rattle.page_tree.specs.Orders.{are_ordered, entered, merged}
+use Rattle.ix_base.specs.Bindings.{bound, are_ordered}
+use Rattle.page_tree.specs.Orders.{entered, merged}
 use Rattle.page_tree.proofs.scope.merged.Given as goal
 
 abbrev pub invariant-loop-prefix : goal.invariant-loop-prefix

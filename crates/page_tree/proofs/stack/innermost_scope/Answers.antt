@@ -3,8 +3,8 @@ use Rattle.std.proofs.lemmas.Grind.{common_steps}
 use Rattle.page_tree.proofs.StackLaws.{scope-last}
 use Rattle.page_tree.proofs.stack.innermost_scope.Goals as goal
 
-pub returns-clause-value : goal.returns-clause-value
-returns-clause-value c =
+pub returns : goal.returns
+returns c =
     let o = c.in-Some.parent.now in
     let os = c.args.elements.now in
     let at : o ≡ get_or os (length os - 1) o = search rules in

@@ -7,7 +7,7 @@ use Rattle.page_tree.proofs.stack.open_element.Goals as goal
 
 pub returns-clause-frame : goal.returns-clause-frame
 returns-clause-frame c outer e =
-    let scope = map bound c.args.scope.now in
+    let scope = map bound c.args.scope.bindings.now in
     let head = head-is outer scope (tag_of c.args.tag.now) _ _ e c.element_name.ensures
     (c.in_ok-attrs.ensures ∙ ap (map (λ x. x.valued)) c.requires.expanded ∙ valued-is scope (map attribute_of c.args.tag.now.attrs.now)) in
     let done : nodes_of c.args.children.items ≡ none = ap nodes_of c.requires.children in

@@ -1,20 +1,26 @@
--- Scopes in order: how a prefix is found in one, and how declarations are put over it at once.
-use Rattle.std.proofs.Common.{◌≡◌, ℕ, zero, suc, ◌<◌, ◌≤◌, Bool, true, false, List, [], ◌∷◌, length, map, get_or, Some, None, refl, sym, ap, ◌∙◌, arith, bytes_eq, Ordering, Less, Equal, Greater}
+-- Scopes in order: how a prefix is found in one.
+use Rattle.std.proofs.Common.{◌≡◌, ℕ, zero, suc, ◌<◌, ◌≤◌, Bool, true, false, ◌&&◌, List, [], ◌∷◌, length, map, get_or, Some, None, refl, sym, ap, ◌∙◌, arith, bytes_eq, Ordering, Less, Equal, Greater}
 use Rattle.std.specs.List.{list_all}
 use Rattle.std.specs.Ordering.{nat_cmp, is_lt, is_eq, ordering_reverse}
 use Rattle.std.specs.Cmp.Lexicographic.{slice_cmp}
+use Rattle.std.proofs.lemmas.Bool.{and_parts}
+use Rattle.std.proofs.lemmas.Slice.Eq.{bytes_eq-Decides}
 use Rattle.std.proofs.lemmas.Cmp.{nat_list_cmp_total}
 use Rattle.std.proofs.lemmas.Map.Text.{is_eq-slice_cmp}
 use Rattle.std.proofs.Math.ListN.{get_or-map}
 use Rattle.std.proofs.lemmas.List.{length-map}
 use Rattle.ix_base.specs.declared.tree.Binding.{Binding}
-use Rattle.ix_base.specs.Trees.{Bound, bound}
+use Rattle.ix_base.specs.Bindings.{Bound, bound, is_below, are_ordered, place_of, has_at}
 use Rattle.ix_base.specs.Scope.{namespace_of}
-use Rattle.page_tree.specs.Names.{place_of, has_at}
-use Rattle.page_tree.specs.Orders.{is_below, are_ordered}
-use Rattle.page_tree.proofs.SpanLaws.{clash, and_both, bytes-same}
-use Rattle.page_tree.proofs.SoundScopes.{either-below}
-use Rattle.page_tree.proofs.TagLaws.{and_left, and_right}
+
+clash : {A : Type 0} (b : Bool) → b ≡ true → b ≡ false → A
+clash b t f = let z : true ≡ false = sym t ∙ f in absurd (cc)
+
+and_left : (a b : Bool) → (a && b) ≡ true → a ≡ true
+and_left a b h = (and_parts a b h).0
+
+and_right : (a b : Bool) → (a && b) ≡ true → b ≡ true
+and_right a b h = (and_parts a b h).1
 
 less-is : (o : Ordering) → is_lt o ≡ true → o ≡ Less
 less-is Less h = refl
@@ -37,17 +43,28 @@ same-order p q = sym (is_eq-slice_cmp p q) ∙ ap is_eq (nat_list_cmp_total.anti
   reversed Equal = refl
   reversed Greater = refl
 
+-- texts that are neither equal nor the one before the other
+pub either-below : (p q : List ℕ) → bytes_eq q p ≡ false → is_below p q ≡ false → is_below q p ≡ true
+either-below p q e l = by_order (slice_cmp nat_cmp p q) refl where
+  by_order : (o : Ordering) → slice_cmp nat_cmp p q ≡ o → is_below q p ≡ true
+  by_order Less h = clash (is_below p q) (ap is_lt h) l
+  by_order Equal h =
+      clash (bytes_eq q p) (sym (is_eq-slice_cmp q p) ∙ ap is_eq (nat_list_cmp_total.antisymm q p ∙ ap ordering_reverse h)) e
+  by_order Greater h = ap is_lt (nat_list_cmp_total.antisymm q p ∙ ap ordering_reverse h)
+
 pub below-self : (p : List ℕ) → is_below p p ≡ false
 below-self p = by_test (is_below p p) refl where
   by_test : (b : Bool) → is_below p p ≡ b → b ≡ false
-  by_test true h = clash (bytes_eq p p) (bytes-same p) (below-apart p p h)
+  by_test true h = clash (bytes_eq p p) ((bytes_eq-Decides p p).1 refl) (below-apart p p h)
   by_test false h = refl
 
 pub all-behind : (p q : List ℕ) (s : List Bound) → is_below p q ≡ true → list_all (λ x. is_below q x.prefix) s ≡ true → list_all (λ x. is_below p x.prefix) s ≡ true
 all-behind p q [] l h = refl
 all-behind p q (x ∷ s) l h =
-    and_both (is_below p x.prefix) (list_all (λ y. is_below p y.prefix) s) (below-trans p q x.prefix l (and_left (is_below q x.prefix) (list_all (λ y. is_below q y.prefix) s) h))
-    (all-behind p q s l (and_right (is_below q x.prefix) (list_all (λ y. is_below q y.prefix) s) h))
+    rw (
+      below-trans p q x.prefix l (and_left (is_below q x.prefix) (list_all (λ y. is_below q y.prefix) s) h),
+      all-behind p q s l (and_right (is_below q x.prefix) (list_all (λ y. is_below q y.prefix) s) h),
+    ) refl
 
 pub head-order : (x : Bound) (s : List Bound) → are_ordered (x ∷ s) ≡ true → list_all (λ y. is_below x.prefix y.prefix) s ≡ true
 head-order x s h = and_left (list_all (λ y. is_below x.prefix y.prefix) s) (are_ordered s) h
@@ -137,3 +154,13 @@ pub found-code : (xs : List Binding) (p : List ℕ) (at : ℕ) (d : Binding) →
     → Some (get_or xs at d).ns.now ≡ namespace_of (map bound xs) p
 found-code xs p at d e h =
     ap (λ n. Some (get_or xs n d).ns.now) e ∙ found-scope xs p d (ap (λ n. has_at (map bound xs) n p) (sym e) ∙ h)
+
+-- what stands at an index
+pub has_at-index : (xs : List Binding) (at : ℕ) (p : List ℕ) (d : Binding) → at < length xs → has_at (map bound xs) at p ≡ bytes_eq (bound (get_or xs at d)).prefix p
+has_at-index [] at p d h = absurd (omega arith)
+has_at-index (x ∷ xs) zero p d h = refl
+has_at-index (x ∷ xs) (suc at) p d h = has_at-index xs at p d (omega arith)
+
+pub has_at-end : (xs : List Binding) (p : List ℕ) → has_at (map bound xs) (length xs) p ≡ false
+has_at-end [] p = refl
+has_at-end (x ∷ xs) p = has_at-end xs p
