@@ -126,7 +126,7 @@ fn sort_owns(owns: &mut Vec<Own>) -> Result<(), NoMemory>
 fn owns_of(alloc: Global, base: Option<&str>, element: &Element<'_>) -> Result<Vec<Own>, NoMemory>
     ensures { IfOk result (λ v. map own v.items ≡ spec.own_attributes (option_map (λ b. b.now) base.entry) (tree_of element.now).head) }
 {
-    let mut owns = owns_in(alloc, base, &element.name, element.attrs)?;
+    let mut owns = owns_in(alloc, base, &element.name, element.attrs.written)?;
     sort_owns(&mut owns)?;
     Ok(owns)
 }

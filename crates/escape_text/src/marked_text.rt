@@ -11,8 +11,7 @@ ghost use Rattle.std.specs.Option.{option_or};
 
 use crate::attributes::{push_attributes, push_declaration};
 use crate::names::{ends_short, is_left_out, is_opened};
-use ix_base::namespaces::XML;
-use ix_base::{Element, NoMemory, Node, Spot, Text, attr_of, push_te};
+use ix_base::{Element, NoMemory, Node, Spot, Text, push_te, xml_base};
 use scopes::{Bases, base_within};
 use std::alloc::Global;
 
@@ -48,7 +47,6 @@ fn gives_nothing(element: &Element<'_>) -> bool
 
 /// The base below an element that has a base of its own, where links are resolved. Below any other element the base is the
 /// one around it.
-#[tactic(auto, unfolding(ix_base::specs::Namespaces::xml_namespace))]
 fn own_base(
     alloc: Global,
     base: Option<&str>,
@@ -58,7 +56,7 @@ fn own_base(
         ≡ spec.base_below (option_map (λ s. s.now) base.entry) (tree_of element.now).head) }
 {
     match base {
-        Some(base) if attr_of(element, XML, "base").is_some() => {
+        Some(base) if xml_base(element).is_some() => {
             Ok(Some(base_within(alloc, base, element)?))
         }
         _ => Ok(None),

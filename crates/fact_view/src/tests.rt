@@ -1,7 +1,7 @@
 //! Views of elements that are made by hand.
 use crate::view;
 use ix_base::namespaces::XSI;
-use ix_base::{Attr, Binding, Element, Name, Place, Scope, Spot};
+use ix_base::{Attr, Attrs, Binding, Element, Name, NoMemory, Place, Scope, Spot};
 
 static ATTRS: [Attr<'static>; 6] = [
     Attr {
@@ -59,24 +59,24 @@ static BINDINGS: [Binding<'static>; 2] = [
     },
 ];
 
-fn number<'a>() -> Element<'a> {
-    Element {
+fn number<'a>() -> Result<Element<'a>, NoMemory> {
+    Ok(Element {
         place: Place { page: 0, offset: 7 },
         name: Name {
             ns: "http://www.xbrl.org/2013/inlineXBRL",
             local: "nonFraction",
         },
-        attrs: &ATTRS,
+        attrs: Attrs::of(&ATTRS)?,
         scope: Scope {
             bindings: &BINDINGS,
         },
         children: &[],
-    }
+    })
 }
 
 #[test]
-fn a_number_is_seen_with_what_its_attributes_say(rt: HostRuntime) {
-    let number = number();
+fn a_number_is_seen_with_what_its_attributes_say(rt: HostRuntime) -> Result<(), NoMemory> {
+    let number = number()?;
     let spot = Spot {
         element: &number,
         up: None,
@@ -96,4 +96,5 @@ fn a_number_is_seen_with_what_its_attributes_say(rt: HostRuntime) {
         }
         None => assert!(rt; false, "no format"),
     }
+    Ok(())
 }

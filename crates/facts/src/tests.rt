@@ -7,8 +7,8 @@ use bumpalo::Bump;
 use id_table::Index;
 use ix_base::namespaces::{IX, XHTML, XSI};
 use ix_base::{
-    Accuracy, Attr, Binding, Breaches, Element, Item, Name, NoMemory, Node, Place, Scope, Spot,
-    Text, Value,
+    Accuracy, Attr, Attrs, Binding, Breaches, Element, Item, Name, NoMemory, Node, Place, Scope,
+    Spot, Text, Value,
 };
 use scopes::Bases;
 use std::alloc::Global;
@@ -35,7 +35,7 @@ const PLACE: Place = Place {
 };
 
 /// Attributes by their local names; `xsi:nil` alone has a namespace.
-type Attrs = &'static [(&'static str, &'static str)];
+type Pairs = &'static [(&'static str, &'static str)];
 
 /// What an element holds.
 #[derive(Clone, Copy)]
@@ -44,12 +44,12 @@ enum Held {
     /// An xhtml element `b` that holds a text.
     Bold(&'static str),
     /// White space, a nonFraction, and white space.
-    Number(Attrs, &'static str),
+    Number(Pairs, &'static str),
     /// A denominator and a numerator, the numerator named first.
-    Parts(Attrs, &'static str, Attrs, &'static str),
+    Parts(Pairs, &'static str, Pairs, &'static str),
 }
 
-fn attrs_of<'a>(alloc: Global, arena: &'a Bump, pairs: Attrs) -> Result<&'a [Attr<'a>], NoMemory> {
+fn attrs_of<'a>(alloc: Global, arena: &'a Bump, pairs: Pairs) -> Result<&'a [Attr<'a>], NoMemory> {
     let mut attrs = Vec::new(alloc);
     for &(local, value) in pairs {
         let name = if local == "xsi:nil" {
@@ -77,7 +77,7 @@ fn element<'a>(
     let element = arena.try_alloc(Element {
         place: PLACE,
         name,
-        attrs,
+        attrs: Attrs::of(attrs)?,
         scope: Scope { bindings: &SCOPE },
         children: arena.try_alloc_slice_copy(children)?,
     })?;
@@ -100,7 +100,7 @@ fn element_of<'a>(
     alloc: Global,
     arena: &'a Bump,
     local: &'static str,
-    attrs: Attrs,
+    attrs: Pairs,
     held: Held,
 ) -> Result<&'a Element<'a>, NoMemory>
     ensures { IfOk result (λ e. e.now.place.page ≡ 0) }
@@ -151,7 +151,7 @@ fn said<'a>(alloc: Global, element: &'a Element<'a>) -> Result<Item, ItemFault>
 fn said_in(
     alloc: Global,
     local: &'static str,
-    attrs: Attrs,
+    attrs: Pairs,
     held: Held,
 ) -> Result<Item, ItemFault> {
     let arena = Bump::new(alloc);
@@ -176,7 +176,7 @@ fn says(said: &Result<Item, ItemFault>, due: &str) -> bool {
 }
 
 /// An element by its local name and its attributes, with what it holds, and the value or the rule that is due.
-type Row = (&'static str, Attrs, Held, &'static str);
+type Row = (&'static str, Pairs, Held, &'static str);
 
 /// What is due in the first row whose element says something else; empty where each says what is due.
 fn wrong_in(alloc: Global, rows: &[Row]) -> &'static str {
@@ -488,7 +488,7 @@ fn has_fields(item: &Item, due: &Fields) -> bool {
 
 /// The number of the first of these rows whose element says something else beside its value; none where each says what
 /// is due.
-fn wrong_fields(alloc: Global, rows: &[(&'static str, Attrs, Held, Fields)]) -> Option<usize> {
+fn wrong_fields(alloc: Global, rows: &[(&'static str, Pairs, Held, Fields)]) -> Option<usize> {
     for (i, (local, attrs, held, due)) in rows.iter().enumerate() {
         match said_in(alloc, local, attrs, *held) {
             Ok(item) if has_fields(&item, due) => {}
@@ -498,7 +498,7 @@ fn wrong_fields(alloc: Global, rows: &[(&'static str, Attrs, Held, Fields)]) -> 
     None
 }
 
-const FIELDS: [(&str, Attrs, Held, Fields); 10] = [
+const FIELDS: [(&str, Pairs, Held, Fields); 10] = [
     (
         "nonFraction",
         &[
@@ -647,7 +647,7 @@ fn lonely<'a>(arena: &'a Bump, local: &'a str) -> Result<&'a Element<'a>, NoMemo
     let element = arena.try_alloc(Element {
         place: PLACE,
         name: Name { ns: IX, local },
-        attrs: arena.try_alloc_slice_copy(&attrs)?,
+        attrs: Attrs::of(arena.try_alloc_slice_copy(&attrs)?)?,
         scope: Scope::empty(),
         children: &[],
     })?;

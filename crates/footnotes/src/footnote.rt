@@ -1,11 +1,9 @@
 //! A footnote.
 ghost use Rattle.std.specs.Prelude.{◌≡◌, Some, [], IfOk, codes, length, option_map};
 ghost use Rattle.std.specs.Option.{option_map_or};
-ghost use Rattle.ix_base.specs.Attributes.{value_of};
 ghost use Rattle.ix_base.specs.Elements.{path_above, path_of};
 ghost use Rattle.ix_base.specs.Located.{located, base_in};
 ghost use Rattle.ix_base.specs.Markup.{markup_along};
-ghost use Rattle.ix_base.specs.Namespaces.{xml_namespace};
 ghost use Rattle.ix_base.specs.Readers as reader;
 ghost use Rattle.ix_base.specs.Token.{token_of};
 ghost use Rattle.ix_base.specs.Trees.{tree_of};
@@ -16,18 +14,9 @@ ghost use Rattle.footnotes.specs.Linked.{chain_kept, note_in};
 use crate::kinds::{footnote_role, label_of};
 use continuations::Chains;
 use escape_text::markup;
-use ix_base::namespaces::XML;
-use ix_base::{Element, Footnote, NoMemory, Spot, Text, attr_of, token};
+use ix_base::{Element, Footnote, NoMemory, Spot, Text, attr_of, token, xml_lang};
 use scopes::Bases;
 use std::alloc::Global;
-
-/// The `xml:lang` of an element.
-#[tactic(auto, unfolding(ix_base::specs::Namespaces::xml_namespace))]
-fn own_lang<'a>(e: &Element<'a>) -> Option<&'a str>
-    ensures { option_map (λ s. s.now) result ≡ value_of (tree_of e.now).head.attrs xml_namespace (codes "lang") }
-{
-    attr_of(e, XML, "lang")
-}
 
 /// The `xml:lang` of an element, or of the nearest one around it that has one.
 #[tactic(auto, using(crate::proofs::LangLaws::lang_none, crate::proofs::LangLaws::lang_some))]
@@ -36,7 +25,7 @@ fn lang_from<'a>(first: Option<&'a Spot<'a>>) -> Option<&'a str>
 {
     let mut at = first;
     while let Some(around) = at {
-        if let Some(lang) = own_lang(around.element) {
+        if let Some(lang) = xml_lang(around.element) {
             return Some(lang);
         }
         at = around.up;

@@ -10,7 +10,8 @@ use continuations::{Chains, link};
 use id_table::Index;
 use ix_base::namespaces::{IX, XML};
 use ix_base::{
-    Arc, Attr, Breaches, Element, Footnote, Name, NoMemory, Node, NoteLink, Place, Scope, Spot,
+    Arc, Attr, Attrs, Breaches, Element, Footnote, Name, NoMemory, Node, NoteLink, Place, Scope,
+    Spot,
 };
 use scopes::Bases;
 use std::alloc::Global;
@@ -18,10 +19,10 @@ use std::fmt::Write;
 use std::test::Fail;
 
 /// Attributes by their local names; `xml:lang` alone has a namespace.
-type Attrs = &'static [(&'static str, &'static str)];
+type Pairs = &'static [(&'static str, &'static str)];
 
 /// An element by its local name, its attributes and its text.
-type Page = (&'static str, Attrs, &'static str);
+type Page = (&'static str, Pairs, &'static str);
 
 /// The elements of a set, a target, and what is due: how many breaches there are, and the links of the target.
 type Row = (&'static [Page], &'static str, &'static str);
@@ -36,7 +37,7 @@ fn name_of(local: &'static str) -> Name<'static> {
     }
 }
 
-fn attrs_of<'a>(alloc: Global, arena: &'a Bump, pairs: Attrs) -> Result<&'a [Attr<'a>], NoMemory> {
+fn attrs_of<'a>(alloc: Global, arena: &'a Bump, pairs: Pairs) -> Result<&'a [Attr<'a>], NoMemory> {
     let mut attrs = Vec::new(alloc);
     for &(local, value) in pairs {
         attrs.push(Attr {
@@ -61,7 +62,7 @@ fn page_of<'a>(
     let element = arena.try_alloc(Element {
         place: Place { page, offset: 50 },
         name: Name { ns: IX, local },
-        attrs,
+        attrs: Attrs::of(attrs)?,
         scope: Scope::empty(),
         children,
     })?;
@@ -87,7 +88,7 @@ fn bare<'a>() -> Element<'a> {
             offset: 50,
         },
         name: Name { ns: "", local: "p" },
-        attrs: &[],
+        attrs: Attrs::empty(),
         scope: Scope::empty(),
         children: &[],
     }

@@ -3,13 +3,13 @@ use crate::{
     are_blank, element_alone, first_element, first_named, has_no_elements, holds_only, is_blank,
     is_blank_beside, is_of, sole_named, text_alone,
 };
-use ix_base::{Element, Name, Node, Place, Scope};
+use ix_base::{Attrs, Element, Name, Node, Place, Scope};
 
 const fn element<'a>(local: &'a str) -> Element<'a> {
     Element {
         place: Place { page: 0, offset: 0 },
         name: Name { ns: "n", local },
-        attrs: &[],
+        attrs: Attrs::empty(),
         scope: Scope::empty(),
         children: &[],
     }

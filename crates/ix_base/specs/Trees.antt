@@ -1,21 +1,13 @@
 -- A page's tree without where it lies in memory.
 use Rattle.std.specs.Prelude.{ℕ, List, [], ◌∷◌, map}
-use Rattle.ix_base.specs.declared.tree.Attr.{Attr}
-use Rattle.ix_base.specs.declared.tree.Name.{Name}
+use Rattle.ix_base.specs.declared.attrs.Attrs.{Attrs}
 use Rattle.ix_base.specs.declared.tree.Node.{Node}
 use Rattle.ix_base.specs.declared.tree.Element.{Element}
 use Rattle.ix_base.specs.declared.tree.Scope.{Scope}
+pub use Rattle.ix_base.specs.Attributes.{Named, Valued, named, valued}
 pub use Rattle.ix_base.specs.Bindings.{Bound, bound}
 use Rattle.ix_base.specs.declared.tree.Node.TheOpen.{Node-F, Element-F}
 use Rattle.ix_base.specs.declared.tree.Node.TheFolds.{fold-Node, fold-Element}
-
-pub record Named : Type 0 where
-  pub ns : List ℕ
-  pub local : List ℕ
-
-pub record Valued : Type 0 where
-  pub name : Named
-  pub value : List ℕ
 
 -- what an element says of itself
 pub record Head : Type 0 where
@@ -34,18 +26,16 @@ pub record Tree : Type 0 where
   pub head : Head
   pub children : Nodes
 
-abbrev pub named : Name → Named
-named n = record { ns = n.ns.now; local = n.local.now }
-
-abbrev pub valued : Attr → Valued
-valued a = record { name = named a.name; value = a.value.now }
+-- what attributes say
+abbrev pub attrs_in : Attrs → List Valued
+attrs_in a = map valued a.written.now
 
 -- what a scope binds
 abbrev pub bindings_in : Scope → List Bound
 bindings_in s = map bound s.bindings.now
 
 abbrev pub head_of : {X Y : Type 0} → Element-F X Y → Head
-head_of e = record { offset = e.place.offset; name = named e.name; attrs = map valued e.attrs.now; scope = bindings_in e.scope }
+head_of e = record { offset = e.place.offset; name = named e.name; attrs = attrs_in e.attrs; scope = bindings_in e.scope }
 
 -- each node put before those after it
 abbrev pub joined : List (Nodes → Nodes) → Nodes

@@ -4,6 +4,7 @@
 
 mod allowed;
 mod attribute;
+mod attrs;
 mod breach;
 pub mod breach_laws;
 mod content;
@@ -26,7 +27,8 @@ mod tree;
 mod white;
 
 pub use allowed::{are_allowed, is_allowed};
-pub use attribute::{attr_of, token_at};
+pub use attribute::{attr_of, token_at, xml_base, xml_lang};
+pub use attrs::Attrs;
 pub use breach::{Breach, Breaches, Class, Found, Report};
 pub use content::{
     Accuracy, Arc, Content, Context, Dim, Fact, Footnote, Item, Linkbase, Member, NoteLink,

@@ -2,9 +2,11 @@ ghost use Rattle.std.specs.Prelude.{◌≡◌, ◌<◌, length};
 ghost use Rattle.ix_base.specs.MemPages.{pages_faults};
 ghost use Rattle.ix_base.specs.MemTargets.{sink_faults};
 
+use crate::namespaces::XML;
 use crate::{
-    Attr, Element, Failed, List, MemPage, MemPages, MemTargets, MemText, Name, PageSource, Place,
-    Rule, Scope, TargetSink, Text, TextSink, attr_of, each_once, push_ae, push_te, token,
+    Attr, Attrs, Element, Failed, List, MemPage, MemPages, MemTargets, MemText, Name, PageSource,
+    Place, Rule, Scope, TargetSink, Text, TextSink, attr_of, each_once, push_ae, push_te, token,
+    xml_base, xml_lang,
 };
 use std::alloc::Global;
 use std::test::Fail;
@@ -78,16 +80,20 @@ fn a_token_keeps_all_but_four_characters(rt: HostRuntime) {
 }
 
 #[test]
-fn an_attribute_is_found_by_namespace_and_local_name(rt: HostRuntime) {
+fn an_attribute_is_found_by_namespace_and_local_name(rt: HostRuntime) -> Result<(), Fail> {
     let attr = |ns, local, value| Attr {
         name: Name { ns, local },
         value,
     };
-    let attrs = [attr("", "base", "plain"), attr("n", "base", "named")];
+    let attrs = [
+        attr("", "base", "plain"),
+        attr("n", "base", "named"),
+        attr(XML, "lang", "de"),
+    ];
     let element = Element {
         place: Place { page: 0, offset: 0 },
         name: Name { ns: "", local: "p" },
-        attrs: &attrs,
+        attrs: Attrs::of(&attrs)?,
         scope: Scope::empty(),
         children: &[],
     };
@@ -95,6 +101,12 @@ fn an_attribute_is_found_by_namespace_and_local_name(rt: HostRuntime) {
     assert_eq!(rt; attr_of(&element, "", "base"), Some("plain"));
     assert_eq!(rt; attr_of(&element, "m", "base"), None);
     assert_eq!(rt; attr_of(&element, "n", "Base"), None);
+    assert_eq!(rt; xml_lang(&element), Some("de"));
+    assert_eq!(rt; xml_base(&element), None);
+    let based = [attr("", "lang", "plain"), attr(XML, "base", "s/t/")];
+    assert_eq!(rt; Attrs::of(&based)?.lang(), None);
+    assert_eq!(rt; Attrs::of(&based)?.base(), Some("s/t/"));
+    Ok(())
 }
 
 #[test]

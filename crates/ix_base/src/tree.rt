@@ -2,6 +2,7 @@
 ghost use Rattle.std.specs.Prelude.{◌≡◌, true, map};
 ghost use Rattle.ix_base.specs.Bindings.{bound, are_ordered};
 
+use crate::attrs::Attrs;
 use crate::place::Place;
 
 /// An expanded name: the text of its namespace, empty where it has none, and its local name.
@@ -46,7 +47,7 @@ pub enum Node<'a> {
 pub struct Element<'a> {
     pub place: Place,
     pub name: Name<'a>,
-    pub attrs: &'a [Attr<'a>],
+    pub attrs: Attrs<'a>,
     pub scope: Scope<'a>,
     pub children: &'a [Node<'a>],
 }

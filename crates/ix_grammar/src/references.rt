@@ -9,8 +9,8 @@ ghost use Rattle.ix_base.specs.Readers as reader;
 ghost use Rattle.ix_base.specs.Trees.{Tree, tree_of};
 ghost use Rattle.ix_grammar.specs.Parts.{is_no_language};
 
-use ix_base::namespaces::{XLINK, XML};
-use ix_base::{Element, Kind, Spot, attr_of};
+use ix_base::namespaces::XLINK;
+use ix_base::{Element, Kind, Spot, attr_of, xml_lang};
 use value_forms::{Form, has_form};
 
 /// Whether an attribute is there with a token that isn't empty.
@@ -63,13 +63,12 @@ pub fn breaks_reference(kind: Kind, e: &Element) -> bool
 }
 
 /// The `xml:lang` of the nearest of an element and those around it that has one.
-#[tactic(auto, unfolding(ix_base::specs::Namespaces::xml_namespace))]
 pub fn lang_along<'a>(spot: Option<&'a Spot<'a>>) -> Option<&'a str>
     ensures { option_map (λ s. s.now) result ≡ reader.lang_along (path_above spot.entry) }
 {
     match spot {
         None => None,
-        Some(here) => match attr_of(here.element, XML, "lang") {
+        Some(here) => match xml_lang(here.element) {
             Some(lang) => Some(lang),
             None => lang_along(here.up),
         },
@@ -77,12 +76,11 @@ pub fn lang_along<'a>(spot: Option<&'a Spot<'a>>) -> Option<&'a str>
 }
 
 /// The `xml:lang` of an element, or the one around it where it has none of its own.
-#[tactic(auto, unfolding(ix_base::specs::Namespaces::xml_namespace))]
 pub fn lang_within<'a>(e: &Element<'a>, around: Option<&'a str>) -> Option<&'a str>
     ensures { option_map (λ s. s.now) result
         ≡ option_or (value_of (tree_of e.now).head.attrs xml_namespace (codes "lang")) (option_map (λ s. s.now) around.entry) }
 {
-    match attr_of(e, XML, "lang") {
+    match xml_lang(e) {
         Some(lang) => Some(lang),
         None => around,
     }

@@ -1,7 +1,7 @@
 //! A page that is made by hand. More pages are judged in `ixds_rows`.
 use crate::{check, check_page};
 use ix_base::namespaces::{IX, XHTML};
-use ix_base::{Breaches, Element, Name, Place, Scope, Spot};
+use ix_base::{Attrs, Breaches, Element, Name, Place, Scope, Spot};
 use std::test::Fail;
 
 /// An element without attributes and without children.
@@ -9,7 +9,7 @@ fn element<'a>(ns: &'a str, local: &'a str) -> Element<'a> {
     Element {
         place: Place { page: 0, offset: 0 },
         name: Name { ns, local },
-        attrs: &[],
+        attrs: Attrs::empty(),
         scope: Scope::empty(),
         children: &[],
     }

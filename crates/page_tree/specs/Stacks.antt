@@ -2,7 +2,7 @@
 use Rattle.std.specs.Prelude.{◌≡◌, ℕ, List, [], ◌∷◌, ◌++◌, map, flat_map, All, Option, Some, None}
 use Rattle.std.specs.Borrow.{Bor}
 use Rattle.ix_base.specs.Elements.{pages_of, pages_in}
-use Rattle.ix_base.specs.Trees.{valued, bindings_in, named, nodes_of}
+use Rattle.ix_base.specs.Trees.{attrs_in, bindings_in, named, nodes_of}
 use Rattle.ix_base.specs.declared.tree.Element.{Element}
 use Rattle.page_tree.specs.Machine.{Frame}
 use Rattle.page_tree.specs.declared.opened.Open.{Open}
@@ -10,7 +10,7 @@ use Rattle.page_tree.specs.declared.opened.Open.{Open}
 abbrev pub frame : Open → Frame
 frame o = record {
   written = o.written.now;
-  head = record { offset = o.place.offset; name = named o.name; attrs = map valued o.attrs.now; scope = bindings_in o.scope };
+  head = record { offset = o.place.offset; name = named o.name; attrs = attrs_in o.attrs; scope = bindings_in o.scope };
   done = nodes_of o.children.items;
 }
 

@@ -5,7 +5,7 @@ ghost use Rattle.ix_base.specs.Trees.{none, elem, tree_of, nodes_of};
 ghost use Rattle.page_tree.specs.Machine.{append, flush};
 
 use bumpalo::Bump;
-use ix_base::{Attr, Element, Name, NoMemory, Node, Place, Scope};
+use ix_base::{Attrs, Element, Name, NoMemory, Node, Place, Scope};
 
 /// An open element.
 #[derive(Drop)]
@@ -13,7 +13,7 @@ pub(crate) struct Open<'a> {
     pub written: &'a str,
     pub place: Place,
     pub name: Name<'a>,
-    pub attrs: &'a [Attr<'a>],
+    pub attrs: Attrs<'a>,
     pub scope: Scope<'a>,
     pub children: Vec<Node<'a>>,
 }

@@ -3,7 +3,7 @@ ghost use Rattle.ix_base.specs.Bindings.{bound, are_ordered};
 
 use crate::{Bases, NameFault, is_ncname, resolve, resolved};
 use bumpalo::Bump;
-use ix_base::{Attr, Binding, Element, Name, NoMemory, Node, Place, Scope, Spot, Text};
+use ix_base::{Attr, Attrs, Binding, Element, Name, NoMemory, Node, Place, Scope, Spot, Text};
 use std::alloc::Global;
 use std::test::Fail;
 
@@ -208,7 +208,7 @@ fn element<'a>(
             ns: name.0,
             local: name.1,
         },
-        attrs: arena.try_alloc_slice_copy(attrs)?,
+        attrs: Attrs::of(arena.try_alloc_slice_copy(attrs)?)?,
         scope: Scope::empty(),
         children: arena.try_alloc_slice_copy(children)?,
     })?;

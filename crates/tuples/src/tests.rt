@@ -11,18 +11,18 @@ use crate::{Members, membership};
 use bumpalo::Bump;
 use id_table::Index;
 use ix_base::namespaces::{IX, XSI};
-use ix_base::{Attr, Breaches, Element, Name, NoMemory, Place, Scope, Spot, attr_of};
+use ix_base::{Attr, Attrs, Breaches, Element, Name, NoMemory, Place, Scope, Spot, attr_of};
 use std::alloc::Global;
 use std::fmt::Write;
 use std::test::Fail;
 use value_forms::{Form, has_form};
 
 /// Attributes by their local names; `xsi:nil` alone has a namespace.
-type Attrs = &'static [(&'static str, &'static str)];
+type Pairs = &'static [(&'static str, &'static str)];
 
 /// The elements of a set, one on each page, and what is due: how many breaches there are, the pages of the members of the
 /// first element, and the page of its owner where it has one.
-type Row = (&'static [(&'static str, Attrs)], &'static str);
+type Row = (&'static [(&'static str, Pairs)], &'static str);
 
 fn name_of(local: &'static str) -> Name<'static> {
     if local == "xsi:nil" {
@@ -35,7 +35,7 @@ fn name_of(local: &'static str) -> Name<'static> {
     }
 }
 
-fn attrs_of<'a>(alloc: Global, arena: &'a Bump, pairs: Attrs) -> Result<&'a [Attr<'a>], NoMemory> {
+fn attrs_of<'a>(alloc: Global, arena: &'a Bump, pairs: Pairs) -> Result<&'a [Attr<'a>], NoMemory> {
     let mut attrs = Vec::new(alloc);
     for &(local, value) in pairs {
         let name = name_of(local);
@@ -56,7 +56,7 @@ fn page_of<'a>(
     let element = arena.try_alloc(Element {
         place: Place { page, offset: 50 },
         name: Name { ns: IX, local },
-        attrs,
+        attrs: Attrs::of(attrs)?,
         scope: Scope::empty(),
         children: &[],
     })?;
@@ -66,7 +66,7 @@ fn page_of<'a>(
 fn index_of<'a>(
     alloc: Global,
     arena: &'a Bump,
-    pages: &[(&'static str, Attrs)],
+    pages: &[(&'static str, Pairs)],
 ) -> Result<Index<'a>, Fail> {
     let mut index = Index::new(alloc);
     let mut number = 0u32;
@@ -117,7 +117,7 @@ fn push_said<'a>(
 }
 
 /// What is said of a set.
-fn said_of(alloc: Global, pages: &[(&'static str, Attrs)]) -> Result<String, Fail> {
+fn said_of(alloc: Global, pages: &[(&'static str, Pairs)]) -> Result<String, Fail> {
     let arena = Bump::new(alloc);
     let index = index_of(alloc, &arena, pages)?;
     if !are_fit(index.spots()) {

@@ -228,12 +228,12 @@ fn a_tree_says_what_its_page_says(rt: HostRuntime) -> Result<(), Fail> {
     assert_eq!(rt; root.place.offset, 31);
     assert_eq!(rt; root.name.ns, "d");
     assert_eq!(rt; root.name.local, "r");
-    assert_eq!(rt; root.attrs.len(), 2);
-    assert_eq!(rt; root.attrs[0].name.ns, "");
-    assert_eq!(rt; root.attrs[0].value, "1\t 2");
-    assert_eq!(rt; root.attrs[1].name.ns, "u");
-    assert_eq!(rt; root.attrs[1].value, "<");
-    assert_eq!(rt; root.scope.len(), 3);
+    assert_eq!(rt; root.attrs.written.len(), 2);
+    assert_eq!(rt; root.attrs.written[0].name.ns, "");
+    assert_eq!(rt; root.attrs.written[0].value, "1\t 2");
+    assert_eq!(rt; root.attrs.written[1].name.ns, "u");
+    assert_eq!(rt; root.attrs.written[1].value, "<");
+    assert_eq!(rt; root.scope.bindings.len(), 3);
     assert_eq!(rt; root.children.len(), 3);
     assert_eq!(rt; shown(rt.alloc(), root)?.as_str(), "t&<s{c}\n");
     assert!(rt; arena.reset().is_ok());
