@@ -3,7 +3,7 @@ use Rattle.std.proofs.Common.{◌≡◌, ◌∙◌, ℕ, List, refl, ap, sym, tr
 use Rattle.std.proofs.lemmas.Map.Made.{lookup-map_values}
 use Rattle.indexmap.specs.IndexMap.{IndexMap}
 use Rattle.ix_base.specs.Located.{Located}
-use Rattle.continuations.specs.declared.chains.Slice.{Slice}
+use Rattle.continuations.specs.declared.slice.Slice.{Slice}
 use Rattle.continuations.specs.Kept.{chain_at}
 use Rattle.continuations.specs.Slices.{chain_in, chains_in, is_key, slice_at}
 

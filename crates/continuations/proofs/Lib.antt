@@ -4,6 +4,7 @@ pub mod Chaining
 pub mod HeadLaws
 pub mod Inner
 pub mod KeptLaws
+pub mod Leaping
 pub mod Marking
 pub mod Numbering
 pub mod Reaching

@@ -1,4 +1,5 @@
 pub mod Berths
+pub mod Depths
 pub mod Inside
 pub mod Kept
 pub mod Numbers

@@ -1,7 +1,7 @@
 -- Chains that are kept by place.
 use Rattle.std.specs.Prelude.{ℕ, Bool, true, false, ◌&&◌, ◌==◌, List, [], ◌∷◌, map, Option, Some, None, option_map, if◌then◌else◌}
 use Rattle.indexmap.specs.IndexMap.{IndexMap, get_by}
-use Rattle.continuations.specs.declared.chains.Slice.{Slice}
+use Rattle.continuations.specs.declared.slice.Slice.{Slice}
 use Rattle.ix_base.specs.LinkRules.{is_at}
 use Rattle.ix_base.specs.Located.{Located, is_start}
 use Rattle.id_table.specs.Tables.{all_located}

@@ -4,11 +4,13 @@ ghost use Rattle.ix_base.specs.Chain as spec;
 ghost use Rattle.ix_base.specs.LinkRules.{is_at};
 ghost use Rattle.ix_base.specs.Located.{located, offset_of};
 ghost use Rattle.id_table.specs.Held.{asked};
-ghost use Rattle.id_table.specs.Tables.{all_located};
+ghost use Rattle.ix_base.specs.Spots.{IsOnOnePage};
+ghost use Rattle.id_table.specs.Tables.{all_located, AreOnOwnPages};
 ghost use Rattle.continuations.specs.Kept.{chain_at, AreChainsOf};
 ghost use Rattle.continuations.specs.Slices.{chain_in, slice_at, first_start, put_first, starts_at};
 ghost use Rattle.continuations.specs.Seen.{most_of};
 
+use crate::slice::Slice;
 use crate::walk::{chain_of, is_start, most_in};
 use bumpalo::Bump;
 use bumpalo::collections::into_bump_slice;
@@ -17,12 +19,6 @@ use indexmap::IndexMap;
 use ix_base::{NoMemory, Place, Spot};
 use std::alloc::Global;
 use std::marker::Model;
-
-/// A chain, in the arena.
-#[derive(Clone, Copy)]
-struct Slice<'a> {
-    spots: &'a [&'a Spot<'a>],
-}
 
 /// The chains of elements, by the places of these.
 type Slices<'a> = IndexMap<(u32, u64), Slice<'a>>;
@@ -94,6 +90,7 @@ fn slice_of<'a>(
     head: &'a Spot<'a>,
     most: usize,
 ) -> Result<Slice<'a>, NoMemory>
+    requires { IsOnOnePage head.now }
     ensures { IfOk result (λ s. all_located s.spots.now ≡ spec.chain_of (asked index.now) most (located head.entry.now)) }
 {
     let chain = chain_of(alloc, index, head, most)?;
@@ -113,6 +110,7 @@ fn enter_start<'a>(
     spot: &'a Spot<'a>,
     slices: &mut Slices<'a>,
 ) -> Result<(), NoMemory>
+    requires { IsOnOnePage spot.now }
     ensures { OnOk result ((page offset : ℕ) → slice_at slices.new page offset
         ≡ put_first (slice_at slices.old page offset) (starts_at page offset (located spot.entry.now))
         (spec.chain_of (asked index.now) most (located spot.entry.now))) }
@@ -184,7 +182,8 @@ impl<'a> Chains<'a> {
     /// The chain from an element with which one begins, itself first. It takes no memory.
     pub fn of(&self, head: &Spot<'a>) -> &'a [&'a Spot<'a>]
         requires { is_some (chain_at self.now (located head.now).page (offset_of (located head.now))) ≡ true }
-        ensures { chain_at self.now (located head.now).page (offset_of (located head.now)) ≡ Some (all_located result.now) }
+        ensures chain { chain_at self.now (located head.now).page (offset_of (located head.now)) ≡ Some (all_located result.now) }
+        ensures pages { AreOnOwnPages result.now }
     {
         match find(&self.slices, head) {
             Some(slice) => slice.spots,

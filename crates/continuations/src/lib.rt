@@ -17,6 +17,7 @@ mod links;
 mod marks;
 mod places;
 mod seen;
+mod slice;
 mod walk;
 mod walks;
 

@@ -1,6 +1,7 @@
 //! Whether the walk from one start of a chain leads to two elements.
-ghost use Rattle.std.specs.Prelude.{◌≡◌, ◌↔◌, ◌+◌, ◌<◌, ◌≤◌, ◌⊎◌, ℕ, Some, None, true, length, IfOk, slice_index_or};
+ghost use Rattle.std.specs.Prelude.{All, List, ◌≡◌, ◌↔◌, ◌+◌, ◌<◌, ◌≤◌, ◌⊎◌, ℕ, Some, None, true, length, IfOk, slice_index_or};
 ghost use Rattle.continuations.specs.Berths.{berth_at, meet_at, merge_at, Met, AreFar, Behind, IsFar, Leads, Shared};
+ghost use Rattle.continuations.specs.Depths.{depth_by, far_by, AreLeaps};
 ghost use Rattle.continuations.specs.Walks.{next_at, Reaches};
 
 use crate::berths::Berth;
@@ -120,7 +121,8 @@ fn far_of(
     requires fars { length fars.now ≡ walk }
     requires depths { length depths.now ≡ walk }
     requires early { (h : ℕ) → h < length fars.now → slice_index_or fars.now h 0 ≤ h }
-    ensures { IsFar berths.now meets.now fars.now walk result }
+    ensures place { IsFar berths.now meets.now fars.now walk result }
+    ensures leap { result ≡ far_by (merge_at berths.now meets.now walk) fars.now depths.now walk }
 {
     match merge(berths, meets, walk) {
         Some(met) if met.walk < walk => {
@@ -146,9 +148,12 @@ fn depth_of(
 ) -> usize
     requires meets { walk < length meets.now }
     requires depths { length depths.now ≡ walk }
+    requires small { All (λ d. d < walk) depths.now }
+    ensures depth { result ≡ depth_by (merge_at berths.now meets.now walk) depths.now walk }
+    ensures small { result ≤ walk }
 {
     match merge(berths, meets, walk) {
-        Some(met) if met.walk < walk => depths[met.walk].saturating_add(1),
+        Some(met) if met.walk < walk => depths[met.walk] + 1,
         _ => 0,
     }
 }
@@ -165,6 +170,7 @@ pub(crate) fn fars_of(
     requires meets { length meets.now ≡ length nexts.now }
     ensures len { IfOk result (λ v. length v.items ≡ length nexts.now) }
     ensures far { IfOk result (λ v. AreFar nexts.now first berths.now v.items) }
+    ensures leaps { IfOk result (λ v. (depths : List ℕ) × AreLeaps berths.now meets.now depths v.items) }
 {
     let mut fars = Vec::new(alloc);
     let mut depths = Vec::new(alloc);

@@ -1,18 +1,19 @@
 //! What the attributes of a fact, of a numerator or of a denominator say.
-ghost use Rattle.std.specs.Prelude.{◌≡◌, option_map, is_some, codes};
+ghost use Rattle.std.specs.Prelude.{◌≡◌, ◌&&◌, option_map, is_some, codes};
 ghost use Rattle.ix_base.specs.Elements.{placed};
+ghost use Rattle.ix_base.specs.Kinds.{is_fact, ix_kind};
 ghost use Rattle.ix_base.specs.Readers as reader;
 ghost use Rattle.ix_base.specs.Trees.{tree_of, named};
 ghost use Rattle.ix_base.specs.Viewed as spec;
 ghost use Rattle.fact_view.specs.Seen.{seen};
 
-use ix_base::{Element, Name, Spot, attr_of, token_at};
+use ix_base::{Element, Name, Spot, attr_of, is_fact, ix_kind, token_at};
 use scopes::name_at;
 use value_forms::{escapes, is_nil, scale_of};
 
 /// What the attributes of a fact, of a numerator or of a denominator say, where they break no rule of elements. A
 /// numerator and a denominator have the empty name. Without a target it is the default one, whose name is empty; without
-/// a scale it is 0. The sign is negative where there is one: no other sign breaks no rule.
+/// a scale it is 0. Only a fact is nil. The sign is negative where there is one: no other sign breaks no rule.
 #[derive(Clone, Copy)]
 pub struct FactView<'a> {
     pub name: Name<'a>,
@@ -24,7 +25,7 @@ pub struct FactView<'a> {
     pub format: Option<Name<'a>>,
 }
 
-/// The name of a fact. It takes no memory.
+/// The name that the attribute `name` gives; without one that can be read the empty one. It takes no memory.
 pub fn fact_name<'a>(e: &Element<'a>) -> Name<'a>
     ensures { named result ≡ reader.fact_name (tree_of e.now) }
 {
@@ -58,6 +59,13 @@ fn format_of<'a>(e: &Element<'a>) -> Option<Name<'a>>
     name_at(e, "format")
 }
 
+/// Whether an element is a fact without a value.
+fn is_nil_fact(e: &Element) -> bool
+    ensures { result ≡ (is_fact (ix_kind (tree_of e.now).head.name) && reader.is_nil (tree_of e.now)) }
+{
+    is_fact(ix_kind(&e.name)) && is_nil(e)
+}
+
 /// What the attributes of an element say. It takes no memory.
 pub fn view<'a>(spot: &Spot<'a>) -> FactView<'a>
     ensures { seen result ≡ spec.view (placed spot.now).tree }
@@ -66,7 +74,7 @@ pub fn view<'a>(spot: &Spot<'a>) -> FactView<'a>
     FactView {
         name: fact_name(e),
         target: target_of(e),
-        nil: is_nil(e),
+        nil: is_nil_fact(e),
         scale: scale_of(e),
         negative: has_sign(e),
         escape: escapes(e),

@@ -4,6 +4,3 @@
 mod facts;
 
 pub use facts::{FactView, fact_name, target_of, view};
-
-#[cfg(test)]
-mod tests;

@@ -1,11 +1,11 @@
 -- A name is that of one format, and a text has one value.
 use Rattle.std.proofs.Common.{◌≡◌, ◌∙◌, ap, sym, refl, subst, ℕ, true, false, cond, List, [], ◌∷◌, Option, Some, None, Result, Ok, Err, bytes_eq, inl, inr, ◌⊎◌}
+use Rattle.std.specs.Option.{option_map_or}
 use Rattle.std.specs.Str.{chars}
 use Rattle.ix_base.specs.Trees.{Named}
 use Rattle.ix_base.specs.declared.rule.Rule.{Rule}
 use Rattle.ix_base.specs.declared.rule.Rule.TheVariants.{V1, V2, V3, V4}
 use Rattle.tr4_dates.proofs.FormatLaws.{one_value as one_date}
-use Rattle.tr4_dates.specs.Formats.{name_of as date_name}
 use Rattle.tr4_dates.specs.declared.format.DateFormat.{DateFormat}
 use Rattle.tr4_dates.specs.declared.format.DateFormat.TheVariants as date
 use Rattle.tr4_numbers.proofs.Complete.{one_value as one_decimal}
@@ -13,7 +13,7 @@ use Rattle.tr4_numbers.specs.declared.NumberFormat.{NumberFormat}
 use Rattle.tr4_numbers.specs.declared.NumberFormat.TheVariants as number
 use Rattle.tr4_numbers.specs.declared.FixedFormat.{FixedFormat}
 use Rattle.tr4_numbers.specs.declared.FixedFormat.TheVariants as fixed
-use Rattle.facts.specs.Formats.{IsFormat, Transforms, gives_number, name_of}
+use Rattle.facts.specs.Formats.{IsFormat, Transforms, gives_number, name_in, namespace_of, registry_3, registry_4}
 use Rattle.ix_base.specs.Decimals.{IsUnsigned}
 use Rattle.ix_base.specs.Token.{token_of}
 use Rattle.scale_sign.specs.Scaled.{IsNumber}
@@ -22,6 +22,8 @@ use Rattle.facts.specs.NumberValue.{Number as NumberOf, IsDigits, IsNumberValue}
 use Rattle.facts.specs.TextValue.{IsTransformed}
 use Rattle.facts.specs.declared.format.Format.{Format}
 use Rattle.facts.specs.declared.format.Format.TheVariants.{Date, Fixed, Number}
+use Rattle.facts.specs.declared.format.Registry.{Registry}
+use Rattle.facts.specs.declared.format.Registry.TheVariants.{Three, Four}
 
 abbrev all_formats : List Format
 all_formats =
@@ -57,68 +59,135 @@ all_formats =
     ∷ Fixed fixed.False
     ∷ Fixed fixed.True
     ∷ Fixed fixed.Zero
+    ∷ Fixed fixed.ZeroDash
     ∷ Number number.Dot
     ∷ Number number.Comma
     ∷ Number number.Unit
     ∷ []
 
-abbrev first_of : List ℕ → List Format → Option Format
-first_of local [] = None
-first_of local (f ∷ fs) = cond (bytes_eq local (name_of f)) (Some f) (first_of local fs)
+abbrev first_of : Registry → List ℕ → List Format → Option Format
+first_of r local [] = None
+first_of r local (f ∷ fs) = cond (option_map_or (bytes_eq local) (name_in r f) false) (Some f) (first_of r local fs)
 
-date_at : (f : DateFormat) → first_of (date_name f) all_formats ≡ Some (Date f)
-date_at date.DayMonth = refl
-date_at date.MonthDay = refl
-date_at date.DayMonthYear = refl
-date_at date.MonthDayYear = refl
-date_at date.YearMonthDay = refl
-date_at date.MonthYear = refl
-date_at date.YearMonth = refl
-date_at date.DayMonthNameEn = refl
-date_at date.DayMonthNameDe = refl
-date_at date.DayMonthNameFr = refl
-date_at date.DayMonthNameEs = refl
-date_at date.DayMonthNameIt = refl
-date_at date.DayMonthNameNl = refl
-date_at date.DayMonthNameYearEn = refl
-date_at date.DayMonthNameYearDe = refl
-date_at date.DayMonthNameYearFr = refl
-date_at date.DayMonthNameYearEs = refl
-date_at date.DayMonthNameYearIt = refl
-date_at date.DayMonthNameYearNl = refl
-date_at date.MonthNameYearEn = refl
-date_at date.MonthNameYearDe = refl
-date_at date.MonthNameYearFr = refl
-date_at date.MonthNameYearEs = refl
-date_at date.MonthNameYearIt = refl
-date_at date.MonthNameYearNl = refl
-date_at date.MonthNameDayEn = refl
-date_at date.MonthNameDayYearEn = refl
-date_at date.YearMonthNameEn = refl
+-- a format is the first with its name
+abbrev IsFirst : Registry → Format → Option (List ℕ) → Type 0
+IsFirst r f None = Unit {0}
+IsFirst r f (Some local) = first_of r local all_formats ≡ Some f
 
-fixed_at : (f : FixedFormat) → first_of (name_of (Fixed f)) all_formats ≡ Some (Fixed f)
-fixed_at fixed.Empty = refl
-fixed_at fixed.False = refl
-fixed_at fixed.True = refl
-fixed_at fixed.Zero = refl
+date_at_three : (f : DateFormat) → IsFirst Three (Date f) (name_in Three (Date f))
+date_at_three date.DayMonth = refl
+date_at_three date.MonthDay = refl
+date_at_three date.DayMonthYear = refl
+date_at_three date.MonthDayYear = refl
+date_at_three date.YearMonthDay = tt
+date_at_three date.MonthYear = tt
+date_at_three date.YearMonth = tt
+date_at_three date.DayMonthNameEn = refl
+date_at_three date.DayMonthNameDe = tt
+date_at_three date.DayMonthNameFr = tt
+date_at_three date.DayMonthNameEs = tt
+date_at_three date.DayMonthNameIt = tt
+date_at_three date.DayMonthNameNl = tt
+date_at_three date.DayMonthNameYearEn = refl
+date_at_three date.DayMonthNameYearDe = tt
+date_at_three date.DayMonthNameYearFr = tt
+date_at_three date.DayMonthNameYearEs = tt
+date_at_three date.DayMonthNameYearIt = tt
+date_at_three date.DayMonthNameYearNl = tt
+date_at_three date.MonthNameYearEn = refl
+date_at_three date.MonthNameYearDe = tt
+date_at_three date.MonthNameYearFr = tt
+date_at_three date.MonthNameYearEs = tt
+date_at_three date.MonthNameYearIt = tt
+date_at_three date.MonthNameYearNl = tt
+date_at_three date.MonthNameDayEn = refl
+date_at_three date.MonthNameDayYearEn = refl
+date_at_three date.YearMonthNameEn = refl
 
-number_at : (f : NumberFormat) → first_of (name_of (Number f)) all_formats ≡ Some (Number f)
-number_at number.Dot = refl
-number_at number.Comma = refl
-number_at number.Unit = refl
+fixed_at_three : (f : FixedFormat) → IsFirst Three (Fixed f) (name_in Three (Fixed f))
+fixed_at_three fixed.Empty = refl
+fixed_at_three fixed.False = refl
+fixed_at_three fixed.True = refl
+fixed_at_three fixed.Zero = tt
+fixed_at_three fixed.ZeroDash = refl
 
-format_at : (f : Format) → first_of (name_of f) all_formats ≡ Some f
-format_at (Date f) = date_at f
-format_at (Fixed f) = fixed_at f
-format_at (Number f) = number_at f
+number_at_three : (f : NumberFormat) → IsFirst Three (Number f) (name_in Three (Number f))
+number_at_three number.Dot = refl
+number_at_three number.Comma = refl
+number_at_three number.Unit = refl
+
+date_at_four : (f : DateFormat) → IsFirst Four (Date f) (name_in Four (Date f))
+date_at_four date.DayMonth = refl
+date_at_four date.MonthDay = refl
+date_at_four date.DayMonthYear = refl
+date_at_four date.MonthDayYear = refl
+date_at_four date.YearMonthDay = refl
+date_at_four date.MonthYear = refl
+date_at_four date.YearMonth = refl
+date_at_four date.DayMonthNameEn = refl
+date_at_four date.DayMonthNameDe = refl
+date_at_four date.DayMonthNameFr = refl
+date_at_four date.DayMonthNameEs = refl
+date_at_four date.DayMonthNameIt = refl
+date_at_four date.DayMonthNameNl = refl
+date_at_four date.DayMonthNameYearEn = refl
+date_at_four date.DayMonthNameYearDe = refl
+date_at_four date.DayMonthNameYearFr = refl
+date_at_four date.DayMonthNameYearEs = refl
+date_at_four date.DayMonthNameYearIt = refl
+date_at_four date.DayMonthNameYearNl = refl
+date_at_four date.MonthNameYearEn = refl
+date_at_four date.MonthNameYearDe = refl
+date_at_four date.MonthNameYearFr = refl
+date_at_four date.MonthNameYearEs = refl
+date_at_four date.MonthNameYearIt = refl
+date_at_four date.MonthNameYearNl = refl
+date_at_four date.MonthNameDayEn = refl
+date_at_four date.MonthNameDayYearEn = refl
+date_at_four date.YearMonthNameEn = refl
+
+fixed_at_four : (f : FixedFormat) → IsFirst Four (Fixed f) (name_in Four (Fixed f))
+fixed_at_four fixed.Empty = refl
+fixed_at_four fixed.False = refl
+fixed_at_four fixed.True = refl
+fixed_at_four fixed.Zero = refl
+fixed_at_four fixed.ZeroDash = tt
+
+number_at_four : (f : NumberFormat) → IsFirst Four (Number f) (name_in Four (Number f))
+number_at_four number.Dot = refl
+number_at_four number.Comma = refl
+number_at_four number.Unit = refl
+
+format_at : (r : Registry) (f : Format) → IsFirst r f (name_in r f)
+format_at Three (Date f) = date_at_three f
+format_at Three (Fixed f) = fixed_at_three f
+format_at Three (Number f) = number_at_three f
+format_at Four (Date f) = date_at_four f
+format_at Four (Fixed f) = fixed_at_four f
+format_at Four (Number f) = number_at_four f
+
+-- a namespace is that of one registry
+abbrev registry_of : List ℕ → Option Registry
+registry_of ns = cond (bytes_eq ns registry_3) (Some Three) (cond (bytes_eq ns registry_4) (Some Four) None)
+
+registry_at : (r : Registry) → registry_of (namespace_of r) ≡ Some r
+unfolding registry_3 registry_4
+registry_at Three = refl
+registry_at Four = refl
+
+pub one_registry : (ns : List ℕ) (q r : Registry) → ns ≡ namespace_of q → ns ≡ namespace_of r → q ≡ r
+one_registry ns q r a b = let z : Some q ≡ Some r = sym (registry_at q) ∙ ap registry_of (sym a ∙ b) ∙ registry_at r in cc
 
 pub one_format : (name : Named) (f g : Format) → IsFormat name f → IsFormat name g → f ≡ g
 one_format name f g a b =
-    let z : Some f ≡ Some g = sym (format_at f) ∙ ap (λ n. first_of n all_formats) (sym a.local ∙ b.local) ∙ format_at g in cc
+    let r : a.registry ≡ b.registry = one_registry name.ns a.registry b.registry a.namespace b.namespace in
+    let x : first_of a.registry name.local all_formats ≡ Some f = subst (IsFirst a.registry f) (sym a.local) (format_at a.registry f) in
+    let y : first_of b.registry name.local all_formats ≡ Some g = subst (IsFirst b.registry g) (sym b.local) (format_at b.registry g) in
+    let z : Some f ≡ Some g = sym x ∙ ap (λ q. first_of q name.local all_formats) r ∙ y in cc
 
 one_transform : (f : Format) (text v w : List ℕ) → Transforms f text v → Transforms f text w → v ≡ w
 one_transform (Date f) text v w a b = one_date f text v w a b
-one_transform (Fixed f) text v w a b = a ∙ sym b
+one_transform (Fixed f) text v w a b = a.1 ∙ sym b.1
 one_transform (Number f) text v w a b = one_decimal f (chars text) v w a b
 
 -- in two formats of one name

@@ -3,7 +3,7 @@ use Rattle.std.proofs.Common.{◌≡◌, refl, List, ℕ, Option, Some, None, Re
 use Rattle.ix_base.specs.declared.content.Value.{Value}
 use Rattle.ix_base.specs.declared.rule.Rule.{Rule}
 use Rattle.facts.specs.FractionValue.{fraction}
-use Rattle.facts.specs.Said.{said_both}
+use Rattle.facts.specs.Verdicts.{said_both}
 
 pub fraction_is : (P Q : Result (List ℕ) Rule → Type 0) (a b : Option (Result (List ℕ) Rule)) → IfSome a P → IfSome b Q
     → IfSome (said_both a b)

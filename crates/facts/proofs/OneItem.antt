@@ -20,7 +20,7 @@ use Rattle.facts.specs.Along.{raw_along, text_along}
 use Rattle.facts.specs.FractionValue.{IsFractionValue, IsPart, fraction, part_in, part_number}
 use Rattle.facts.specs.ItemValue.{ItemText, item_text, IsTextBy, IsPlain, IsValueAs, IsValueBy, IsValueOf, IsItemOf, item_with}
 use Rattle.facts.specs.NumberValue.{IsNumberValue, number_by, number_text}
-use Rattle.facts.specs.Said.{as_plain}
+use Rattle.facts.specs.Verdicts.{as_plain}
 use Rattle.facts.proofs.FormatLaws.{one_transformed, one_value}
 
 -- the text that a plain value is

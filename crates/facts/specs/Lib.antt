@@ -4,5 +4,5 @@ pub mod Formats
 pub mod FractionValue
 pub mod ItemValue
 pub mod NumberValue
-pub mod Said
+pub mod Verdicts
 pub mod TextValue

@@ -38,6 +38,7 @@ pub record Number : Type 0 where
   pub negative : Bool
   pub text : List ℕ
 
+-- a number of this format, scale, sign and text
 abbrev pub number_at : Option Named → ℤ → Bool → List ℕ → Number
 number_at format scale negative text = record { format = format; scale = scale; negative = negative; text = text }
 

@@ -29,7 +29,7 @@ impl From<NoMemory> for ItemFault {
 /// A text that isn't in its format breaks V2.
 impl From<TrFault> for ItemFault {
     ghost use Rattle.std.specs.Prelude.{◌≡◌};
-    ghost use Rattle.facts.specs.Said.{fault_of};
+    ghost use Rattle.facts.specs.Verdicts.{fault_of};
 
     ghost from_gives = { λ e f. f ≡ fault_of e };
 

@@ -1,14 +1,16 @@
-//! The formats of the Transformation Rules Registry 4, and what they make of texts.
-ghost use Rattle.std.specs.Prelude.{◌≡◌, ◌≢◌, ◌+◌, ◌≤◌, ℕ, List, IfOk, IfSome, IfNone, IsErrOf, IsTrue, IsUtf8, length, take, vec_len, false};
+//! The formats of the Transformation Rules Registries 3 and 4, and what they make of texts.
+ghost use Rattle.std.specs.Prelude.{◌≡◌, ◌≢◌, ◌+◌, ◌≤◌, ℕ, List, IfOk, IfSome, IfNone, IsErrOf, IsTrue, IsUtf8, Some, length, take, vec_len, false};
 ghost use Rattle.std.specs.Str.{chars};
 ghost use Rattle.ix_base.specs.Trees.{named};
 ghost use Rattle.tr4_dates.specs.Transformation.{Tr};
 ghost use Rattle.tr4_dates.specs.declared.TrFault.TheVariants as transformation;
-ghost use Rattle.tr4_numbers.specs.Transformation.{IsValue, fixed_value};
-ghost use Rattle.facts.specs.Formats.{IsFormat, Transforms, gives_number, name_of, registry_4};
-ghost use Rattle.facts.specs.Said.{said};
+ghost use Rattle.tr4_numbers.specs.Transformation.{IsFixedValue, IsValue};
+ghost use Rattle.facts.specs.Formats.{IsFormat, Transforms, gives_number, name_in, namespace_of, registry_3, registry_4};
+ghost use Rattle.facts.specs.Verdicts.{said};
 ghost use Rattle.facts.specs.TextValue.{IsTransformed};
 ghost use Rattle.facts.specs.declared.format.Format.{Format as FormatOf};
+ghost use Rattle.facts.specs.declared.format.Registry.{Registry as RegistryOf};
+ghost use Rattle.facts.specs.declared.format.Registry.TheVariants as registry;
 
 use crate::fault::ItemFault;
 use ix_base::{Name, NoMemory, Rule, Text};
@@ -16,14 +18,31 @@ use std::alloc::Global;
 use tr4_dates::{DateFormat, TrFault};
 use tr4_numbers::{FixedFormat, NumberFormat, values_are_unsigned};
 
+const REGISTRY_3: &str = "http://www.xbrl.org/inlineXBRL/transformation/2015-02-26";
+
 const REGISTRY_4: &str = "http://www.xbrl.org/inlineXBRL/transformation/2020-02-12";
 
-/// A format of the registry.
+/// A registry of formats, each with its own namespace and its own names.
+#[derive(Clone, Copy)]
+pub(crate) enum Registry {
+    Three,
+    Four,
+}
+
+/// A format, under whichever name.
 #[derive(Clone, Copy)]
 pub(crate) enum Format {
     Date(DateFormat),
     Fixed(FixedFormat),
     Number(NumberFormat),
+}
+
+#[tactic(auto, unfolding(crate::specs::Formats::registry_3))]
+fn is_registry_3(ns: &str) -> bool
+    ensures found { IsTrue result → ns.now ≡ registry_3 }
+    ensures none { result ≡ false → ns.now ≢ registry_3 }
+{
+    ns == REGISTRY_3
 }
 
 #[tactic(auto, unfolding(crate::specs::Formats::registry_4))]
@@ -34,10 +53,41 @@ fn is_registry_4(ns: &str) -> bool
     ns == REGISTRY_4
 }
 
-/// The format with this local name.
-fn format_in_registry(local: &str) -> Option<Format>
-    ensures found { IfSome result (λ format. local.now ≡ name_of format) }
-    ensures none { IfNone result ((format : FormatOf) → local.now ≢ name_of format) }
+/// The registry of this namespace.
+fn registry_at(ns: &str) -> Option<Registry>
+    ensures found { IfSome result (λ r. ns.now ≡ namespace_of r) }
+    ensures none { IfNone result ((r : RegistryOf) → ns.now ≢ namespace_of r) }
+{
+    if is_registry_4(ns) {
+        return Some(Registry::Four);
+    }
+    if is_registry_3(ns) {
+        return Some(Registry::Three);
+    }
+    None
+}
+
+/// The format with this local name in registry 3.
+fn format_in_3(local: &str) -> Option<Format>
+    ensures found { IfSome result (λ format. Some local.now ≡ name_in registry.Three format) }
+    ensures none { IfNone result ((format : FormatOf) → Some local.now ≢ name_in registry.Three format) }
+{
+    if let Some(format) = NumberFormat::named3(local) {
+        return Some(Format::Number(format));
+    }
+    if let Some(format) = FixedFormat::named3(local) {
+        return Some(Format::Fixed(format));
+    }
+    match DateFormat::named3(local) {
+        Some(format) => Some(Format::Date(format)),
+        None => None,
+    }
+}
+
+/// The format with this local name in registry 4.
+fn format_in_4(local: &str) -> Option<Format>
+    ensures found { IfSome result (λ format. Some local.now ≡ name_in registry.Four format) }
+    ensures none { IfNone result ((format : FormatOf) → Some local.now ≢ name_in registry.Four format) }
 {
     if let Some(format) = NumberFormat::named(local) {
         return Some(Format::Number(format));
@@ -51,16 +101,27 @@ fn format_in_registry(local: &str) -> Option<Format>
     }
 }
 
+/// The format with this local name in a registry.
+fn format_in(registry: Registry, local: &str) -> Option<Format>
+    ensures found { IfSome result (λ format. Some local.now ≡ name_in registry format) }
+    ensures none { IfNone result ((format : FormatOf) → Some local.now ≢ name_in registry format) }
+{
+    match registry {
+        Registry::Three => format_in_3(local),
+        Registry::Four => format_in_4(local),
+    }
+}
+
 impl Format {
     /// The format of this name.
     pub(crate) fn named(name: Name<'_>) -> Option<Format>
         ensures found { IfSome result (λ format. IsFormat (named name.entry) format) }
         ensures none { IfNone result ((format : FormatOf) → ¬ IsFormat (named name.entry) format) }
     {
-        if is_registry_4(name.ns) {
-            return format_in_registry(name.local);
+        match registry_at(name.ns) {
+            Some(registry) => format_in(registry, name.local),
+            None => None,
         }
-        None
     }
 
     /// Whether a number may have it.
@@ -69,7 +130,7 @@ impl Format {
     {
         match self {
             Format::Date(_) => false,
-            Format::Fixed(FixedFormat::Zero) => true,
+            Format::Fixed(FixedFormat::Zero | FixedFormat::ZeroDash) => true,
             Format::Fixed(_) => false,
             Format::Number(_) => true,
         }
@@ -122,11 +183,14 @@ fn number_of(alloc: Global, format: NumberFormat, text: &str) -> Result<Text, Tr
     number_in(alloc, format, text, out.as_mut_slice())
 }
 
-/// The value of a fixed format.
-fn fixed_of(alloc: Global, format: FixedFormat) -> Result<Text, TrFault>
-    ensures ok { IfOk result (λ v. v ≡ fixed_value format) }
-    ensures err { ¬ IsErrOf result transformation.NotInGrammar }
+/// What a fixed format makes of a text.
+fn fixed_of(alloc: Global, format: FixedFormat, text: &str) -> Result<Text, TrFault>
+    ensures ok { IfOk result (λ v. IsFixedValue format (chars text.now) v) }
+    ensures err { IsErrOf result transformation.NotInGrammar → (v : List ℕ) → ¬ IsFixedValue format (chars text.now) v }
 {
+    if !format.accepts(text) {
+        return Err(TrFault::NotInGrammar);
+    }
     Ok(Text::of(alloc, format.value())?)
 }
 
@@ -145,7 +209,7 @@ pub(crate) fn transformed(alloc: Global, format: Format, text: &str) -> Result<T
 {
     match format {
         Format::Date(format) => date_of(alloc, format, text),
-        Format::Fixed(format) => fixed_of(alloc, format),
+        Format::Fixed(format) => fixed_of(alloc, format, text),
         Format::Number(format) => number_of(alloc, format, text),
     }
 }

@@ -3,7 +3,7 @@ ghost use Rattle.std.specs.Prelude.{◌≡◌, Some, IfSome, option_map};
 ghost use Rattle.ix_base.specs.Trees.{nodes_of, tree_of};
 ghost use Rattle.facts.specs.FractionValue as spec;
 ghost use Rattle.facts.specs.NumberValue.{IsNumberValue};
-ghost use Rattle.facts.specs.Said.{said, said_both};
+ghost use Rattle.facts.specs.Verdicts.{said, said_both};
 
 use crate::fault::ItemFault;
 use crate::number::{number_value, own_value};

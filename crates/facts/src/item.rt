@@ -13,7 +13,7 @@ ghost use Rattle.ix_base.specs.declared.kind.Kind.TheVariants as kinds;
 ghost use Rattle.facts.specs.Along.{raw_along, text_along};
 ghost use Rattle.facts.specs.ItemValue as spec;
 ghost use Rattle.facts.specs.NumberValue as numbers;
-ghost use Rattle.facts.specs.Said.{as_plain, said};
+ghost use Rattle.facts.specs.Verdicts.{as_plain, said};
 ghost use Rattle.facts.specs.TextValue.{IsTransformed};
 
 use crate::exact::accuracy_of;
@@ -27,6 +27,7 @@ use ix_base::namespaces::XHTML;
 use ix_base::{Element, Item, Kind, Name, NoMemory, OwnName, Spot, Text, Value, kind_of, token_at};
 use scopes::Bases;
 use std::alloc::Global;
+use value_forms::is_nil;
 
 /// The plain text of a chain.
 fn plain_of(alloc: Global, chain: &[&Spot<'_>]) -> Result<Text, NoMemory>
@@ -148,7 +149,7 @@ fn value_of(
         (text_along (base_in bases.now.pages) (viewed.view (placed spot.now).tree).escape (map (λ s. located s.now) chain.now))
         (placed spot.now)) }
 {
-    if view(spot).nil {
+    if is_nil(spot.element) {
         return Ok(Value::Nil);
     }
     value_as(alloc, kind_of(spot), spot, chain, bases)

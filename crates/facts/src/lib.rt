@@ -9,8 +9,6 @@ mod item;
 pub mod laws;
 mod links;
 mod number;
-#[cfg(test)]
-mod tests;
 
 pub use fault::ItemFault;
 pub use item::item_of;

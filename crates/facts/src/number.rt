@@ -7,7 +7,7 @@ ghost use Rattle.ix_base.specs.Trees.{named, nodes_of, tree_of};
 ghost use Rattle.ix_base.specs.Viewed as viewed;
 ghost use Rattle.scale_sign.specs.Scaled.{IsNumber};
 ghost use Rattle.facts.specs.NumberValue as spec;
-ghost use Rattle.facts.specs.Said.{said};
+ghost use Rattle.facts.specs.Verdicts.{said};
 
 use crate::fault::ItemFault;
 use crate::format::{Format, text_at, transformed, zeros};

@@ -13,7 +13,7 @@ use Rattle.ix_base.specs.Once.{in_order}
 use Rattle.ix_base.specs.Written.{written}
 use Rattle.id_table.proofs.Asking.{map-filter}
 use Rattle.ix_base.specs.Sorted.{text_cmp}
-use Rattle.footnotes.specs.FootnoteLinks.{Between, between, label, sources, arcs_by, arcs_in, arc_cmp, ends, footnote_of, link_of, notes}
+use Rattle.footnotes.specs.FootnoteLinks.{Between, between, label, sources, arcs_by, arcs_in, arc_texts_cmp, ends, footnote_of, link_of, notes}
 use Rattle.id_table.specs.Moved.{moved}
 use Rattle.id_table.proofs.Renumbered.{map-same, map-twice, filter-same, named-moved, chain-moved}
 
@@ -70,7 +70,7 @@ module _ (r : ℕ → ℕ) (apart : (x y : ℕ) → (r x == r y) ≡ (x == y)) (
         ∙ ap (map (footnote_of others (asks (map (moved r) es)))) (named-moved r apart es is_footnote (λ e. refl) (in_order text_cmp (map label (filter is_footnote (ends xs)))))
         ∙ map-twice (footnote_of others (asks (map (moved r) es))) (moved r) (named_by is_footnote (asks es) (in_order text_cmp (map label (filter is_footnote (ends xs)))))
         ∙ map-same _ (footnote_of bases (asks es)) (footnote-moved es) (named_by is_footnote (asks es) (in_order text_cmp (map label (filter is_footnote (ends xs)))))) i;
-    arcs = in_order arc_cmp (map-twice (λ x. x.arc) both xs i);
+    arcs = in_order arc_texts_cmp (map-twice (λ x. x.arc) both xs i);
   }
 
   pub notes-moved : (es : List Located) (target : List ℕ) → notes others (map (moved r) es) target ≡ notes bases es target

@@ -16,7 +16,7 @@ use Rattle.ix_base.proofs.ExchangeLemmas.{by_exchanges}
 use Rattle.ix_base.proofs.OnceLemmas.{SameMembers-permutation, in_order-same}
 use Rattle.ix_base.specs.Sorted.{text_cmp}
 use Rattle.ix_base.proofs.OnceOrdered.{same_text}
-use Rattle.footnotes.specs.FootnoteLinks.{Between, label, arcs_by, arcs_in, arc_cmp, ends, footnote_of, link_of, notes}
+use Rattle.footnotes.specs.FootnoteLinks.{Between, label, arcs_by, arcs_in, arc_texts_cmp, ends, footnote_of, link_of, notes}
 use Rattle.id_table.proofs.Rearranged.{asks-same}
 use Rattle.footnotes.proofs.OnceLaws.{arc_total, same_arc}
 use Rattle.footnotes.proofs.RoleLaws.{map-same}
@@ -52,7 +52,7 @@ filter-moved p xs ys m =
 pub texts-same : (xs ys : List (List ℕ)) → IsPermutation xs ys → in_order text_cmp xs ≡ in_order text_cmp ys
 texts-same xs ys m = in_order-same same_text nat_list_cmp_total xs ys (SameMembers-permutation xs ys m)
 
-arcs-same : (xs ys : List Arc) → IsPermutation xs ys → in_order arc_cmp xs ≡ in_order arc_cmp ys
+arcs-same : (xs ys : List Arc) → IsPermutation xs ys → in_order arc_texts_cmp xs ≡ in_order arc_texts_cmp ys
 arcs-same xs ys m = in_order-same same_arc arc_total xs ys (SameMembers-permutation xs ys m)
 
 labels-same : (p : Located → Bool) (xs ys : List Between) → IsPermutation xs ys → in_order text_cmp (map label (filter p (ends xs))) ≡ in_order text_cmp (map label (filter p (ends ys)))

@@ -2,27 +2,16 @@
 use Rattle.std.proofs.Common.{◌≡◌, refl}
 use Rattle.std.specs.Cmp.{IsTotalOrder}
 use Rattle.std.specs.Cmp.Lexicographic.{on_texts}
-use Rattle.std.specs.declared.cmp.Ordering.{Ordering}
-use Rattle.std.specs.declared.cmp.Ordering.TheVariants.{Less, Equal, Greater}
-use Rattle.std.specs.Ordering.{ordering_then}
+use Rattle.std.specs.declared.cmp.Ordering.TheVariants.{Equal}
 use Rattle.std.proofs.lemmas.Cmp.{then_total}
 use Rattle.ix_base.specs.declared.content.Arc.{Arc}
 use Rattle.ix_base.specs.Sorted.{text_cmp}
 use Rattle.ix_base.proofs.OnceOrdered.{same_text}
-use Rattle.footnotes.specs.FootnoteLinks.{arc_cmp}
-
-then_first : (r s : Ordering) → ordering_then r s ≡ Equal → r ≡ Equal
-then_first Less s e = e
-then_first Equal s e = refl
-then_first Greater s e = e
-
-then_second : (r s : Ordering) → ordering_then r s ≡ Equal → s ≡ Equal
-then_second Less s e = let f : Less ≡ Equal = e in cc
-then_second Equal s e = e
-then_second Greater s e = let f : Greater ≡ Equal = e in cc
+use Rattle.ix_base.proofs.OrderLemmas.{then_first, then_second}
+use Rattle.footnotes.specs.FootnoteLinks.{arc_texts_cmp}
 
 -- arcs that tie are one
-pub same_arc : (a b : Arc) → arc_cmp a b ≡ Equal → a ≡ b
+pub same_arc : (a b : Arc) → arc_texts_cmp a b ≡ Equal → a ≡ b
 same_arc a b e =
     let second = then_second (text_cmp a.arcrole b.arcrole) _ e in
     let third = then_second (text_cmp a.from_id b.from_id) _ second in
@@ -32,5 +21,5 @@ same_arc a b e =
     let order = same_text a.order b.order (then_second (text_cmp a.to_id b.to_id) _ third) in
     λ i. record { arcrole = arcrole i; from_id = from i; to_id = to i; order = order i }
 
-pub arc_total : IsTotalOrder arc_cmp
+pub arc_total : IsTotalOrder arc_texts_cmp
 arc_total = then_total (on_texts (λ x. x.arcrole)) (then_total (on_texts (λ x. x.from_id)) (then_total (on_texts (λ x. x.to_id)) (on_texts (λ x. x.order))))

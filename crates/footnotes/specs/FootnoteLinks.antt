@@ -78,8 +78,8 @@ abbrev pub arcs_in : List Located → List ℕ → List Between
 arcs_in es target = flat_map (λ r. arcs_by (is_relationship r) (asks es) target r) es
 
 -- arcs by their arcroles, their two ids and their orders
-abbrev pub arc_cmp : Arc → Arc → Ordering
-arc_cmp = then_cmp (on (λ x. x.arcrole) text_cmp) (then_cmp (on (λ x. x.from_id) text_cmp)
+abbrev pub arc_texts_cmp : Arc → Arc → Ordering
+arc_texts_cmp = then_cmp (on (λ x. x.arcrole) text_cmp) (then_cmp (on (λ x. x.from_id) text_cmp)
     (then_cmp (on (λ x. x.to_id) text_cmp) (on (λ x. x.order) text_cmp)))
 
 -- a footnote whose text goes along some elements
@@ -106,7 +106,7 @@ link_of bases a role xs = record {
   role = role;
   locs = in_order text_cmp (map label (filter is_fact (ends xs)));
   footnotes = map (footnote_of bases a) (filter_map (one_such is_footnote a) (in_order text_cmp (map label (filter is_footnote (ends xs)))));
-  arcs = in_order arc_cmp (map (λ x. x.arc) xs);
+  arcs = in_order arc_texts_cmp (map (λ x. x.arc) xs);
 }
 
 -- the footnote links of a target, by role

@@ -13,7 +13,7 @@ use Rattle.ix_base.specs.Once.{in_order}
 use Rattle.ix_base.specs.Sorted.{text_cmp}
 use Rattle.continuations.specs.Kept.{chain_at}
 use Rattle.footnotes.specs.declared.fans.Fan.{Fan}
-use Rattle.footnotes.specs.FootnoteLinks.{Between, arc_cmp, ends, label, footnote_along}
+use Rattle.footnotes.specs.FootnoteLinks.{Between, arc_texts_cmp, ends, label, footnote_along}
 
 abbrev pub texts_of : List (Bor (List ℕ)) → List (List ℕ)
 texts_of xs = map (λ s. s.now) xs
@@ -45,7 +45,7 @@ link_by note role xs = record {
   role = role;
   locs = in_order text_cmp (map label (filter is_fact (ends xs)));
   footnotes = map note (filter_map (λ id. last_called id (noted xs) None) (in_order text_cmp (map label (noted xs))));
-  arcs = in_order arc_cmp (map (λ x. x.arc) xs);
+  arcs = in_order arc_texts_cmp (map (λ x. x.arc) xs);
 }
 
 -- the links of these arcs, by role

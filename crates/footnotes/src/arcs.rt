@@ -3,7 +3,7 @@ ghost use Rattle.std.specs.Prelude.{◌≡◌, ◌++◌, map, OnOk, IfOk};
 ghost use Rattle.ix_base.specs.Once.{in_order};
 ghost use Rattle.footnotes.specs.Drawn.{arc_drawn};
 ghost use Rattle.footnotes.specs.Fans.{arcs_along, fan_arcs};
-ghost use Rattle.footnotes.specs.FootnoteLinks.{arc_cmp};
+ghost use Rattle.footnotes.specs.FootnoteLinks.{arc_texts_cmp};
 
 use crate::fans::Fan;
 use crate::kinds::label_of;
@@ -48,7 +48,7 @@ fn drawn_of<'a>(alloc: Global, fans: &[Fan<'a>]) -> Result<Vec<Drawn<'a>>, NoMem
 
 /// Puts arcs in order, each once.
 fn each_once(arcs: &mut Vec<Drawn>)
-    ensures { map arc_drawn arcs.new.items ≡ in_order arc_cmp (map arc_drawn arcs.old.items) }
+    ensures { map arc_drawn arcs.new.items ≡ in_order arc_texts_cmp (map arc_drawn arcs.old.items) }
 {
     arcs.sort_unstable();
     arcs.dedup();
@@ -79,7 +79,7 @@ fn copies_of(alloc: Global, drawn: &[Drawn]) -> Result<List<Arc>, NoMemory>
 
 /// The arcs of some fans in order, each once.
 pub(crate) fn arcs_of(alloc: Global, fans: &[Fan<'_>]) -> Result<List<Arc>, NoMemory>
-    ensures { IfOk result (λ l. l ≡ in_order arc_cmp (map (λ x. x.arc) (arcs_along fans.now))) }
+    ensures { IfOk result (λ l. l ≡ in_order arc_texts_cmp (map (λ x. x.arc) (arcs_along fans.now))) }
 {
     let mut arcs = drawn_of(alloc, fans)?;
     each_once(&mut arcs);

@@ -12,10 +12,7 @@ use ix_base::{Kind, Spot, kind_of, token_at};
 pub(crate) fn is_fact(spot: &Spot<'_>) -> bool
     ensures { result ≡ kinds.is_fact (located spot.now) }
 {
-    matches!(
-        kind_of(spot),
-        Kind::NonFraction | Kind::NonNumeric | Kind::Fraction | Kind::Tuple
-    )
+    ix_base::is_fact(kind_of(spot))
 }
 
 pub(crate) fn is_footnote(spot: &Spot<'_>) -> bool

@@ -25,6 +25,3 @@ mod words;
 
 pub use linking::relate;
 pub use relations::Relations;
-
-#[cfg(test)]
-mod tests;

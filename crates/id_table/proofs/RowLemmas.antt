@@ -4,7 +4,7 @@ use Rattle.std.proofs.Math.Seq.{drop-cons}
 use Rattle.std.specs.List.{flat_map}
 
 -- what is left of a list that is gone through
-front : {X : Type 0} (xs : List X) (i : ℕ) (d : X) → i < length xs → d ≡ get_or xs i d → drop i xs ≡ d ∷ drop (i + 1) xs
+pub front : {X : Type 0} (xs : List X) (i : ℕ) (d : X) → i < length xs → d ≡ get_or xs i d → drop i xs ≡ d ∷ drop (i + 1) xs
 front xs i d l e = drop-cons xs i d l ∙ ap (λ x. x ∷ drop (suc i) xs) (sym e) ∙ ap (λ k. d ∷ drop k xs) (sym (add-one i))
 
 -- what an element gives, and those after it

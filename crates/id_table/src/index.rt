@@ -9,9 +9,10 @@ ghost use Rattle.ix_base.specs.Ids as ids;
 ghost use Rattle.ix_base.specs.Kinds as kinds;
 ghost use Rattle.ix_base.specs.LinkRules.{repeats_id, are_many, broken_at, breaking};
 ghost use Rattle.ix_base.specs.Located.{located, is_marked as spec_is_marked, page_marked};
+ghost use Rattle.ix_base.specs.Spots.{IsOnOnePage};
 ghost use Rattle.ix_base.specs.Trees.{tree_of};
 ghost use Rattle.id_table.specs.Held.{asked};
-ghost use Rattle.id_table.specs.Tables.{spots_at, Entered, AreWhole, all_located};
+ghost use Rattle.id_table.specs.Tables.{spots_at, Entered, SameSpots, AreOnOwnPages, AreWhole, all_located};
 
 use crate::walk::walk;
 use bumpalo::Bump;
@@ -55,14 +56,15 @@ fn tuple_id_at<'a>(spot: &Spot<'a>) -> Option<&'a str>
     token_at(spot.element, "tupleID")
 }
 
-/// Enters an element at an id, where it has one.
+/// Enters an element at an id, where it has one. A refusal leaves the elements at each id as they were.
 pub fn enter<'a>(
     alloc: Global,
     holders: &mut Holders<'a>,
     id: Option<&'a str>,
     spot: &'a Spot<'a>,
 ) -> Result<(), NoMemory>
-    ensures { OnOk result (Entered holders.old holders.new (option_map (λ s. s.now) id.entry) spot.entry) }
+    ensures ok { OnOk result (Entered holders.old holders.new (option_map (λ s. s.now) id.entry) spot.entry) }
+    ensures err { OnErr result (SameSpots holders.old holders.new) }
 {
     if let Some(id) = id {
         enter_at(alloc, holders, id, spot)?;
@@ -77,8 +79,9 @@ fn enter_at<'a>(
     id: &'a str,
     spot: &'a Spot<'a>,
 ) -> Result<(), NoMemory>
-    ensures { OnOk result ((q : List ℕ) → spots_at holders.new q
+    ensures ok { OnOk result ((q : List ℕ) → spots_at holders.new q
         ≡ (if bytes_eq q id.entry.now then spots_at holders.old q ++ spot.entry ∷ [] else spots_at holders.old q)) }
+    ensures err { OnErr result (SameSpots holders.old holders.new) }
 {
     holders.entry(id)?.or_insert(Vec::new(alloc)).push(spot)?;
     Ok(())
@@ -118,7 +121,8 @@ impl<'a> Tables<'a> {
 
     /// Adds an element at the end.
     fn add(&mut self, alloc: Global, spot: &'a Spot<'a>) -> Result<(), NoMemory>
-        requires { AreWhole self.old.ids self.old.tuples self.old.spots.items }
+        requires whole { AreWhole self.old.ids self.old.tuples self.old.spots.items }
+        requires page { IsOnOnePage spot.now }
         ensures spots { OnOk result (self.new.spots.items ≡ self.old.spots.items ++ spot.entry ∷ []) }
         ensures whole { OnOk result (AreWhole self.new.ids self.new.tuples self.new.spots.items) }
     {
@@ -130,7 +134,8 @@ impl<'a> Tables<'a> {
 
     /// Adds an element where it is a marked one.
     fn add_marked(&mut self, alloc: Global, spot: &'a Spot<'a>) -> Result<(), NoMemory>
-        requires { AreWhole self.old.ids self.old.tuples self.old.spots.items }
+        requires whole { AreWhole self.old.ids self.old.tuples self.old.spots.items }
+        requires page { IsOnOnePage spot.now }
         ensures spots { OnOk result (all_located self.new.spots.items
             ≡ all_located self.old.spots.items ++ filter spec_is_marked (located spot.entry.now ∷ [])) }
         ensures whole { OnOk result (AreWhole self.new.ids self.new.tuples self.new.spots.items) }
@@ -143,7 +148,8 @@ impl<'a> Tables<'a> {
 
     /// Adds the marked elements among the spots of a page.
     fn add_all(&mut self, alloc: Global, spots: &[&'a Spot<'a>]) -> Result<(), NoMemory>
-        requires { AreWhole self.old.ids self.old.tuples self.old.spots.items }
+        requires whole { AreWhole self.old.ids self.old.tuples self.old.spots.items }
+        requires pages { AreOnOwnPages spots.now }
         ensures spots { OnOk result (all_located self.new.spots.items
             ≡ all_located self.old.spots.items ++ filter spec_is_marked (all_located spots.now)) }
         ensures whole { OnOk result (AreWhole self.new.ids self.new.tuples self.new.spots.items) }
@@ -257,7 +263,8 @@ impl<'a> Index<'a> {
 
     /// The elements in order. It takes no memory.
     pub fn spots(&self) -> &[&'a Spot<'a>]
-        ensures { all_located result.now ≡ self.now.spots }
+        ensures elements { all_located result.now ≡ self.now.spots }
+        ensures pages { AreOnOwnPages result.now }
     {
         self.tables.spots.as_slice()
     }
@@ -266,6 +273,7 @@ impl<'a> Index<'a> {
     pub fn one(&self, id: &str) -> Option<Entry<'a>>
         ensures element { option_map (λ e. located e.spot.now) result ≡ ids.one (asked self.now) id.now }
         ensures kind { IfSome result (λ e. e.kind ≡ kinds.kind_of (placed e.spot.now)) }
+        ensures page { IfSome result (λ e. IsOnOnePage e.spot.now) }
     {
         entry_of(one_in(&self.tables.ids, id))
     }
@@ -274,6 +282,7 @@ impl<'a> Index<'a> {
     pub fn one_tuple(&self, id: &str) -> Option<Entry<'a>>
         ensures element { option_map (λ e. located e.spot.now) result ≡ ids.one_tuple (asked self.now) id.now }
         ensures kind { IfSome result (λ e. e.kind ≡ kinds.kind_of (placed e.spot.now)) }
+        ensures page { IfSome result (λ e. IsOnOnePage e.spot.now) }
     {
         entry_of(one_in(&self.tables.tuples, id))
     }
@@ -327,10 +336,15 @@ impl<'a> Index<'a> {
     }
 
     /// Adds exactly the elements whose id, or tuple id, another has. After a refusal a front of them may have been added.
+    /// An index for which memory was wanting refuses, and adds none.
     pub fn doubled(&self, breaches: &mut Breaches) -> Result<(), NoMemory>
         ensures ok { OnOk result (breaches.new ≡ breaches.old ++ breaking L1 self.now.spots) }
         ensures err { OnErr result (AppendsFront (breaking L1 self.now.spots) breaches.old breaches.new) }
+        ensures spent { self.now.is_spent ≡ true → IsErr result × (breaches.new ≡ breaches.old) }
     {
+        if self.is_spent {
+            return Err(NoMemory);
+        }
         for spot in self.spots() {
             self.add_if_doubled(spot, breaches)?;
         }

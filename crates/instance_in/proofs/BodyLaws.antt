@@ -11,7 +11,7 @@ use Rattle.ix_base.specs.Attributes.{value_of}
 use Rattle.ix_base.specs.ContextForm.{context}
 use Rattle.ix_base.specs.Facts.{Facts}
 use Rattle.ix_base.specs.Elements.{tree_at}
-use Rattle.ix_base.specs.Holding.{holds_only, is_of, named_in}
+use Rattle.ix_base.specs.Holding.{is_of, named_in}
 use Rattle.ix_base.specs.Markup.{markup}
 use Rattle.ix_base.specs.Namespaces.{link_namespace, xbrli_namespace, xml_namespace}
 use Rattle.ix_base.specs.Said.{Said}
@@ -112,7 +112,7 @@ link-bodies t l s e =
     footnotes-by (is_typed (codes "extended") t) (xlink_at (codes "role") t) (each locator_in (named_in link_namespace (codes "loc") t.children))
     (each footnote_in (named_in link_namespace (codes "footnote") t.children))
     (λ ls fs. each (arc_in (ends_of ls fs)) (named_in link_namespace (codes "footnoteArc") t.children))
-    (λ ls fs. are_apart (map (λ x. x.0) (ends_of ls fs)) && holds_only link_namespace (codes "loc" ∷ codes "footnote" ∷ codes "footnoteArc" ∷ []) t.children)
+    (λ ls fs. are_apart (map (λ x. x.0) (ends_of ls fs)))
     l e in
     each-read (λ x. AreSound 255 x.children) (λ (f : Footnote). IsBody f.body) footnote_in (λ x f q h. footnote-body x f q h)
     (named_in link_namespace (codes "footnote") t.children) l.footnotes (named-sound link_namespace (codes "footnote") 255 t.children s) read

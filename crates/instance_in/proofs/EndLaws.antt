@@ -1,20 +1,22 @@
 -- Labels, from the last end to the first.
-use Rattle.std.proofs.Common.{◌≡◌, ◌≢◌, ◌∙◌, refl, ap, sym, ℕ, zero, suc, ◌-◌, ◌<◌, ◌≤◌, ◌==◌, Bool, true, false, not, ◌||◌, if◌then◌else◌, List, [], ◌∷◌, map, length, drop, drop-cons, get_or, codes, Option, Some, None, option_map, is_some, bytes_eq, arith, MatchOption}
+use Rattle.std.proofs.Common.{◌≡◌, ◌≢◌, ◌∙◌, refl, ap, sym, subst, ℕ, zero, suc, ◌-◌, ◌<◌, ◌≤◌, ◌==◌, Bool, true, false, not, ◌||◌, if◌then◌else◌, List, [], ◌∷◌, map, length, drop, drop-cons, get_or, codes, Option, Some, None, option_map, is_some, bytes_eq, arith, MatchOption}
 use Rattle.std.proofs.lemmas.Bool.{and_parts, and_from}
 use Rattle.std.proofs.lemmas.Bool.Decides.{Decides-eqb}
 use Rattle.std.specs.Borrow.{Bor}
 use Rattle.std.specs.List.{list_any}
 use Rattle.indexmap.specs.IndexMap.{IndexMap}
+use Rattle.ix_base.specs.declared.content.Arc.{Arc}
+use Rattle.ix_base.specs.declared.content.Footnote.{Footnote}
 use Rattle.ix_base.specs.Attributes.{value_of}
 use Rattle.ix_base.specs.Holding.{named_in}
 use Rattle.ix_base.specs.Namespaces.{link_namespace}
 use Rattle.ix_base.specs.Steps.{◌>>=◌, each}
 use Rattle.ix_base.specs.Trees.{Nodes, Tree}
 use Rattle.instance_out.proofs.PrefixLaws.{bytes_eq-sym}
-use Rattle.instance_out.specs.Denotation.{Labelled, arc_in, id_behind, labelled, typed_as, xlink_at}
+use Rattle.instance_out.specs.Denotation.{Labelled, arc_in, ends_of, footnote_in, id_behind, labelled, locator_in, notes_in, typed_as, xlink_at}
 use Rattle.instance_out.specs.Lists.{are_apart}
 use Rattle.instance_in.specs.declared.denoted.ends.End.{End}
-use Rattle.instance_in.specs.Reading.{HasEnds, arc_by, arc_with, arcs_in, end_of, id_at, labels_of}
+use Rattle.instance_in.specs.Reading.{HasEnds, arc_by, arc_with, arcs_in, end_of, id_at, is_typed, labels_of, link_by, link_with}
 
 -- a label has an id where it is one of the labels
 has-id : (ls : List Labelled) (q : List ℕ) → is_some (labelled ls q) ≡ list_any (bytes_eq q) (labels_of ls)
@@ -100,6 +102,33 @@ arcs-are table ends nodes h a =
     let arcs : arc_by (labelled ends) ≡ arc_in ends = λ i t. arc-same ends t i in
     let all : (if are_apart (labels_of ends) then each (arc_in ends) xs else None) ≡ each (arc_in ends) xs = rw (← a) refl in
     ap (λ f. each (arc_by f) xs) ids ∙ ap (λ f. each f xs) arcs ∙ sym all
+
+-- a link has arcs where its labels are apart
+pub link_apart : (role : List ℕ) (locs : List Labelled) (footnotes : List Footnote) (nodes : Nodes)
+    → link_by role locs footnotes nodes
+    ≡ (each (arc_in (ends_of locs footnotes)) (named_in link_namespace (codes "footnoteArc") nodes) >>= λ arcs.
+    if are_apart (labels_of (ends_of locs footnotes)) then Some (link_with role locs footnotes arcs) else None)
+link_apart role locs footnotes nodes =
+    by (are_apart (labels_of (ends_of locs footnotes))) (each (arc_in (ends_of locs footnotes)) (named_in link_namespace (codes "footnoteArc") nodes))
+  where
+    by : (b : Bool) (o : Option (List Arc)) → ((if b then o else None) >>= λ arcs. Some (link_with role locs footnotes arcs))
+        ≡ (o >>= λ arcs. if b then Some (link_with role locs footnotes arcs) else None)
+    by true None = refl
+    by true (Some arcs) = refl
+    by false None = refl
+    by false (Some arcs) = refl
+
+-- a footnote link, from its parts as they were read
+pub link-read : (t : Tree) (nodes : Nodes) (role : List ℕ) (locs : List Labelled) (footnotes : List Footnote) → nodes ≡ t.children
+    → is_typed (codes "extended") t ≡ true → xlink_at (codes "role") t ≡ Some role
+    → each locator_in (named_in link_namespace (codes "loc") nodes) ≡ Some locs
+    → each footnote_in (named_in link_namespace (codes "footnote") nodes) ≡ Some footnotes
+    → link_by role locs footnotes nodes ≡ notes_in t
+unfolding notes_in
+link-read t nodes role locs footnotes n typed r l f =
+    let ls : each locator_in (named_in link_namespace (codes "loc") t.children) ≡ Some locs = subst (λ (ns : Nodes). each locator_in (named_in link_namespace (codes "loc") ns) ≡ Some locs) n l in
+    let fs : each footnote_in (named_in link_namespace (codes "footnote") t.children) ≡ Some footnotes = subst (λ (ns : Nodes). each footnote_in (named_in link_namespace (codes "footnote") ns) ≡ Some footnotes) n f in
+    subst (λ (ns : Nodes). link_by role locs footnotes ns ≡ notes_in t) (sym n) (rw (typed, r, ls, fs) (link_apart role locs footnotes t.children))
 
 -- an id behind a number sign
 pub id-behind : (href : List ℕ) (r : Option (Bor (List ℕ))) → MatchOption r ((rest : List ℕ) → href ≢ 35 ∷ rest) (λ x. href ≡ 35 ∷ x.now)

@@ -13,7 +13,7 @@ use Rattle.ix_base.proofs.FactLaws.{before-Tuple}
 use Rattle.instance_out.specs.Denotation.{facts_among, facts_in, is_nil, is_part, members_by}
 use Rattle.instance_in.specs.Reading.{fact_at, in_front, tuple_at}
 
-pub tuple-is : (t : Tuple) (e : Tree) (more : Facts) → members_by (is_nil e.head.attrs) e.children (facts_in e.children) ≡ Some (facts_of t.members)
+pub tuple-is : (t : Tuple) (e : Tree) (more : Facts) → members_by (is_nil e.head.attrs) (facts_in e.children) ≡ Some (facts_of t.members)
     → t.name ≡ own e.head.name → t.id ≡ value_of e.head.attrs [] (codes "id") → t.nil ≡ is_nil e.head.attrs
     → Some (before (fact.Tuple t) more) ≡ tuple_at e more
 tuple-is t e more h n i l = rw (before-Tuple t more, h, n, i, l) refl

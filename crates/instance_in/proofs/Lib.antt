@@ -1,5 +1,4 @@
 mod BodyLaws
-mod EachLaws
 mod EndLaws
 mod FactSteps
 mod ItemLaws

@@ -8,19 +8,7 @@ use Rattle.ix_base.specs.declared.tree.Node.{Node, the_lemmas}
 use Rattle.ix_base.specs.declared.tree.Node.TheOpen.{Node-F}
 use Rattle.ix_base.specs.declared.tree.Node.TheFolds.{fold_out-Element, fold_out-Node}
 use Rattle.ix_base.specs.declared.tree.Node.TheVariants.{Elem, Chars}
-use Rattle.ix_base.specs.Holding.{is_end}
 use Rattle.ix_base.specs.Trees.{Nodes, chars, elem, Tree, before, named, none, nodes_of, node_step, tree_of}
-
-end-step : (o : Node-F (Nodes → Nodes) Tree) (rest : Nodes) → is_end (node_step o rest) ≡ false
-end-step (Node-F.Elem e) rest = refl
-end-step (Node-F.Chars s) rest = refl
-
-end-before : (n : Node) (rest : Nodes) → is_end (before n rest) ≡ false
-end-before n rest = rw (fold_out-Node) (end-step _ rest)
-
-pub end-nodes : (ns : List Node) → (length ns == 0) ≡ is_end (nodes_of ns)
-end-nodes [] = refl
-end-nodes (n ∷ ns) = rw (end-before n (nodes_of ns)) (grind (arith, nat_tests))
 
 -- what an element is called and what it holds
 pub name-is : (e : Element) → named e.name ≡ (tree_of e).head.name

@@ -10,7 +10,7 @@ use Rattle.ix_base.specs.Said.{Said}
 use Rattle.ix_base.specs.Sorted.{text_cmp}
 use Rattle.instance_in.specs.InOrder.{notes_in_order, parts_in_order, references_in_order}
 use Rattle.instance_in.proofs.ProperLists.{map_same, rises_map, strictly_map}
-use Rattle.instance_out.specs.Canonical.{arc_cmp, arcrole_markup, fact_markups, line_cmp, linkbase_markup, role_markup, schema_markup}
+use Rattle.instance_out.specs.Canonical.{arc_line_cmp, arcrole_markup, fact_markups, line_cmp, linkbase_markup, role_markup, schema_markup}
 use Rattle.instance_out.specs.Holds.{said_spaces}
 use Rattle.instance_out.specs.Lists.{rises, strictly}
 use Rattle.instance_out.specs.Proper.{link_in_order, lists_fit}
@@ -46,7 +46,7 @@ and-assoc true b c = refl
 and-assoc false b c = refl
 
 pub link_told : (l : NoteLink) → link_in_order l
-    ≡ (strictly text_cmp (map (λ t. t) l.locs) && (strictly text_cmp (map (λ f. f.id) l.footnotes) && strictly arc_cmp l.arcs))
+    ≡ (strictly text_cmp (map (λ t. t) l.locs) && (strictly text_cmp (map (λ f. f.id) l.footnotes) && strictly arc_line_cmp l.arcs))
 link_told l =
-    and-assoc (strictly text_cmp l.locs) (strictly (on (λ (f : Footnote). f.id) text_cmp) l.footnotes) (strictly arc_cmp l.arcs)
-    ∙ sym (λ i. strictly text_cmp (map_same l.locs i) && (strictly_map (λ (f : Footnote). f.id) text_cmp l.footnotes i && strictly arc_cmp l.arcs))
+    and-assoc (strictly text_cmp l.locs) (strictly (on (λ (f : Footnote). f.id) text_cmp) l.footnotes) (strictly arc_line_cmp l.arcs)
+    ∙ sym (λ i. strictly text_cmp (map_same l.locs i) && (strictly_map (λ (f : Footnote). f.id) text_cmp l.footnotes i && strictly arc_line_cmp l.arcs))

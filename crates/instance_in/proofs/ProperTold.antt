@@ -34,7 +34,7 @@ roles_told c =
 -- footnote links, by facts in order
 whole_sorted : (facts : List (List ℕ)) (l : NoteLink) → is_whole_link (sorted text_cmp facts) l ≡ is_whole_link facts l
 whole_sorted facts l =
-    ap (λ b. not (is_empty l.arcs) && is_within (map (λ a. a.from_id) l.arcs) l.locs && is_within (arc_ends l) (l.locs ++ note_ids l)
+    ap (λ b. not (is_empty l.arcs) && is_within (arc_ends l) (l.locs ++ note_ids l)
     && is_within (l.locs ++ note_ids l) (arc_ends l) && b) (within_sorted l.locs facts)
 
 wholes_sorted : (facts : List (List ℕ)) (ls : List NoteLink) → list_all (is_whole_link (sorted text_cmp facts)) ls ≡ list_all (is_whole_link facts) ls

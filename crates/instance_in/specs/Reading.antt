@@ -11,7 +11,7 @@ use Rattle.ix_base.specs.declared.content.Value.{Value}
 use Rattle.ix_base.specs.declared.content.Value.TheVariants as value
 use Rattle.ix_base.specs.Attributes.{value_of}
 use Rattle.ix_base.specs.Facts.{Facts, before, tuple}
-use Rattle.ix_base.specs.Holding.{holds_only, is_blank_beside, is_of, named_in, text_alone}
+use Rattle.ix_base.specs.Holding.{is_blank_beside, is_of, named_in, text_alone}
 use Rattle.ix_base.specs.Namespaces.{link_namespace, xbrli_namespace}
 use Rattle.ix_base.specs.OwnNames.{own}
 use Rattle.ix_base.specs.Steps.{◌>>=◌, each}
@@ -47,7 +47,7 @@ plain_in nodes = text_alone nodes >>= λ text. Some (value.Plain text)
 -- the tuple that an element denotes, before the facts after it
 abbrev pub tuple_at : Tree → Facts → Option Facts
 tuple_at t more =
-    members_by (is_nil t.head.attrs) t.children (facts_in t.children)
+    members_by (is_nil t.head.attrs) (facts_in t.children)
     >>= λ ms. Some (tuple (own t.head.name) (value_of t.head.attrs [] (codes "id")) (is_nil t.head.attrs) ms more)
 
 -- the fact that an element denotes, before those after it
@@ -94,9 +94,10 @@ arc_by ids t = typed_as (codes "arc") t (
 abbrev pub arcs_in : List Labelled → Nodes → Option (List Arc)
 arcs_in ends nodes = if are_apart (labels_of ends) then each (arc_in ends) (named_in link_namespace (codes "footnoteArc") nodes) else None
 
--- a footnote link whose locators, footnotes and arcs were read
+-- a footnote link, from what was read
+abbrev pub link_with : List ℕ → List Labelled → List Footnote → List Arc → NoteLink
+link_with role locs footnotes arcs = record { role = role; locs = map (λ l. l.1) locs; footnotes = footnotes; arcs = arcs }
+
+-- a footnote link whose locators and footnotes were read
 abbrev pub link_by : List ℕ → List Labelled → List Footnote → Nodes → Option NoteLink
-link_by role locs footnotes nodes = arcs_in (ends_of locs footnotes) nodes >>= λ arcs.
-    (if holds_only link_namespace (codes "loc" ∷ codes "footnote" ∷ codes "footnoteArc" ∷ []) nodes
-    then Some (record { role = role; locs = map (λ l. l.1) locs; footnotes = footnotes; arcs = arcs })
-    else None)
+link_by role locs footnotes nodes = arcs_in (ends_of locs footnotes) nodes >>= λ arcs. Some (link_with role locs footnotes arcs)

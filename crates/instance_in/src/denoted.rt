@@ -7,7 +7,7 @@ ghost use Rattle.ix_base.specs.Said.{said_of};
 ghost use Rattle.ix_base.specs.Trees.{named, nodes_of, tree_of};
 ghost use Rattle.instance_out.specs.Denotation as spec;
 
-use children::read_named;
+use children::{read_links, read_parts};
 use facts::facts_among;
 use holding::is_of;
 use ix_base::namespaces::{LINK, XBRLI};
@@ -58,34 +58,34 @@ fn are_parts(nodes: &[Node<'_>]) -> bool
 }
 
 /// What the children of a root denote, each kind in document order.
-#[tactic(auto, unfolding(instance_out::specs::Denotation::parts_in, ix_base::specs::Namespaces::xbrli_namespace, ix_base::specs::Namespaces::link_namespace))]
+#[tactic(auto, unfolding(instance_out::specs::Denotation::parts_in))]
 fn parts_in(alloc: Global, nodes: &[Node<'_>]) -> Result<Option<Content>, NoMemory>
     ensures { IfOk result (λ o. option_map said_of o ≡ spec.parts_in (nodes_of nodes.now)) }
 {
-    let Some(schemas) = read_named(alloc, &SchemaReader, nodes, LINK, "schemaRef")? else {
+    let Some(schemas) = read_links(alloc, &SchemaReader, nodes, "schemaRef")? else {
         return Ok(None);
     };
-    let Some(linkbases) = read_named(alloc, &LinkbaseReader, nodes, LINK, "linkbaseRef")? else {
+    let Some(linkbases) = read_links(alloc, &LinkbaseReader, nodes, "linkbaseRef")? else {
         return Ok(None);
     };
     let role = RoleReader { name: "roleURI" };
-    let Some(roles) = read_named(alloc, &role, nodes, LINK, "roleRef")? else {
+    let Some(roles) = read_links(alloc, &role, nodes, "roleRef")? else {
         return Ok(None);
     };
     let arcrole = RoleReader { name: "arcroleURI" };
-    let Some(arcroles) = read_named(alloc, &arcrole, nodes, LINK, "arcroleRef")? else {
+    let Some(arcroles) = read_links(alloc, &arcrole, nodes, "arcroleRef")? else {
         return Ok(None);
     };
-    let Some(contexts) = read_named(alloc, &ContextReader, nodes, XBRLI, "context")? else {
+    let Some(contexts) = read_parts(alloc, &ContextReader, nodes, "context")? else {
         return Ok(None);
     };
-    let Some(units) = read_named(alloc, &UnitReader, nodes, XBRLI, "unit")? else {
+    let Some(units) = read_parts(alloc, &UnitReader, nodes, "unit")? else {
         return Ok(None);
     };
     let Some(facts) = facts_among(alloc, nodes)? else {
         return Ok(None);
     };
-    let Some(notes) = read_named(alloc, &LinkReader, nodes, LINK, "footnoteLink")? else {
+    let Some(notes) = read_links(alloc, &LinkReader, nodes, "footnoteLink")? else {
         return Ok(None);
     };
     if !are_parts(nodes) {

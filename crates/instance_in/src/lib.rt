@@ -17,8 +17,6 @@ use thiserror::Error;
 mod denoted;
 mod page;
 mod proper;
-#[cfg(test)]
-mod tests;
 
 /// Why bytes aren't read back.
 #[derive(Clone, Copy, Debug, PartialEq, Eq, Error)]

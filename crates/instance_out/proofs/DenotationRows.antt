@@ -90,63 +90,44 @@ one_tuple = tree_at (h 39 xbrli_namespace (codes "xbrl") ([]))
     (chars (codes "\n")
     none)))
 
--- a fact with a footnote whose body is markup
-abbrev one_note : Tree
-one_note = tree_at (h 39 xbrli_namespace (codes "xbrl") ([]))
+-- a locator of a fact, a footnote with this label, whose body is markup, and an arc from the one to this label
+abbrev noted : List ℕ → List ℕ → Tree
+noted label end = tree_at (h 39 xbrli_namespace (codes "xbrl") ([]))
     (chars (codes "\n")
     (elem (h 368 link_namespace (codes "footnoteLink") (a xlink_namespace (codes "type") (codes "extended") ∷ a xlink_namespace (codes "role") (codes "http://www.xbrl.org/2003/role/link") ∷ []))
     (elem (h 457 link_namespace (codes "loc") (a xlink_namespace (codes "type") (codes "locator") ∷ a xlink_namespace (codes "href") (codes "#f1") ∷ a xlink_namespace (codes "label") (codes "f1") ∷ []))
     none
-    (elem (h 523 link_namespace (codes "footnote") (a xlink_namespace (codes "type") (codes "resource") ∷ a xlink_namespace (codes "label") (codes "n1") ∷ a xlink_namespace (codes "role") (codes "http://www.xbrl.org/2003/role/footnote") ∷ a xml_namespace (codes "lang") (codes "en") ∷ []))
+    (elem (h 523 link_namespace (codes "footnote") (a xlink_namespace (codes "type") (codes "resource") ∷ a xlink_namespace (codes "label") label ∷ a xlink_namespace (codes "role") (codes "http://www.xbrl.org/2003/role/footnote") ∷ a xml_namespace (codes "lang") (codes "en") ∷ []))
     (chars (codes "See ")
     (elem (h 647 (codes "http://www.w3.org/1999/xhtml") (codes "b") ([]))
     (chars (codes "here")
     none)
     (chars (codes ".")
     none)))
-    (elem (h 712 link_namespace (codes "footnoteArc") (a xlink_namespace (codes "type") (codes "arc") ∷ a xlink_namespace (codes "arcrole") (codes "http://www.xbrl.org/2003/arcrole/fact-footnote") ∷ a xlink_namespace (codes "from") (codes "f1") ∷ a xlink_namespace (codes "to") (codes "n1") ∷ a [] (codes "order") (codes "1") ∷ []))
+    (elem (h 712 link_namespace (codes "footnoteArc") (a xlink_namespace (codes "type") (codes "arc") ∷ a xlink_namespace (codes "arcrole") (codes "http://www.xbrl.org/2003/arcrole/fact-footnote") ∷ a xlink_namespace (codes "from") (codes "f1") ∷ a xlink_namespace (codes "to") end ∷ a [] (codes "order") (codes "1") ∷ []))
     none
     none)))
     (chars (codes "\n")
     none)))
+
+abbrev one_note : Tree
+one_note = noted (codes "n1") (codes "n1")
 
 -- an arc to no label
 abbrev lost_end : Tree
-lost_end = tree_at (h 39 xbrli_namespace (codes "xbrl") ([]))
-    (chars (codes "\n")
-    (elem (h 368 link_namespace (codes "footnoteLink") (a xlink_namespace (codes "type") (codes "extended") ∷ a xlink_namespace (codes "role") (codes "http://www.xbrl.org/2003/role/link") ∷ []))
-    (elem (h 457 link_namespace (codes "loc") (a xlink_namespace (codes "type") (codes "locator") ∷ a xlink_namespace (codes "href") (codes "#f1") ∷ a xlink_namespace (codes "label") (codes "f1") ∷ []))
-    none
-    (elem (h 523 link_namespace (codes "footnote") (a xlink_namespace (codes "type") (codes "resource") ∷ a xlink_namespace (codes "label") (codes "n1") ∷ a xlink_namespace (codes "role") (codes "http://www.xbrl.org/2003/role/footnote") ∷ a xml_namespace (codes "lang") (codes "en") ∷ []))
-    (chars (codes "See ")
-    (elem (h 647 (codes "http://www.w3.org/1999/xhtml") (codes "b") ([]))
-    (chars (codes "here")
-    none)
-    (chars (codes ".")
-    none)))
-    (elem (h 712 link_namespace (codes "footnoteArc") (a xlink_namespace (codes "type") (codes "arc") ∷ a xlink_namespace (codes "arcrole") (codes "http://www.xbrl.org/2003/arcrole/fact-footnote") ∷ a xlink_namespace (codes "from") (codes "f1") ∷ a xlink_namespace (codes "to") (codes "n2") ∷ a [] (codes "order") (codes "1") ∷ []))
-    none
-    none)))
-    (chars (codes "\n")
-    none)))
+lost_end = noted (codes "n1") (codes "n2")
 
 -- two ends with one label
 abbrev label_twice : Tree
-label_twice = tree_at (h 39 xbrli_namespace (codes "xbrl") ([]))
+label_twice = noted (codes "f1") (codes "n1")
+
+-- a nil item that holds a text
+abbrev nil_with_text : Tree
+nil_with_text = tree_at (h 39 xbrli_namespace (codes "xbrl") ([]))
     (chars (codes "\n")
-    (elem (h 368 link_namespace (codes "footnoteLink") (a xlink_namespace (codes "type") (codes "extended") ∷ a xlink_namespace (codes "role") (codes "http://www.xbrl.org/2003/role/link") ∷ []))
-    (elem (h 457 link_namespace (codes "loc") (a xlink_namespace (codes "type") (codes "locator") ∷ a xlink_namespace (codes "href") (codes "#f1") ∷ a xlink_namespace (codes "label") (codes "f1") ∷ []))
-    none
-    (elem (h 523 link_namespace (codes "footnote") (a xlink_namespace (codes "type") (codes "resource") ∷ a xlink_namespace (codes "label") (codes "f1") ∷ a xlink_namespace (codes "role") (codes "http://www.xbrl.org/2003/role/footnote") ∷ a xml_namespace (codes "lang") (codes "en") ∷ []))
-    (chars (codes "See ")
-    (elem (h 647 (codes "http://www.w3.org/1999/xhtml") (codes "b") ([]))
-    (chars (codes "here")
+    (elem (h 368 (codes "http://example.com/e") (codes "None") (a [] (codes "contextRef") (codes "c1") ∷ a xsi_namespace (codes "nil") (codes "true") ∷ []))
+    (chars (codes "5")
     none)
-    (chars (codes ".")
-    none)))
-    (elem (h 712 link_namespace (codes "footnoteArc") (a xlink_namespace (codes "type") (codes "arc") ∷ a xlink_namespace (codes "arcrole") (codes "http://www.xbrl.org/2003/arcrole/fact-footnote") ∷ a xlink_namespace (codes "from") (codes "f1") ∷ a xlink_namespace (codes "to") (codes "n1") ∷ a [] (codes "order") (codes "1") ∷ []))
-    none
-    none)))
     (chars (codes "\n")
     none)))
 
@@ -264,7 +245,7 @@ one_tuple-denotes : content_in one_tuple ≡ Some (record empty {
 unfolding content_in parts_in item_in link_namespace xlink_namespace xbrli_namespace xsi_namespace token_of
 one_tuple-denotes = refl
 
-abbrev note : NoteLink
+abbrev pub note : NoteLink
 note = record {
   role = codes "http://www.xbrl.org/2003/role/link";
   locs = codes "f1" ∷ [];
@@ -301,6 +282,12 @@ kinds_of_facts-denotes : content_in kinds_of_facts ≡ Some (record empty {
 })
 unfolding content_in parts_in item_in link_namespace xlink_namespace xbrli_namespace xsi_namespace token_of
 kinds_of_facts-denotes = refl
+
+nil_with_text-denotes : content_in nil_with_text ≡ Some (record empty {
+  facts = item (record { name = e (codes "None"); context = codes "c1"; unit = None; accuracy = None; id = None; value = value.Nil }) F.none;
+})
+unfolding content_in parts_in item_in link_namespace xlink_namespace xbrli_namespace xsi_namespace token_of
+nil_with_text-denotes = refl
 
 references-denotes : content_in references ≡ Some (record empty {
   schemas = codes "a" ∷ [];

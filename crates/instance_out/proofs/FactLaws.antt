@@ -103,7 +103,7 @@ unfolding item_in
 item-from h ns members more i nil scope s n p v = rw (p, s.context_is, s.exact_is, s.nil_is, v, s.unit_is, s.id_is, n) refl
 
 tuple-from : (h : Head) (ns : Nodes) (members : Option Facts) (more ms : Facts) (name : OwnName) (id : Option (List ℕ)) (nil : Bool) (scope : List Bound) → Says h None None None id nil scope → own h.name ≡ name → is_part h.name ≡ false
-    → members_by nil ns members ≡ Some ms → outside h.name (fact_by (value_of h.attrs [] (codes "contextRef")) h ns members more) ≡ Some (tuple name id nil ms more)
+    → members_by nil members ≡ Some ms → outside h.name (fact_by (value_of h.attrs [] (codes "contextRef")) h ns members more) ≡ Some (tuple name id nil ms more)
 tuple-from h ns members more ms name id nil scope s n p v = rw (p, s.context_is, s.nil_is, v, s.id_is, n) refl
 
 -- the name of a fact is read, and is none of a part of an instance

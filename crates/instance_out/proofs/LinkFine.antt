@@ -21,7 +21,7 @@ use Rattle.page_tree.proofs.AllowedText.{is_low, low-allowed, allowed-append}
 use Rattle.page_tree.proofs.FineLaws.{nothing-fine, node-fine, leaf-fine, no-values, more-values}
 use Rattle.page_tree.proofs.FineTags.{simple-tag}
 use Rattle.page_tree.proofs.SpanLaws.{and_both, bytes-one, clash}
-use Rattle.instance_out.specs.Canonical.{Spaces, attr_if, each_markup, locator_markup, footnote_markup, arc_markup, link_markup, arc_cmp}
+use Rattle.instance_out.specs.Canonical.{Spaces, attr_if, each_markup, locator_markup, footnote_markup, arc_markup, link_markup, arc_line_cmp}
 use Rattle.ix_base.specs.Filled.{then as joins, filled}
 use Rattle.instance_out.specs.Good.{allowed_if, is_spaced, good_footnote, good_arc, good_link, declared_scope, is_space, is_element}
 use Rattle.instance_out.specs.Instance.{lines_of}
@@ -160,7 +160,7 @@ module _ (f : List ℕ → Markup) where
         node-fine (tag refl refl (more-values (literal (codes "extended") refl refl) (more-values z.0 no-values)))
         (locs-fine (in_order text_cmp l.locs) _ below (all-once are_allowed text_cmp l.locs y.0)
         (footnotes-fine (sorted _ l.footnotes) _ below (all-sorted (good_footnote f below (declared_scope ss)) _ l.footnotes x.0)
-        (arcs-fine (sorted arc_cmp l.arcs) below (all-sorted good_arc arc_cmp l.arcs x.1))))
+        (arcs-fine (sorted arc_line_cmp l.arcs) below (all-sorted good_arc arc_line_cmp l.arcs x.1))))
         nothing-fine
 
 -- Namespaces.

@@ -7,7 +7,7 @@ use Rattle.ix_base.specs.Sorted.{sorted, text_cmp}
 use Rattle.ix_base.specs.Written.{Markup, nothing, start_text, close_text, written}
 use Rattle.ix_base.specs.declared.content.Footnote.{Footnote}
 use Rattle.ix_base.specs.declared.content.NoteLink.{NoteLink}
-use Rattle.instance_out.specs.Canonical.{arc_cmp, arc_markup, attr, attr_if, each_markup, footnote_markup, line, link_markup, locator_markup, type_attr}
+use Rattle.instance_out.specs.Canonical.{arc_line_cmp, arc_markup, attr, attr_if, each_markup, footnote_markup, line, link_markup, locator_markup, type_attr}
 use Rattle.instance_out.specs.Elements.{arc_text, footnote_text, locator_text}
 use Rattle.instance_out.proofs.Sorting.{sorted-map}
 
@@ -37,7 +37,7 @@ link-written l =
     let end = close_text (codes "link:footnoteLink") ++ 10 ∷ [] in
     let locs = in_order text_cmp l.locs in
     let notes = sorted (on (λ (f : Footnote). f.id) text_cmp) l.footnotes in
-    let arcs = sorted arc_cmp l.arcs in
+    let arcs = sorted arc_line_cmp l.arcs in
     sym (ap (λ x. start ++ x)
     (each-written locator_markup (λ x rest more. simp append_assoc) locs (each_markup footnote_markup notes (each_markup arc_markup arcs nothing)) end
     ∙ ap (λ x. concat (map locator_text locs) ++ x)

@@ -7,7 +7,7 @@ use Rattle.ix_base.specs.declared.content.Linkbase.{Linkbase}
 use Rattle.ix_base.specs.declared.content.NoteLink.{NoteLink}
 use Rattle.ix_base.specs.declared.content.RoleRef.{RoleRef}
 use Rattle.ix_base.specs.Elements.{tree_at}
-use Rattle.ix_base.specs.Holding.{named_in, holds_only}
+use Rattle.ix_base.specs.Holding.{named_in}
 use Rattle.ix_base.specs.Once.{in_order}
 use Rattle.ix_base.specs.Scope.{namespace_of}
 use Rattle.ix_base.specs.Namespaces.{xml_namespace, link_namespace, xlink_namespace}
@@ -15,7 +15,7 @@ use Rattle.ix_base.specs.Sorted.{sorted, text_cmp}
 use Rattle.ix_base.specs.Steps.{each}
 use Rattle.ix_base.specs.Trees.{Bound, Named, Nodes, none, Tree}
 use Rattle.ix_base.specs.Written.{Attribute as Given, Markup, nothing, node, start_text, leaf_text, close_text}
-use Rattle.instance_out.specs.Canonical.{Spaces, attr, attr_if, type_attr, href_attr, each_markup, arc_cmp, schema_markup, linkbase_markup, role_markup, arcrole_markup, locator_markup, footnote_markup, arc_markup, link_markup}
+use Rattle.instance_out.specs.Canonical.{Spaces, attr, attr_if, type_attr, href_attr, each_markup, arc_line_cmp, schema_markup, linkbase_markup, role_markup, arcrole_markup, locator_markup, footnote_markup, arc_markup, link_markup}
 use Rattle.ix_base.specs.Filled.{then as joins, filled}
 use Rattle.page_tree.proofs.SpanLaws.{bytes-one}
 use Rattle.ix_base.specs.Markup.{markup}
@@ -176,7 +176,7 @@ last-twice (x ∷ ids) = ap (λ y. x ∷ y) (last-twice ids)
 pub record IsNormalLink (bodies : List ℕ → Markup) (scope : List Bound) (l : NoteLink) : Type 0 where
   pub locs : in_order text_cmp l.locs ≡ l.locs
   pub footnotes : sorted (on (λ f. f.id) text_cmp) l.footnotes ≡ l.footnotes
-  pub arcs : sorted arc_cmp l.arcs ≡ l.arcs
+  pub arcs : sorted arc_line_cmp l.arcs ≡ l.arcs
   pub apart : are_apart (ids_of l.locs l.footnotes) ≡ true
   pub between : Each (IsBetween (ids_of l.locs l.footnotes)) l.arcs
   pub bodied : Each (IsBodyOf bodies scope) l.footnotes
@@ -222,7 +222,6 @@ record HasEnds (ns : Nodes) (l : NoteLink) : Type 0 where
   locs_read : each locator_in locs ≡ Some (map twice l.locs)
   notes_read : each footnote_in notes ≡ Some l.footnotes
   arcs_read : each (arc_in (map twice (ids_of l.locs l.footnotes))) arcs ≡ Some l.arcs
-  held : holds_only link_namespace (codes "loc" ∷ codes "footnote" ∷ codes "footnoteArc" ∷ []) ns ≡ true
 
 has-ends : (scope : List Bound) (spaces : Spaces) → Knows scope spaces → (bodies : List ℕ → Markup) (l : NoteLink) → IsNormalLink bodies scope l → (at : ℕ) → HasEnds (nodes_at (link_kids bodies l) at scope) l
 unfolding link_namespace
@@ -240,16 +239,13 @@ has-ends scope spaces k bodies l n at =
       locs_read = a.read;
       notes_read = b.read;
       arcs_read = c.read;
-      held = a.held link_namespace (codes "loc" ∷ codes "footnote" ∷ codes "footnoteArc" ∷ []) refl
-          ∙ b.held link_namespace (codes "loc" ∷ codes "footnote" ∷ codes "footnoteArc" ∷ []) refl
-          ∙ c.held link_namespace (codes "loc" ∷ codes "footnote" ∷ codes "footnoteArc" ∷ []) refl;
     }
 
 notes-from : (scope : List Bound) → namespace_of scope (codes "xlink") ≡ Some xlink_namespace → (l : NoteLink) (ns : Nodes) → HasEnds ns l → are_apart (ids_of l.locs l.footnotes) ≡ true → (at : ℕ)
     → notes_in (tree_at (head_at at scope (codes "link:footnoteLink") (link_attrs l.role)) ns) ≡ Some l
 unfolding notes_in xlink_namespace
 notes-from scope k l ns h apart at =
-    rw (k, h.locs_are, h.notes_are, h.arcs_are, h.locs_read, h.notes_read, ends-twice l.locs l.footnotes, h.arcs_read, first-twice (ids_of l.locs l.footnotes), apart, h.held, last-twice l.locs) refl
+    rw (k, h.locs_are, h.notes_are, h.arcs_are, h.locs_read, h.notes_read, ends-twice l.locs l.footnotes, h.arcs_read, first-twice (ids_of l.locs l.footnotes), apart, last-twice l.locs) refl
 
 pub link-read : (scope : List Bound) (spaces : Spaces) → Knows scope spaces → (bodies : List ℕ → Markup) (l : NoteLink) → IsNormalLink bodies scope l → (at : ℕ)
     → notes_in (tree_in (filled bodies (link_markup l)) at scope) ≡ Some l

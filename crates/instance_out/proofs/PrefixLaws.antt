@@ -1,16 +1,30 @@
 -- Prefixes of namespaces.
-use Rattle.std.proofs.Common.{◌≡◌, ◌∙◌, ap, sym, refl, ℕ, Bool, true, false, cond, List, [], ◌∷◌, ◌++◌, Option, Some, None, bytes_eq}
+use Rattle.std.proofs.Common.{◌≡◌, ◌∙◌, ap, sym, refl, ℕ, Bool, true, false, cond, List, [], ◌∷◌, ◌++◌, Option, Some, None, bytes_eq, codes}
 use Rattle.std.proofs.lemmas.Slice.Eq.{bytes_eq-Decides}
 use Rattle.std.specs.declared.cmp.Ordering.{Ordering}
 use Rattle.std.specs.declared.cmp.Ordering.TheVariants.{Less, Equal, Greater}
 use Rattle.std.specs.Ordering.{is_eq}
 use Rattle.std.proofs.lemmas.Map.Text.{is_eq-slice_cmp}
+use Rattle.ix_base.specs.Namespaces.{xml_namespace, iso4217_namespace, link_namespace, xbrldi_namespace, xbrli_namespace, xlink_namespace, xsi_namespace}
 use Rattle.ix_base.specs.Once.{put, in_order}
 use Rattle.ix_base.specs.Sorted.{text_cmp}
 use Rattle.ix_base.specs.declared.content.OwnName.{OwnName}
 use Rattle.ix_base.specs.Trees.{Bound}
-use Rattle.instance_out.specs.Prefixes.{prefix_in, is_known, with_space, spaces_of}
+use Rattle.instance_out.specs.Prefixes.{fixed, prefix_in, is_known, with_space, spaces_of, xml}
 use Rattle.instance_out.specs.Tables.{own_spaces}
+
+-- the prefixes that are always bound, and their namespaces
+pub bound_are : xml ∷ fixed
+    ≡ record { prefix = codes "xml"; ns = codes "http://www.w3.org/XML/1998/namespace" }
+    ∷ record { prefix = codes "iso4217"; ns = codes "http://www.xbrl.org/2003/iso4217" }
+    ∷ record { prefix = codes "link"; ns = codes "http://www.xbrl.org/2003/linkbase" }
+    ∷ record { prefix = codes "xbrldi"; ns = codes "http://xbrl.org/2006/xbrldi" }
+    ∷ record { prefix = codes "xbrli"; ns = codes "http://www.xbrl.org/2003/instance" }
+    ∷ record { prefix = codes "xlink"; ns = codes "http://www.w3.org/1999/xlink" }
+    ∷ record { prefix = codes "xsi"; ns = codes "http://www.w3.org/2001/XMLSchema-instance" }
+    ∷ []
+unfolding fixed xml iso4217_namespace link_namespace xbrldi_namespace xbrli_namespace xlink_namespace xml_namespace xsi_namespace
+bound_are = refl
 
 prefix_in-by : (t : Bool) (p : List ℕ) (o more : Option (List ℕ)) (r : Option (List ℕ)) → cond t (Some p) o ≡ r → (o ≡ r → more ≡ r) → cond t (Some p) more ≡ r
 prefix_in-by true p o more r e f = e

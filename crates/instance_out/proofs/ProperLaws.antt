@@ -29,7 +29,7 @@ use Rattle.ix_base.specs.Trees.{Bound, Head, Nodes}
 use Rattle.ix_base.specs.Written.{Markup}
 use Rattle.instance_out.specs.Prefixes.{declaration, declared_for}
 use Rattle.page_tree.proofs.SpanLaws.{and_both}
-use Rattle.instance_out.specs.Canonical.{Spaces, root, arc_cmp, context_names, dim_names, member_names, unit_names, fact_names}
+use Rattle.instance_out.specs.Canonical.{Spaces, root, arc_line_cmp, context_names, dim_names, member_names, unit_names, fact_names}
 use Rattle.ix_base.specs.Said.{Said}
 use Rattle.instance_out.specs.Denotation.{is_part, parts_in, content_in}
 use Rattle.instance_out.specs.Lists.{are_apart, of_option, rises, strictly, has, is_within}
@@ -258,21 +258,20 @@ link-normal : (bodies : List ℕ → Markup) (scope : List Bound) (facts all : L
     → link_in_order l ≡ true → is_whole_link facts l ≡ true → Within (note_ids l) all → are_apart (facts ++ all) ≡ true → Each (IsBodyOf bodies scope) l.footnotes
     → IsNormalLink bodies scope l
 link-normal bodies scope facts all l o w n a b =
-    let q = and_parts (strictly text_cmp l.locs && strictly (on (λ f. f.id) text_cmp) l.footnotes) (strictly arc_cmp l.arcs) o in
+    let q = and_parts (strictly text_cmp l.locs && strictly (on (λ f. f.id) text_cmp) l.footnotes) (strictly arc_line_cmp l.arcs) o in
     let p = and_parts (strictly text_cmp l.locs) (strictly (on (λ f. f.id) text_cmp) l.footnotes) q.0 in
     let some = not (is_empty l.arcs) in
-    let from = is_within (map (λ a. a.from_id) l.arcs) l.locs in
     let ends = is_within (arc_ends l) (l.locs ++ note_ids l) in
     let back = is_within (l.locs ++ note_ids l) (arc_ends l) in
     let known = is_within l.locs facts in
-    let r = and_parts (some && from && ends && back) known w in
-    let t = and_parts (some && from && ends) back r.0 in
+    let r = and_parts (some && ends && back) known w in
+    let t = and_parts (some && ends) back r.0 in
     record {
       locs = once-strictly text_cmp l.locs p.0;
       footnotes = sorted-rises (on (λ f. f.id) text_cmp) l.footnotes (strictly-rises (on (λ f. f.id) text_cmp) l.footnotes p.1);
-      arcs = sorted-rises arc_cmp l.arcs (strictly-rises arc_cmp l.arcs q.1);
+      arcs = sorted-rises arc_line_cmp l.arcs (strictly-rises arc_line_cmp l.arcs q.1);
       apart = link-apart l.locs facts all l.footnotes p.0 p.1 r.1 n a;
-      between = arc-between (ids_of l.locs l.footnotes) l.arcs (each-of (has (l.locs ++ note_ids l)) (arc_ends l) (and_parts (some && from) ends t.0).1);
+      between = arc-between (ids_of l.locs l.footnotes) l.arcs (each-of (has (l.locs ++ note_ids l)) (arc_ends l) (and_parts some ends t.0).1);
       bodied = b;
     }
 

@@ -180,6 +180,11 @@ row_locator : tests (record whole { notes = record l { locs = codes "f1" ∷ cod
 unfolding ids_fit names_fit texts_fit lists_fit parts_fit roles_fit forms_fit numbers_fit unitless_fit fractions_fit tuples_fit links_fit orders_fit tokens_fit is_ncname is_name_start is_name_char are_allowed is_allowed chars_of is_utf8 encode xmlns_namespace link_namespace xbrli_namespace xml_namespace iso4217_namespace xbrldi_namespace xlink_namespace xsi_namespace xml fixed token_of is_token
 row_locator = refl
 
+-- an arc may go from a footnote to a fact
+row_from_note : tests (record whole { notes = record l { arcs = arc ∷ record arc { from_id = codes "n1"; to_id = codes "f1" } ∷ [] } ∷ [] }) ≡ but 14
+unfolding ids_fit names_fit texts_fit lists_fit parts_fit roles_fit forms_fit numbers_fit unitless_fit fractions_fit tuples_fit links_fit orders_fit tokens_fit is_ncname is_name_start is_name_char are_allowed is_allowed chars_of is_utf8 encode xmlns_namespace link_namespace xbrli_namespace xml_namespace iso4217_namespace xbrldi_namespace xlink_namespace xsi_namespace xml fixed token_of is_token
+row_from_note = refl
+
 row_no_fact : tests (record whole { notes = record l { locs = codes "n1" ∷ []; footnotes = []; arcs = record arc { from_id = codes "n1" } ∷ [] } ∷ []; roles = record { uri = codes "r"; href = codes "h" } ∷ [] }) ≡ but 11
 unfolding ids_fit names_fit texts_fit lists_fit parts_fit roles_fit forms_fit numbers_fit unitless_fit fractions_fit tuples_fit links_fit orders_fit tokens_fit is_ncname is_name_start is_name_char are_allowed is_allowed chars_of is_utf8 encode xmlns_namespace link_namespace xbrli_namespace xml_namespace iso4217_namespace xbrldi_namespace xlink_namespace xsi_namespace xml fixed token_of is_token
 row_no_fact = refl

@@ -22,6 +22,7 @@ use Rattle.ix_base.specs.Sorted.{sorted}
 use Rattle.instance_out.specs.Prefixes.{fixed, xml}
 use Rattle.instance_out.proofs.Calendar.{day_at-days}
 use Rattle.instance_out.proofs.DayLaws.{is_civil}
+use Rattle.instance_out.proofs.DenotationRows.{note}
 use Rattle.instance_out.specs.Canonical.{Spaces, line, line_cmp, root_line, context_markup, unit_markup, fact_markups, link_markup, content_spaces, children, lines_with, canon_lines}
 
 abbrev e : List ℕ → OwnName
@@ -155,18 +156,7 @@ row_facts = refl
 -- Footnotes.
 
 abbrev one_note : NoteLink
-one_note = record {
-  role = codes "http://www.xbrl.org/2003/role/link";
-  locs = codes "f1" ∷ codes "f1" ∷ [];
-  footnotes = record {
-    id = codes "n1";
-    role = codes "http://www.xbrl.org/2003/role/footnote";
-    title = None;
-    lang = codes "en";
-    body = codes "See <b xmlns=\"http://www.w3.org/1999/xhtml\">here</b>.";
-  } ∷ [];
-  arcs = record { arcrole = codes "http://www.xbrl.org/2003/arcrole/fact-footnote"; from_id = codes "f1"; to_id = codes "n1"; order = codes "1" } ∷ [];
-}
+one_note = record note { locs = codes "f1" ∷ codes "f1" ∷ [] }
 
 row_footnote : line (link_markup one_note) ≡ codes "<link:footnoteLink xlink:type=\"extended\" xlink:role=\"http://www.xbrl.org/2003/role/link\"><link:loc xlink:type=\"locator\" xlink:href=\"#f1\" xlink:label=\"f1\"/><link:footnote xlink:type=\"resource\" xlink:label=\"n1\" xlink:role=\"http://www.xbrl.org/2003/role/footnote\" xml:lang=\"en\">See <b xmlns=\"http://www.w3.org/1999/xhtml\">here</b>.</link:footnote><link:footnoteArc xlink:type=\"arc\" xlink:arcrole=\"http://www.xbrl.org/2003/arcrole/fact-footnote\" xlink:from=\"f1\" xlink:to=\"n1\" order=\"1\"/></link:footnoteLink>\n"
 unfolding in_order sorted

@@ -10,7 +10,7 @@ use Rattle.ix_base.specs.declared.content.NoteLink.{NoteLink}
 use Rattle.ix_base.specs.Facts.{Facts, facts_of}
 use Rattle.ix_base.specs.Written.{Markup, nothing, words, written, start_text}
 use Rattle.instance_out.specs.Prefixes.{declaration, declared_for}
-use Rattle.instance_out.specs.Canonical.{Spaces, root, line, first_line, last_line, root_line, line_cmp, arc_cmp, each_markup, schema_markup, linkbase_markup, role_markup, arcrole_markup, context_markup, unit_markup, fact_markups, locator_markup, footnote_markup, arc_markup, link_markup, content_spaces, children, lines_with, canon}
+use Rattle.instance_out.specs.Canonical.{Spaces, root, line, first_line, last_line, root_line, line_cmp, arc_line_cmp, each_markup, schema_markup, linkbase_markup, role_markup, arcrole_markup, context_markup, unit_markup, fact_markups, locator_markup, footnote_markup, arc_markup, link_markup, content_spaces, children, lines_with, canon}
 use Rattle.ix_base.specs.Sorted.{text_cmp}
 use Rattle.ix_base.specs.Filled.{AreBodies}
 use Rattle.ix_base.proofs.FilledLemmas.{written-then, written-more, written-filled}
@@ -51,9 +51,9 @@ bodies-locs bodies (id ∷ ids) rest r = bodies-locs bodies ids rest r
 
 bodies-link : (bodies : List ℕ → Markup) (l : NoteLink) → link_in_order l ≡ true → Each (Writes bodies) l.footnotes → AreBodies bodies (link_markup l)
 bodies-link bodies l o h =
-    let q = and_parts (strictly text_cmp l.locs && strictly (on (λ f. f.id) text_cmp) l.footnotes) (strictly arc_cmp l.arcs) o in
+    let q = and_parts (strictly text_cmp l.locs && strictly (on (λ f. f.id) text_cmp) l.footnotes) (strictly arc_line_cmp l.arcs) o in
     let p = and_parts (strictly text_cmp l.locs) (strictly (on (λ f. f.id) text_cmp) l.footnotes) q.0 in
-    rw (once-strictly text_cmp l.locs p.0, sorted-rises (on (λ f. f.id) text_cmp) l.footnotes (strictly-rises (on (λ f. f.id) text_cmp) l.footnotes p.1), sorted-rises arc_cmp l.arcs (strictly-rises arc_cmp l.arcs q.1))
+    rw (once-strictly text_cmp l.locs p.0, sorted-rises (on (λ f. f.id) text_cmp) l.footnotes (strictly-rises (on (λ f. f.id) text_cmp) l.footnotes p.1), sorted-rises arc_line_cmp l.arcs (strictly-rises arc_line_cmp l.arcs q.1))
     (bodies-locs bodies l.locs (each_markup footnote_markup l.footnotes (each_markup arc_markup l.arcs nothing)) (bodies-notes bodies l.footnotes (each_markup arc_markup l.arcs nothing) h (bodies-arcs bodies l.arcs)), tt)
 
 lines-filled : (bodies : List ℕ → Markup) (ls : List NoteLink) (more : List ℕ) → list_all link_in_order ls ≡ true → Each (λ l. Each (Writes bodies) l.footnotes) ls

@@ -9,7 +9,7 @@ use Rattle.ix_base.specs.Facts.{facts_of}
 use Rattle.ix_base.specs.Once.{in_order}
 use Rattle.ix_base.specs.Sorted.{sorted, text_cmp}
 use Rattle.ix_base.specs.Written.{Markup}
-use Rattle.instance_out.specs.Canonical.{arc_cmp, arcrole_markup, content_spaces, line_cmp, linkbase_markup, role_markup, schema_markup}
+use Rattle.instance_out.specs.Canonical.{arc_line_cmp, arcrole_markup, content_spaces, line_cmp, linkbase_markup, role_markup, schema_markup}
 use Rattle.instance_out.specs.Elements.{fact_markup, footnote_text}
 
 -- by the bytes of the line
@@ -26,7 +26,7 @@ arranged_link l = record {
   role = l.role;
   locs = in_order text_cmp l.locs;
   footnotes = firsts footnote_text (sorted (on (λ f. f.id) text_cmp) l.footnotes);
-  arcs = in_order arc_cmp l.arcs;
+  arcs = in_order arc_line_cmp l.arcs;
 }
 
 unfoldable pub arranged : Content → Content

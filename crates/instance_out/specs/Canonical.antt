@@ -206,15 +206,15 @@ arc_markup a rest =
 abbrev pub by_text : {X : Type 0} → (X → Markup) → X → X → Ordering
 by_text f = on (λ x. written (f x) []) text_cmp
 
-abbrev pub arc_cmp : Arc → Arc → Ordering
-arc_cmp = by_text (λ a. arc_markup a nothing)
+abbrev pub arc_line_cmp : Arc → Arc → Ordering
+arc_line_cmp = by_text (λ a. arc_markup a nothing)
 
 abbrev pub link_markup : NoteLink → Markup
 link_markup l =
     node (codes "link:footnoteLink") (type_attr (codes "extended") ∷ attr (codes "xlink:role") l.role ∷ [])
     (each_markup locator_markup (in_order text_cmp l.locs)
     (each_markup footnote_markup (sorted (on (λ f. f.id) text_cmp) l.footnotes)
-    (each_markup arc_markup (sorted arc_cmp l.arcs)
+    (each_markup arc_markup (sorted arc_line_cmp l.arcs)
     nothing)))
     nothing
 

@@ -19,7 +19,7 @@ use Rattle.ix_base.specs.OwnNames.{own}
 use Rattle.ix_base.specs.Facts.{Facts, item, tuple, facts_of}
 use Rattle.ix_base.specs.Facts as F
 use Rattle.ix_base.specs.Forms.{is_true}
-use Rattle.ix_base.specs.Holding.{is_blank, is_of, elements_in, named_in, is_blank_beside, holds_only, is_end, text_alone}
+use Rattle.ix_base.specs.Holding.{is_blank, is_of, elements_in, named_in, is_blank_beside, text_alone}
 use Rattle.ix_base.specs.Namespaces.{link_namespace, xbrli_namespace, xlink_namespace, xml_namespace, xsi_namespace}
 use Rattle.ix_base.specs.Steps.{◌>>=◌, each}
 use Rattle.ix_base.specs.Trees.{Named, Valued, Head, Nodes, none, chars, elem, Tree}
@@ -77,9 +77,9 @@ value_from (t ∷ u ∷ []) nodes =
     else None
 value_from ts nodes = text_alone nodes >>= λ text. Some (value.Plain text)
 
--- what is nil holds nothing
+-- what is nil says nothing, whatever it holds
 abbrev pub value_by : Bool → Nodes → Option Value
-value_by true nodes = if is_end nodes then Some value.Nil else None
+value_by true nodes = Some value.Nil
 value_by false nodes = value_from (elements_in nodes) nodes
 
 unfoldable pub item_in : List ℕ → Head → Nodes → Option Item
@@ -95,15 +95,16 @@ item_in context head nodes = do
     value = value;
   })
 
-abbrev pub members_by : Bool → Nodes → Option Facts → Option Facts
-members_by true nodes members = if is_end nodes then Some F.none else None
-members_by false nodes members = members
+-- a nil tuple has no members
+abbrev pub members_by : Bool → Option Facts → Option Facts
+members_by true members = Some F.none
+members_by false members = members
 
 -- an element with a context is an item, and one without is a tuple, before the facts after it
 abbrev pub fact_by : Option (List ℕ) → Head → Nodes → Option Facts → Facts → Option Facts
 fact_by (Some context) head nodes members rest = item_in context head nodes >>= λ i. Some (item i rest)
 fact_by None head nodes members rest =
-    members_by (is_nil head.attrs) nodes members
+    members_by (is_nil head.attrs) members
     >>= λ ms. Some (tuple (own head.name) (value_of head.attrs [] (codes "id")) (is_nil head.attrs) ms rest)
 
 abbrev pub is_part : Named → Bool
@@ -175,7 +176,6 @@ notes_in t = typed_as (codes "extended") t (do
   footnotes ← each footnote_in (named_in link_namespace (codes "footnote") t.children)
   arcs ← each (arc_in (ends_of locs footnotes)) (named_in link_namespace (codes "footnoteArc") t.children)
   if are_apart (map (λ l. l.0) (ends_of locs footnotes))
-      && holds_only link_namespace (codes "loc" ∷ codes "footnote" ∷ codes "footnoteArc" ∷ []) t.children
       then Some (record { role = role; locs = map (λ l. l.1) locs; footnotes = footnotes; arcs = arcs })
       else None)
 

@@ -25,7 +25,7 @@ use Rattle.ix_base.specs.Sorted.{text_cmp}
 use Rattle.ix_base.specs.Sound.{AreSound}
 use Rattle.ix_base.specs.Token.{is_token}
 use Rattle.ix_base.specs.Trees.{Nodes}
-use Rattle.instance_out.specs.Canonical.{line_cmp, arc_cmp, fact_names, schema_markup, linkbase_markup, role_markup, arcrole_markup, fact_markups}
+use Rattle.instance_out.specs.Canonical.{line_cmp, arc_line_cmp, fact_names, schema_markup, linkbase_markup, role_markup, arcrole_markup, fact_markups}
 use Rattle.instance_out.specs.Holds.{items_in, fact_ids, all_names, all_notes, all_arcs, all_texts, token_texts, said_spaces}
 use Rattle.instance_out.specs.Lists.{are_apart, is_within, of_option, rises, strictly}
 use Rattle.ix_base.specs.Said.{Said}
@@ -71,7 +71,7 @@ texts_fit c = list_all are_allowed (all_texts c)
 -- 4. Lists are in order; references, locators, footnotes and arcs stand once.
 
 abbrev pub link_in_order : NoteLink → Bool
-link_in_order l = strictly text_cmp l.locs && strictly (on (λ f. f.id) text_cmp) l.footnotes && strictly arc_cmp l.arcs
+link_in_order l = strictly text_cmp l.locs && strictly (on (λ f. f.id) text_cmp) l.footnotes && strictly arc_line_cmp l.arcs
 
 unfoldable pub lists_fit : Said → Bool
 lists_fit c =
@@ -172,7 +172,7 @@ nil_is_empty (tuple name id nil members rest) = is_none_nil nil members && nil_i
 unfoldable pub tuples_fit : Said → Bool
 tuples_fit c = nil_is_empty c.facts && nat_le (depth c.facts) 100
 
--- 12. Footnote links: locators and footnotes are what its arcs name.
+-- 12. Footnote links: their locators and footnotes are those that their arcs name, and each locator is a fact.
 
 abbrev pub note_ids : NoteLink → List (List ℕ)
 note_ids l = map (λ f. f.id) l.footnotes
@@ -182,9 +182,8 @@ arc_ends l = flat_map (λ a. a.from_id ∷ a.to_id ∷ []) l.arcs
 
 abbrev pub is_whole_link : List (List ℕ) → NoteLink → Bool
 is_whole_link facts l =
-    not (is_empty l.arcs)
-    && is_within (map (λ a. a.from_id) l.arcs) l.locs && is_within (arc_ends l) (l.locs ++ note_ids l)
-    && is_within (l.locs ++ note_ids l) (arc_ends l) && is_within l.locs facts
+    not (is_empty l.arcs) && is_within (arc_ends l) (l.locs ++ note_ids l) && is_within (l.locs ++ note_ids l) (arc_ends l)
+    && is_within l.locs facts
 
 unfoldable pub links_fit : Said → Bool
 links_fit c = list_all (is_whole_link (fact_ids c.facts)) c.notes

@@ -5,7 +5,7 @@ ghost use Rattle.std.specs.Ordering.{on};
 ghost use Rattle.ix_base.specs.Once.{in_order};
 ghost use Rattle.ix_base.specs.Sorted.{sorted, text_cmp};
 ghost use Rattle.instance_out.specs.Arranged.{arranged_link, firsts};
-ghost use Rattle.instance_out.specs.Canonical.{arc_cmp};
+ghost use Rattle.instance_out.specs.Canonical.{arc_line_cmp};
 ghost use Rattle.instance_out.specs.Elements.{footnote_text};
 
 use crate::note::{arc_of, footnote_of};
@@ -57,7 +57,7 @@ fn first_footnotes(alloc: Global, footnotes: Vec<Footnote>) -> Result<Vec<Footno
 
 /// Arcs by their text, each once.
 fn arcs_in_order(alloc: Global, arcs: List<Arc>) -> Result<List<Arc>, NoMemory>
-    ensures { IfOk result (λ l. l ≡ in_order arc_cmp arcs) }
+    ensures { IfOk result (λ l. l ≡ in_order arc_line_cmp arcs) }
 {
     let mut keyed = Vec::new(alloc);
     for arc in arcs.into_vec() {

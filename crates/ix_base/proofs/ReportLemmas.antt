@@ -28,13 +28,17 @@ class_at-rank class.W = refl
 class_at-rank class.N = refl
 class_at-rank class.L = refl
 class_at-rank class.V = refl
+class_at-rank class.P = refl
+class_at-rank class.X = refl
 
-class_rank-below : (c : Class) → class_rank c < 5
+class_rank-below : (c : Class) → class_rank c < 7
 class_rank-below class.S = omega arith
 class_rank-below class.W = omega arith
 class_rank-below class.N = omega arith
 class_rank-below class.L = omega arith
 class_rank-below class.V = omega arith
+class_rank-below class.P = omega arith
+class_rank-below class.X = omega arith
 
 same_rank : (c d : Class) → class_rank c ≡ class_rank d → c ≡ d
 same_rank c d e = sym (class_at-rank c) ∙ ap class_at e ∙ class_at-rank d
@@ -84,7 +88,7 @@ module _ (bs : List Breach) where
     λ line. subst (λ ys. Contains ys b) e (line_into c b x none (subst (λ ys. Contains ys x) (sym e) (Contains-first x xs)) line),
   )
 
-  stands_none : Stands 5 []
+  stands_none : Stands 7 []
   unfolding Stands
   stands_none b none = (
     λ h. absurd (Contains-nil b h),
@@ -95,7 +99,8 @@ module _ (bs : List Breach) where
   unfolding Stands
   first_class-lines b =
       let first = stands_first class.S _ _ refl (stands_first class.W _ _ refl (stands_first class.N _ _ refl
-      (stands_first class.L _ _ refl (stands_first class.V _ _ refl stands_none)))) in
+      (stands_first class.L _ _ refl (stands_first class.V _ _ refl (stands_first class.P _ _ refl
+      (stands_first class.X _ _ refl stands_none)))))) in
       first b (λ other h. omega arith)
 
   pub report-lines : (b : Breach) → Contains (report_of bs) b ↔ IsLine b

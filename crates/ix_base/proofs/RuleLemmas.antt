@@ -91,6 +91,11 @@ place_is rule.V2 = refl
 place_is rule.V3 = refl
 place_is rule.V4 = refl
 place_is rule.V5 = refl
+place_is rule.P1 = refl
+place_is rule.X1 = refl
+place_is rule.X2 = refl
+place_is rule.X3 = refl
+place_is rule.X4 = refl
 
 pub rule_cmp-rank_of : (x y : Rule) → rule_cmp x y ≡ nat_cmp (rank_of x) (rank_of y)
 rule_cmp-rank_of x y = by_place the_parts (as_values x) (as_values y) ∙ ap (λ n. nat_cmp n (place the_parts (as_values y))) (place_is x) ∙ ap (nat_cmp (rank_of x)) (place_is y)

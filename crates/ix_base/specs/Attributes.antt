@@ -1,5 +1,5 @@
 -- Attributes, by name.
-use Rattle.std.specs.Prelude.{Bool, ◌&&◌, List, [], ◌∷◌, ℕ, suc, Option, Some, None, if◌then◌else◌, bytes_eq}
+use Rattle.std.specs.Prelude.{Bool, ◌&&◌, List, [], ◌∷◌, ℕ, suc, Option, Some, None, if◌then◌else◌, bytes_eq, nat_lt}
 use Rattle.ix_base.specs.declared.tree.Attr.{Attr}
 use Rattle.ix_base.specs.declared.tree.Name.{Name}
 
@@ -30,3 +30,7 @@ value_of (a ∷ more) ns local = if is_named a ns local then Some a.value else v
 abbrev pub place_named : List Valued → List ℕ → List ℕ → ℕ
 place_named [] ns local = 0
 place_named (a ∷ more) ns local = if is_named a ns local then 0 else suc (place_named more ns local)
+
+-- the index of the first attribute of this name, as far as 32 bits tell it: from 2^32 - 1 on it is that number
+abbrev pub kept_place : List Valued → List ℕ → List ℕ → ℕ
+kept_place attrs ns local = if nat_lt (place_named attrs ns local) 4294967295 then place_named attrs ns local else 4294967295

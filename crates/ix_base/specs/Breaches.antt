@@ -72,6 +72,11 @@ class_of rule.V2 = class.V
 class_of rule.V3 = class.V
 class_of rule.V4 = class.V
 class_of rule.V5 = class.V
+class_of rule.P1 = class.P
+class_of rule.X1 = class.X
+class_of rule.X2 = class.X
+class_of rule.X3 = class.X
+class_of rule.X4 = class.X
 
 -- the place of a class in their order
 abbrev pub class_rank : Class → ℕ
@@ -80,9 +85,11 @@ class_rank class.W = 1
 class_rank class.N = 2
 class_rank class.L = 3
 class_rank class.V = 4
+class_rank class.P = 5
+class_rank class.X = 6
 
 abbrev pub all_classes : List Class
-all_classes = class.S ∷ class.W ∷ class.N ∷ class.L ∷ class.V ∷ []
+all_classes = class.S ∷ class.W ∷ class.N ∷ class.L ∷ class.V ∷ class.P ∷ class.X ∷ []
 
 -- the first list that holds anything
 abbrev pub first_any : {X : Type 0} → List (List X) → List X

@@ -1,6 +1,5 @@
--- Days of the calendar that ISO 8601 extends to all years, and times as seconds from the start of 0001-01-01, with
--- 86,400 seconds for each day.
-use Rattle.std.specs.Prelude.{ℕ, zero, suc, ◌+◌, ◌-◌, ◌*◌, ◌≤◌, nat_lt, if◌then◌else◌, ℤ, pos}
+-- Days of the calendar that ISO 8601 extends to all years.
+use Rattle.std.specs.Prelude.{ℕ, zero, suc, ◌+◌, ◌-◌, ◌≤◌, nat_lt, if◌then◌else◌, pos}
 use Rattle.jiff_core.specs.Calendar.{IsDate, day_count, days_in_month}
 
 -- a real day of the years 0001 to 9999
@@ -10,10 +9,6 @@ IsDay year month day = (1 ≤ year) × (year ≤ 9999) × IsDate (pos year) (pos
 -- how many days there are from 0001-01-01 to this day
 abbrev pub days_before : ℕ → ℕ → ℕ → ℕ
 days_before year month day = day_count (pos year) month day - day_count (pos 1) 1 1
-
--- when the day ends
-abbrev pub day_end : ℕ → ℕ → ℕ → ℤ
-day_end year month day = pos ((days_before year month day + 1) * 86400)
 
 pub record Day : Type 0 where
   pub year : ℕ

@@ -4,6 +4,7 @@ pub mod Attributes
 pub mod Bindings
 pub mod Breaches
 pub mod Calls
+pub mod Causes
 pub mod Chain
 pub mod ContextForm
 pub mod Days
@@ -43,6 +44,7 @@ pub mod Shelf
 pub mod Slots
 pub mod Sorted
 pub mod Sound
+pub mod Spots
 pub mod Steps
 pub mod Times
 pub mod Token

@@ -1,5 +1,5 @@
--- Characters, white space and names of XML (XML 1.0 section 2.2, productions 2, 3, 4 and 4a; Namespaces in XML 1.0,
--- productions 4 and 7). Texts are lists of bytes in UTF-8.
+-- Characters, white space and names of XML (XML 1.0, productions 2, 3, 4 and 4a; Namespaces in XML 1.0, production 4). A name
+-- here has no colon. Texts are lists of bytes in UTF-8.
 use Rattle.std.specs.Prelude.{ℕ, ◌==◌, nat_le, Bool, false, ◌&&◌, ◌||◌, List, [], ◌∷◌}
 use Rattle.std.specs.List.{list_all}
 use Rattle.std.specs.Str.{chars, is_utf8}

@@ -1,10 +1,14 @@
 -- What the objects of the outside tell, and what their calls do to it.
-use Rattle.std.specs.Prelude.{◌≡◌, ℕ, ◌<◌, ◌≤◌, Bool, true, false, not, List, [], ◌∷◌, ◌++◌, length, take, Result, Option, OnOk, OnErr, option_map, Some, None, if◌then◌else◌, bytes_eq}
+use Rattle.std.specs.Prelude.{◌≡◌, ℕ, ◌<◌, ◌≤◌, Bool, true, false, not, List, [], ◌∷◌, ◌++◌, length, take, Result, Option, OnOk, OnErr, IsTrue, is_some, option_map, Some, None, if◌then◌else◌, bytes_eq}
 
 -- A failure has a cause: the count rose in this call. Ok leaves it.
 pub record HasCause {A E : Type 0} (before now : ℕ) (result : Result A E) : Type 0 where
   pub ok : OnOk result (now ≡ before)
   pub failed : OnErr result (before < now)
+
+-- a source that tells the bytes of some page tells those of this one
+abbrev pub TellsAlso : (List ℕ → Option (List ℕ)) → List ℕ → Type 0
+TellsAlso page name = (n : List ℕ) → IsTrue (is_some (page n)) → IsTrue (is_some (page name))
 
 -- a read of n bytes into a buffer, from what is left of the page: none exactly at its end
 pub record ReadsFrom (rest buf : List ℕ) (n : ℕ) : Type 0 where

@@ -62,6 +62,11 @@ code_of rule.V2 = codes "V2"
 code_of rule.V3 = codes "V3"
 code_of rule.V4 = codes "V4"
 code_of rule.V5 = codes "V5"
+code_of rule.P1 = codes "P1"
+code_of rule.X1 = codes "X1"
+code_of rule.X2 = codes "X2"
+code_of rule.X3 = codes "X3"
+code_of rule.X4 = codes "X4"
 
 abbrev pub text_of : Rule → List ℕ
 text_of rule.S1 = codes "pages together are too long"
@@ -122,6 +127,11 @@ text_of rule.V2 = codes "text not in the format"
 text_of rule.V3 = codes "not a number"
 text_of rule.V4 = codes "format gives no number"
 text_of rule.V5 = codes "denominator is zero"
+text_of rule.P1 = codes "root is an inline element"
+text_of rule.X1 = codes "bad script line"
+text_of rule.X2 = codes "no such page"
+text_of rule.X3 = codes "too many pages"
+text_of rule.X4 = codes "session has read too much"
 
 -- the place of a rule in the order of the classes and numbers
 abbrev pub rank_of : Rule → ℕ
@@ -183,3 +193,8 @@ rank_of rule.V2 = 54
 rank_of rule.V3 = 55
 rank_of rule.V4 = 56
 rank_of rule.V5 = 57
+rank_of rule.P1 = 58
+rank_of rule.X1 = 59
+rank_of rule.X2 = 60
+rank_of rule.X3 = 61
+rank_of rule.X4 = 62

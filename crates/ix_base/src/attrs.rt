@@ -1,21 +1,21 @@
 //! The attributes of an element, and the two of them of which the elements below ask, too.
-ghost use Rattle.std.specs.Prelude.{◌≡◌, [], IfOk, codes, map, option_map, slice_get};
-ghost use Rattle.ix_base.specs.Attributes.{valued, value_of, place_named};
+ghost use Rattle.std.specs.Prelude.{◌≡◌, [], codes, map, option_map, slice_get};
+ghost use Rattle.ix_base.specs.Attributes.{valued, value_of, place_named, kept_place};
 ghost use Rattle.ix_base.specs.Namespaces.{xml_namespace};
 
-use crate::NoMemory;
 use crate::namespaces::XML;
 use crate::tree::Attr;
 
 /// The attributes of an element, in the order of its tag. It is kept where `xml:lang` and `xml:base` stand among them, so that an
-/// element tells these in one step, however many attributes it has.
+/// element tells these in one step, however many attributes it has. A place from 2^32 - 1 on is kept as that number, and looked for
+/// each time.
 #[derive(Clone, Copy)]
 pub struct Attrs<'a> {
     pub written: &'a [Attr<'a>],
     lang_at: u32,
     base_at: u32,
-    ghost lang: { lang_at ≡ place_named (map valued written.now) xml_namespace (codes "lang") },
-    ghost base: { base_at ≡ place_named (map valued written.now) xml_namespace (codes "base") },
+    ghost lang: { lang_at ≡ kept_place (map valued written.now) xml_namespace (codes "lang") },
+    ghost base: { base_at ≡ kept_place (map valued written.now) xml_namespace (codes "base") },
 }
 
 /// The index of the first attribute of this name, or their number.
@@ -30,19 +30,45 @@ fn place_of(attrs: &[Attr<'_>], ns: &str, local: &str) -> usize
     attrs.len()
 }
 
-/// The same of a name in the namespace of `xml`. More than 2^32 - 1 are want of memory.
+/// The same of a name in the namespace of `xml`.
 #[tactic(auto, unfolding(crate::specs::Namespaces::xml_namespace))]
-fn place_of_xml(attrs: &[Attr<'_>], local: &str) -> Result<u32, NoMemory>
-    ensures { IfOk result (λ at. at ≡ place_named (map valued attrs.now) xml_namespace local.now) }
+fn place_of_xml(attrs: &[Attr<'_>], local: &str) -> usize
+    ensures { result ≡ place_named (map valued attrs.now) xml_namespace local.now }
 {
-    u32::try_from(place_of(attrs, XML, local)).map_err(|_| NoMemory)
+    place_of(attrs, XML, local)
+}
+
+/// The same, as far as 32 bits tell it.
+fn kept_place_of(attrs: &[Attr<'_>], local: &str) -> u32
+    ensures { result ≡ kept_place (map valued attrs.now) xml_namespace local.now }
+{
+    let place = place_of_xml(attrs, local);
+    if place < 4_294_967_295 {
+        place as u32
+    } else {
+        4_294_967_295
+    }
 }
 
 /// The value of the attribute at an index, where one stands there.
-fn value_at<'a>(attrs: &[Attr<'a>], at: u32) -> Option<&'a str>
+fn value_at<'a>(attrs: &[Attr<'a>], at: usize) -> Option<&'a str>
     ensures { option_map (λ s. s.now) result ≡ option_map (λ a. a.value) (slice_get (map valued attrs.now) at) }
 {
-    Some(attrs.get(at as usize)?.value)
+    Some(attrs.get(at)?.value)
+}
+
+/// The value of the attribute of a name in the namespace of `xml`, of which the place is kept.
+#[tactic(auto, using(crate::proofs::AttrLemmas::value_placed, crate::proofs::AttrLemmas::kept_place_below))]
+fn value_of_xml<'a>(attrs: &[Attr<'a>], local: &str, kept: u32) -> Option<&'a str>
+    requires { kept ≡ kept_place (map valued attrs.now) xml_namespace local.now }
+    ensures { option_map (λ s. s.now) result ≡ value_of (map valued attrs.now) xml_namespace local.now }
+{
+    let place = if kept < 4_294_967_295 {
+        kept as usize
+    } else {
+        place_of_xml(attrs, local)
+    };
+    value_at(attrs, place)
 }
 
 impl<'a> Attrs<'a> {
@@ -57,30 +83,28 @@ impl<'a> Attrs<'a> {
         }
     }
 
-    /// These attributes.
-    pub fn of(written: &'a [Attr<'a>]) -> Result<Attrs<'a>, NoMemory>
-        ensures { IfOk result (λ a. a.written ≡ written.entry) }
+    /// These attributes. It takes no memory.
+    pub fn of(written: &'a [Attr<'a>]) -> Attrs<'a>
+        ensures { result.written ≡ written.entry }
     {
-        Ok(Attrs {
+        Attrs {
             written,
-            lang_at: place_of_xml(written, "lang")?,
-            base_at: place_of_xml(written, "base")?,
-        })
+            lang_at: kept_place_of(written, "lang"),
+            base_at: kept_place_of(written, "base"),
+        }
     }
 
     /// The value of `xml:lang`.
-    #[tactic(auto, using(crate::proofs::AttrLemmas::value_placed))]
     pub(crate) fn lang(self) -> Option<&'a str>
         ensures { option_map (λ s. s.now) result ≡ value_of (map valued self.entry.written.now) xml_namespace (codes "lang") }
     {
-        value_at(self.written, self.lang_at)
+        value_of_xml(self.written, "lang", self.lang_at)
     }
 
     /// The value of `xml:base`.
-    #[tactic(auto, using(crate::proofs::AttrLemmas::value_placed))]
     pub(crate) fn base(self) -> Option<&'a str>
         ensures { option_map (λ s. s.now) result ≡ value_of (map valued self.entry.written.now) xml_namespace (codes "base") }
     {
-        value_at(self.written, self.base_at)
+        value_of_xml(self.written, "base", self.base_at)
     }
 }

@@ -20,8 +20,6 @@ mod outside;
 mod place;
 mod rule;
 mod scope;
-#[cfg(test)]
-mod tests;
 mod text;
 mod tree;
 mod white;
@@ -35,7 +33,7 @@ pub use content::{
     OwnName, Period, RoleRef, Tuple, Unit, Value,
 };
 pub use escape::{push_ae, push_te};
-pub use kind::{Kind, is_ix, ix_kind, kind_in, kind_of, parent_kind};
+pub use kind::{Kind, is_fact, is_ix, ix_kind, kind_in, kind_of, parent_kind};
 pub use list::List;
 pub use memory::{MemPage, MemPages, MemTargets, MemText};
 pub use name_fault::NameFault;

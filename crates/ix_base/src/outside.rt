@@ -1,6 +1,6 @@
 //! Pages come from a source, and targets and texts go to sinks.
 ghost use Rattle.std.specs.Prelude.{◌≡◌, ◌++◌, ◌∷◌, [], ◌+◌, ◌^◌, ◌<◌, ◌≤◌, ℕ, List, Bool, true, Option, OnOk, OnErr, IfOk, IfSome, IsTrue, is_ok, is_err, length, drop, option_map};
-ghost use Rattle.ix_base.specs.Outside.{HasCause, ReadsFrom, Begun, begun, last_grown, last_finished, GainsFront, TextGainsFront};
+ghost use Rattle.ix_base.specs.Outside.{HasCause, TellsAlso, ReadsFrom, Begun, begun, last_grown, last_finished, GainsFront, TextGainsFront};
 
 use thiserror::Error;
 
@@ -15,7 +15,14 @@ pub trait PageSource {
     /// How often it has failed. It never falls.
     ghost faults: { Self → ℕ };
 
-    /// The bytes of the page of a name, where it tells them.
+    /// Whether its last call failed. It is false at first.
+    ghost last_failed: { Self → Bool };
+
+    /// The numbers by which it was made, where it was made by any. No call changes them.
+    ghost numbers: { Self → List ℕ };
+
+    /// The bytes of the page of a name, where it tells them. A source that tells those of some page tells those of each page that
+    /// it starts.
     ghost page: { Self → List ℕ → Option (List ℕ) };
 
     /// What is left of the started page, where it tells it.
@@ -35,7 +42,10 @@ pub trait PageSource {
         requires count { faults self.old + 1 < 2 ^ 64 }
         requires name { length name.now ≤ 4096 }
         ensures cause { HasCause (faults self.old) (faults self.new) result }
+        ensures failed { last_failed self.new ≡ is_err result }
+        ensures numbers { numbers self.new ≡ numbers self.old }
         ensures pages { page self.new ≡ page self.old }
+        ensures told { OnOk result (TellsAlso (page self.old) name.now) }
         ensures started { started self.new ≡ is_ok result }
         ensures asked { IfSome (asked self.new) (λ n. n ≡ name.now) }
         ensures starts { starts self.new ≡ option_map (λ names. names ++ name.now ∷ []) (starts self.old) }
@@ -47,6 +57,8 @@ pub trait PageSource {
         requires started { IsTrue (started self.old) }
         requires room { 0 < length buf.old }
         ensures cause { HasCause (faults self.old) (faults self.new) result }
+        ensures failed { last_failed self.new ≡ is_err result }
+        ensures numbers { numbers self.new ≡ numbers self.old }
         ensures pages { page self.new ≡ page self.old }
         ensures started { started self.new ≡ started self.old }
         ensures asked { asked self.new ≡ asked self.old }
@@ -61,6 +73,12 @@ pub trait PageSource {
 pub trait TargetSink {
     /// How often it has failed. It never falls.
     ghost faults: { Self → ℕ };
+
+    /// Whether its last call failed. It is false at first.
+    ghost last_failed: { Self → Bool };
+
+    /// The numbers by which it was made, where it was made by any. No call changes them.
+    ghost numbers: { Self → List ℕ };
 
     /// The targets begun, where it tells them, the last one last.
     ghost targets: { Self → Option (List Begun) };
@@ -78,6 +96,8 @@ pub trait TargetSink {
     fn begin(&mut self, dir: &str, target: &str) -> Result<(), Failed>
         requires { faults self.old + 1 < 2 ^ 64 }
         ensures cause { HasCause (faults self.old) (faults self.new) result }
+        ensures failed { last_failed self.new ≡ is_err result }
+        ensures numbers { numbers self.new ≡ numbers self.old }
         ensures ok { OnOk result (targets self.new ≡ option_map (λ ts. ts ++ begun dir.now target.now ∷ []) (targets self.old)) }
         ensures err { OnErr result (targets self.new ≡ targets self.old) }
         ensures opened { OnOk result (IsTrue (is_open self.new)) }
@@ -90,6 +110,8 @@ pub trait TargetSink {
         requires count { faults self.old + 1 < 2 ^ 64 }
         requires opened { IsTrue (is_open self.old) }
         ensures cause { HasCause (faults self.old) (faults self.new) result }
+        ensures failed { last_failed self.new ≡ is_err result }
+        ensures numbers { numbers self.new ≡ numbers self.old }
         ensures ok { OnOk result (targets self.new ≡ option_map (last_grown piece.now) (targets self.old)) }
         ensures err { OnErr result (GainsFront piece.now (targets self.old) (targets self.new)) }
         ensures opened { IsTrue (is_open self.new) }
@@ -101,6 +123,8 @@ pub trait TargetSink {
         requires count { faults self.old + 1 < 2 ^ 64 }
         requires opened { IsTrue (is_open self.old) }
         ensures cause { HasCause (faults self.old) (faults self.new) result }
+        ensures failed { last_failed self.new ≡ is_err result }
+        ensures numbers { numbers self.new ≡ numbers self.old }
         ensures ok { OnOk result (targets self.new ≡ option_map last_finished (targets self.old)) }
         ensures err { OnErr result (targets self.new ≡ targets self.old) }
         ensures closed { is_open self.new ≡ is_err result }
@@ -113,6 +137,12 @@ pub trait TextSink {
     /// How often it has failed. It never falls.
     ghost faults: { Self → ℕ };
 
+    /// Whether its last call failed. It is false at first.
+    ghost last_failed: { Self → Bool };
+
+    /// The numbers by which it was made, where it was made by any. No call changes them.
+    ghost numbers: { Self → List ℕ };
+
     /// The bytes taken, where it tells them.
     ghost taken: { Self → Option (List ℕ) };
 
@@ -120,6 +150,8 @@ pub trait TextSink {
     fn put(&mut self, piece: &[u8]) -> Result<(), Failed>
         requires { faults self.old + 1 < 2 ^ 64 }
         ensures cause { HasCause (faults self.old) (faults self.new) result }
+        ensures failed { last_failed self.new ≡ is_err result }
+        ensures numbers { numbers self.new ≡ numbers self.old }
         ensures ok { OnOk result (taken self.new ≡ option_map (λ t. t ++ piece.now) (taken self.old)) }
         ensures err { OnErr result (TextGainsFront piece.now (taken self.old) (taken self.new)) };
 }

@@ -2,7 +2,8 @@
 ghost use Rattle.std.specs.Prelude.{◌≡◌, codes};
 ghost use Rattle.ix_base.specs.Rules.{code_of, text_of};
 
-/// A rule, in the order of the classes: size of the set, page text, element, links, values.
+/// A rule, in the order of the classes: size of the set, page text, element, links, values, the page without its inline
+/// markup, the script of a session.
 #[derive(Clone, Copy, Debug, PartialEq, Eq, PartialOrd, Ord)]
 pub enum Rule {
     S1,
@@ -63,6 +64,11 @@ pub enum Rule {
     V3,
     V4,
     V5,
+    P1,
+    X1,
+    X2,
+    X3,
+    X4,
 }
 
 impl Rule {
@@ -129,6 +135,11 @@ impl Rule {
             Rule::V3 => "V3",
             Rule::V4 => "V4",
             Rule::V5 => "V5",
+            Rule::P1 => "P1",
+            Rule::X1 => "X1",
+            Rule::X2 => "X2",
+            Rule::X3 => "X3",
+            Rule::X4 => "X4",
         }
     }
 
@@ -195,6 +206,11 @@ impl Rule {
             Rule::V3 => "not a number",
             Rule::V4 => "format gives no number",
             Rule::V5 => "denominator is zero",
+            Rule::P1 => "root is an inline element",
+            Rule::X1 => "bad script line",
+            Rule::X2 => "no such page",
+            Rule::X3 => "too many pages",
+            Rule::X4 => "session has read too much",
         }
     }
 

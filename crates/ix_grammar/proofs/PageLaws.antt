@@ -34,3 +34,7 @@ pub found_on_page : (page n : ℕ) (t : Tree) → page < n → All (λ f. f.plac
 found_on_page page n t h =
     All-from_recursion (λ f. f.place.page < n) (found_on page t)
     (flat-all (λ f. f.place.page < n) (found_at page) (elements_of t) (λ e. found-all (λ p. p.page < n) (place_on page e.tree) e h))
+
+-- each breach of an element is on the page of its place
+pub found_at_place : (place : Place) (e : Placed) (n : ℕ) → place.page < n → All (λ f. f.place.page < n) (found place e)
+found_at_place place e n h = All-from_recursion (λ f. f.place.page < n) (found place e) (found-all (λ p. p.page < n) place e h)

@@ -1,4 +1,4 @@
--- The parts of a fraction.
+-- Words on what elements hold and where they stand: the parts of fractions, children, languages, running text.
 use Rattle.std.specs.Prelude.{ℕ, ◌==◌, Bool, false, not, ◌&&◌, List, Option, if◌then◌else◌, bytes_eq, codes}
 use Rattle.std.specs.List.{list_any}
 use Rattle.std.specs.Option.{option_map_or}

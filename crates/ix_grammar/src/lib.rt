@@ -16,6 +16,3 @@ mod spaces;
 
 pub use page::check_page;
 pub use rules::check;
-
-#[cfg(test)]
-mod tests;

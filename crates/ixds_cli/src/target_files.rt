@@ -29,6 +29,7 @@ pub struct FileTargets<F: Folder + Drop> {
     asked: Option<(Text, Text)>,
     asked_len: usize,
     faults: u64,
+    failed: bool,
 }
 
 impl<F: Folder + Drop> FileTargets<F> {
@@ -43,6 +44,7 @@ impl<F: Folder + Drop> FileTargets<F> {
             asked: None,
             asked_len: 0,
             faults: 0,
+            failed: false,
         }
     }
 }
@@ -115,6 +117,7 @@ impl<F: Folder + Drop> FileTargets<F> {
     /// Makes the file of a target, and keeps the two words.
     fn open(&mut self, dir: &str, target: &str) -> Option<Part<F::File>>
         ensures faults { self.new.faults ≡ self.old.faults }
+        ensures failed { self.new.failed ≡ self.old.failed }
         ensures part { self.new.part ≡ self.old.part }
         ensures asked { IfSome self.new.asked (λ words. words ≡ (dir.now, target.now)) }
         ensures asked_len { self.new.asked_len ≡ length dir.now + length target.now }
@@ -139,12 +142,16 @@ impl<F: Folder + Drop> FileTargets<F> {
 }
 
 impl<F: Folder + Drop> TargetSink for FileTargets<F> {
-    ghost use Rattle.std.specs.Prelude.{None, IsTrue, is_some, is_err, OnErr, ◌^◌, ◌<◌};
+    ghost use Rattle.std.specs.Prelude.{None, [], IsTrue, is_some, is_err, OnErr, ◌^◌, ◌<◌};
     ghost use Rattle.std.specs.Io.KnownBytes.{Appends};
     ghost use Rattle.ix_base.specs.Outside.{HasCause};
     ghost use Rattle.ixds_cli.specs.Written.{AppendsFront};
 
     ghost faults = { λ t. t.faults };
+
+    ghost last_failed = { λ t. t.failed };
+
+    ghost numbers = { λ _. [] };
 
     ghost targets = { λ _. None };
 
@@ -157,6 +164,7 @@ impl<F: Folder + Drop> TargetSink for FileTargets<F> {
     fn begin(&mut self, dir: &str, target: &str) -> Result<(), Failed>
         requires { self.old.faults + 1 < 2 ^ 64 }
         ensures cause { HasCause self.old.faults self.new.faults result }
+        ensures failed { self.new.failed ≡ is_err result }
         ensures opened { OnOk result (IsTrue (is_some self.new.part)) }
         ensures kept { OnErr result (is_some self.new.part ≡ is_some self.old.part) }
         ensures asked { IfSome self.new.asked (λ words. words ≡ (dir.now, target.now)) }
@@ -166,6 +174,7 @@ impl<F: Folder + Drop> TargetSink for FileTargets<F> {
         ensures made { OnOk result (IfSome self.new.part (λ p. F.deeds self.new.folder
             ≡ did (created p.beside ∷ []) (F.deeds self.old.folder))) }
     {
+        self.failed = false;
         match self.open(dir, target) {
             Some(part) => {
                 self.part = Some(part);
@@ -173,6 +182,7 @@ impl<F: Folder + Drop> TargetSink for FileTargets<F> {
             }
             None => {
                 self.faults += 1;
+                self.failed = true;
                 Err(Failed)
             }
         }
@@ -182,6 +192,7 @@ impl<F: Folder + Drop> TargetSink for FileTargets<F> {
         requires count { self.old.faults + 1 < 2 ^ 64 }
         requires opened { IsTrue (is_some self.old.part) }
         ensures cause { HasCause self.old.faults self.new.faults result }
+        ensures failed { self.new.failed ≡ is_err result }
         ensures opened { IsTrue (is_some self.new.part) }
         ensures asked { self.new.asked ≡ self.old.asked }
         ensures asked_len { self.new.asked_len ≡ self.old.asked_len }
@@ -191,6 +202,7 @@ impl<F: Folder + Drop> TargetSink for FileTargets<F> {
             AppendsFront (F.File.contents p.file) (F.File.contents q.file) piece.now)) }
         ensures same { IfSome self.old.part (λ p. IfSome self.new.part (λ q. (q.place ≡ p.place) × (q.beside ≡ p.beside))) }
     {
+        self.failed = false;
         match self.part.take() {
             Some(mut part) => {
                 let is_put = put_all(&mut part.file, piece);
@@ -201,6 +213,7 @@ impl<F: Folder + Drop> TargetSink for FileTargets<F> {
                 let _ = self.folder.remove(part.beside.as_str());
                 self.part = Some(part);
                 self.faults += 1;
+                self.failed = true;
                 Err(Failed)
             }
             None => unreachable!(),
@@ -211,19 +224,22 @@ impl<F: Folder + Drop> TargetSink for FileTargets<F> {
         requires count { self.old.faults + 1 < 2 ^ 64 }
         requires opened { IsTrue (is_some self.old.part) }
         ensures cause { HasCause self.old.faults self.new.faults result }
+        ensures failed { self.new.failed ≡ is_err result }
         ensures closed { is_some self.new.part ≡ is_err result }
         ensures asked { self.new.asked ≡ self.old.asked }
         ensures asked_len { self.new.asked_len ≡ self.old.asked_len }
         ensures placed { OnOk result (IfSome self.old.part (λ p. F.deeds self.new.folder
             ≡ did (synced ∷ renamed p.beside p.place ∷ []) (F.deeds self.old.folder))) }
     {
+        self.failed = false;
         match self.part.take() {
             Some(mut part) => match placed(&mut self.folder, &mut part) {
                 Ok(()) => Ok(()),
                 Err(_) => {
                     let _ = self.folder.remove(part.beside.as_str());
-                    self.part = Some(part);
                     self.faults += 1;
+                    self.failed = true;
+                    self.part = Some(part);
                     Err(Failed)
                 }
             },

@@ -1,10 +1,10 @@
 -- What a run answers, put together from what its parts answer.
-use Rattle.std.proofs.Common.{◌≡◌, ◌⊎◌, ◌∙◌, sym, refl, ℕ, ◌<◌, List, Option, Some, None, IfSome, subst, inl, inr, arith}
+use Rattle.std.proofs.Common.{◌≡◌, ◌⊎◌, ◌∙◌, sym, refl, ℕ, ◌<◌, IsTrue, List, Option, Some, None, IfSome, subst, inl, inr, arith}
 use Rattle.ix_base.specs.Outside.{TextGainsFront}
 use Rattle.ixds_run.specs.Answers.{Answers, Outside}
 use Rattle.ixds_run.specs.Commands.{number_of, pages_of}
 use Rattle.ixds_run.specs.Gains.{GainsStarts, GainsText}
-use Rattle.ixds_run.specs.Outcomes.{AreSome, IfTold, bytes_told}
+use Rattle.ixds_run.specs.CommandBytes.{AreSome, IfTold, bytes_told}
 use Rattle.ixds_run.specs.Reading.{IsAmong}
 use Rattle.ixds_run.specs.Texts.{cannot_read_line, usage_text}
 use Rattle.ixds_run.specs.declared.command.Command.{Command}
@@ -31,9 +31,10 @@ of_some all step some = (some.0, some.1, step some.0 some.2)
 
 -- want of memory
 pub memory_answer : (o : Option Command) (old new : Outside) (A B C : Type 0) → B → C → new.page ≡ old.page → new.page_faults ≡ old.page_faults
+    → (new.page_numbers ≡ old.page_numbers) × (new.target_numbers ≡ old.target_numbers) × (new.text_numbers ≡ old.text_numbers)
     → IfSome o (λ c. IfSome (number_of c) (λ n. A)) → IfSome o (λ c. GainsStarts (pages_of c) old.page_starts new.page_starts)
     → IfSome o (λ c. A ⊎ ((name : List ℕ) × IsAmong old.page (pages_of c) new.page_asked name)) → Answers o old new A B C NoMemory
-memory_answer o old new A B C b d page faults sample starts asked = record {
+memory_answer o old new A B C b d page faults numbers sample starts asked = record {
   complete = told_all o old.page _ (λ c bs e f g. inr (refl, b, d));
   done = λ e. cc;
   broken = λ e. cc;
@@ -45,6 +46,8 @@ memory_answer o old new A B C b d page faults sample starts asked = record {
   usage_exactly = λ e. inr (inr refl);
   read_fault = λ e. cc;
   write_fault = λ e. cc;
+  write_fault_last = λ e f. cc;
+  write_fault_last_text = λ e f. cc;
   write_fault_targets = λ e f. cc;
   write_fault_text = λ e f h. cc;
   write_fault_line = λ e f. cc;
@@ -54,6 +57,7 @@ memory_answer o old new A B C b d page faults sample starts asked = record {
   starts = starts;
   asked_page = asked;
   same_pages = page;
+  same_numbers = numbers;
   stops = λ e. absurd (elim e [ inl x ↦ cc | inr x ↦ cc ]);
   quiet_done = λ e. cc;
   quiet_broken = λ e. cc;
@@ -67,11 +71,13 @@ not_one s x y z (inr e) p q f = q (sym e ∙ f)
 
 -- the words give no command
 pub usage_answer : (o : Option Command) (old new : Outside) (A B C : Type 0) (s : Status) → o ≡ None → A → B → new.page ≡ old.page
-    → new.page_faults ≡ old.page_faults → new.target_faults ≡ old.target_faults → (s ≡ Usage) ⊎ (s ≡ WriteFault)
+    → new.page_faults ≡ old.page_faults → new.target_faults ≡ old.target_faults
+    → (new.page_numbers ≡ old.page_numbers) × (new.target_numbers ≡ old.target_numbers) × (new.text_numbers ≡ old.text_numbers) → (s ≡ Usage) ⊎ (s ≡ WriteFault)
     → (s ≡ Usage → GainsText usage_text old.taken new.taken) → (s ≡ Usage → new.text_faults ≡ old.text_faults)
-    → (s ≡ WriteFault → old.text_faults < new.text_faults) → (s ≡ WriteFault → TextGainsFront usage_text old.taken new.taken)
+    → (s ≡ WriteFault → old.text_faults < new.text_faults) → (s ≡ WriteFault → IsTrue new.text_failed)
+    → (s ≡ WriteFault → TextGainsFront usage_text old.taken new.taken)
     → Answers o old new A B C s
-usage_answer o old new A B C s none a b page faults same either gains quiet cause front =
+usage_answer o old new A B C s none a b page faults same numbers either gains quiet cause last front =
     subst (λ (k : Option Command). Answers k old new A B C s) (sym none) (record {
       complete = tt;
       done = λ e. tt;
@@ -84,6 +90,8 @@ usage_answer o old new A B C s none a b page faults same either gains quiet caus
       usage_exactly = λ e. elim either [ inl x ↦ inl x | inr x ↦ inr (inl x) ];
       read_fault = λ e. absurd (not_one s Usage WriteFault ReadFault either (λ x. cc) (λ x. cc) e);
       write_fault = λ e. inr (cause e);
+      write_fault_last = λ e rose. absurd (omega arith);
+      write_fault_last_text = λ e f. last e;
       write_fault_targets = λ e rose. absurd (omega arith);
       write_fault_text = λ e f h. tt;
       write_fault_line = λ e rose. absurd (omega arith);
@@ -93,6 +101,7 @@ usage_answer o old new A B C s none a b page faults same either gains quiet caus
       starts = tt;
       asked_page = tt;
       same_pages = page;
+      same_numbers = numbers;
       stops = λ e. tt;
       quiet_done = λ e. absurd (not_one s Usage WriteFault Done either (λ x. cc) (λ x. cc) e);
       quiet_broken = λ e. absurd (not_one s Usage WriteFault Broken either (λ x. cc) (λ x. cc) e);
@@ -102,11 +111,13 @@ usage_answer o old new A B C s none a b page faults same either gains quiet caus
 -- a page can't be read
 pub fault_answer : (c : Command) (old new : Outside) (A B C : Type 0) (s : Status) (name : List ℕ) → B → new.page ≡ old.page
     → IfSome (number_of c) (λ n. A) → old.page_faults < new.page_faults → new.target_faults ≡ old.target_faults → IsAmong old.page (pages_of c) new.page_asked name
+    → IsTrue new.page_failed → (new.page_numbers ≡ old.page_numbers) × (new.target_numbers ≡ old.target_numbers) × (new.text_numbers ≡ old.text_numbers)
     → GainsStarts (pages_of c) old.page_starts new.page_starts → (s ≡ ReadFault) ⊎ (s ≡ WriteFault)
     → (s ≡ ReadFault → GainsText (cannot_read_line name) old.taken new.taken) → (s ≡ ReadFault → new.text_faults ≡ old.text_faults)
-    → (s ≡ WriteFault → old.text_faults < new.text_faults) → (s ≡ WriteFault → TextGainsFront (cannot_read_line name) old.taken new.taken)
+    → (s ≡ WriteFault → old.text_faults < new.text_faults) → (s ≡ WriteFault → IsTrue new.text_failed)
+    → (s ≡ WriteFault → TextGainsFront (cannot_read_line name) old.taken new.taken)
     → Answers (Some c) old new A B C s
-fault_answer c old new A B C s name b page sample rose same among starts either gains quiet cause front = record {
+fault_answer c old new A B C s name b page sample rose same among failed numbers starts either gains quiet cause last front = record {
   complete = some_all (bytes_told old.page c) _ (λ bs e f g. absurd (omega arith));
   done = λ e. absurd (not_one s ReadFault WriteFault Done either (λ x. cc) (λ x. cc) e);
   broken = λ e. absurd (not_one s ReadFault WriteFault Broken either (λ x. cc) (λ x. cc) e);
@@ -116,17 +127,20 @@ fault_answer c old new A B C s name b page sample rose same among starts either 
   sample = sample;
   usage = λ e. absurd (not_one s ReadFault WriteFault Usage either (λ x. cc) (λ x. cc) e);
   usage_exactly = λ e. cc;
-  read_fault = λ e. (rose, b, (name, among, gains e));
+  read_fault = λ e. (rose, b, (name, among, failed, gains e));
   write_fault = λ e. inr (cause e);
+  write_fault_last = λ e f. absurd (omega arith);
+  write_fault_last_text = λ e f. last e;
   write_fault_targets = λ e f. absurd (omega arith);
   write_fault_text = λ e f h. absurd (omega arith);
-  write_fault_line = λ e f. (b, (name, among, front e));
+  write_fault_line = λ e f. (b, (name, among, failed, front e));
   write_fault_usage = λ e f. cc;
   no_memory = λ e. absurd (not_one s ReadFault WriteFault NoMemory either (λ x. cc) (λ x. cc) e);
   no_memory_pages = λ e. absurd (not_one s ReadFault WriteFault NoMemory either (λ x. cc) (λ x. cc) e);
   starts = starts;
   asked_page = inr (name, among);
   same_pages = page;
+  same_numbers = numbers;
   stops = λ e. absurd (elim e [ inl x ↦ not_one s ReadFault WriteFault Done either (λ y. cc) (λ y. cc) x | inr x ↦ not_one s ReadFault WriteFault Broken either (λ y. cc) (λ y. cc) x ]);
   quiet_done = λ e. absurd (not_one s ReadFault WriteFault Done either (λ x. cc) (λ x. cc) e);
   quiet_broken = λ e. absurd (not_one s ReadFault WriteFault Broken either (λ x. cc) (λ x. cc) e);

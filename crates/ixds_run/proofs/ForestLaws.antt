@@ -1,5 +1,5 @@
 -- Reading pages one behind another.
-use Rattle.std.proofs.Common.{◌≡◌, ◌⊎◌, inl, inr, ◌∙◌, ap, sym, refl, ℕ, suc, ◌+◌, ◌≤◌, ◌<◌, nat_lt, Bool, cond, List, [], ◌∷◌, ◌++◌, length, drop, take, Option, Some, None, IfSome, option_map, append_assoc, append-nil, subst, arith, length-append, add-zero, add_assoc, zero-add, add-one, get_or}
+use Rattle.std.proofs.Common.{◌≡◌, ◌⊎◌, inl, inr, ◌∙◌, ap, sym, refl, ℕ, suc, ◌+◌, ◌≤◌, ◌<◌, nat_lt, Bool, cond, List, [], ◌∷◌, ◌++◌, length, drop, take, Option, Some, None, IfSome, IsTrue, is_some, true, option_map, append_assoc, append-nil, subst, arith, length-append, add-zero, add_assoc, zero-add, add-one, get_or}
 use Rattle.std.proofs.Math.Seq.{drop-cons, take-suc}
 use Rattle.std.proofs.lemmas.Bool.{lt-ltb}
 use Rattle.std.specs.Borrow.{Bor}
@@ -13,12 +13,13 @@ use Rattle.page_tree.specs.Stacks.{AreAll}
 use Rattle.page_tree.specs.Standing.{StandsFor}
 use Rattle.page_tree.specs.declared.builder.TreeBuilder.{TreeBuilder}
 use Rattle.ixds_run.specs.Gains.{GainsStarts}
-use Rattle.ixds_run.specs.Outcomes.{AreSome}
-use Rattle.ixds_run.specs.Reading.{HasFed, IsWhole, HasGained, HasRead, HasReadSome, IsRead, IsRoot, AreRoots, IsSound, IsAmong, IsLast, ReadsOn, StopsInTime}
+use Rattle.ixds_run.specs.CommandBytes.{AreSome}
+use Rattle.ix_base.specs.Outside.{TellsAlso}
+use Rattle.ixds_run.specs.Reading.{HasFed, IsReadWhole, HasGained, HasRead, HasReadSome, IsRead, IsRoot, AreRoots, IsSound, IsAmong, IsLast, ReadsOn, StopsInTime}
+use Rattle.ixds_run.specs.Sources.{IsTelling, told, told_both}
 use Rattle.ix_base.specs.declared.rule.Rule.TheVariants.{S1, S2}
 use Rattle.page_tree.specs.Break.{Fault}
-use Rattle.ixds_run.specs.Sizes.{size_rule, tags_in}
-use Rattle.ixds_run.specs.Told.{all_tags_in, bytes_in, fault_row, on_page, text_fault, text_faults, told, told_both}
+use Rattle.targets.specs.Breaches.{size_rule, tags_in, all_tags_in, bytes_in, fault_row, on_page, text_fault, text_faults}
 use Rattle.ixds_run.specs.declared.forest.Forest.{Forest}
 use Rattle.ixds_run.specs.declared.reading.Sums.{Sums}
 
@@ -44,7 +45,7 @@ gained_fault n b limit f f' offset rule deep broken found =
 
 -- a page was read and ended
 pub reads_on : (page left : Option (List ℕ)) (n : ℕ) (t : TreeBuilder) (sums : Sums) (f g : Forest)
-    → HasFed page left t f.sums sums → IsWhole page left sums → g.sums ≡ sums
+    → HasFed page left t f.sums sums → IsReadWhole page left sums → g.sums ≡ sums
     → (sums.bytes ≤ 268435456 → (b : List ℕ) → StandsFor t b → HasGained n b (record f { sums = sums }) g) → ReadsOn page left n f g
 reads_on page left n t sums f g fed whole same gained = record {
   front = fed.front;
@@ -156,10 +157,30 @@ pub if_told : (o : Option (List (List ℕ))) (From To : List (List ℕ) → Type
 if_told None From To step h = tt
 if_told (Some b) From To step h = step b h
 
+-- names and one more are told
+told_snoc : (page : List ℕ → Option (List ℕ)) (xs : List (List ℕ)) (n : List ℕ) → IsTrue (is_some (told page xs)) → IsTrue (is_some (page n))
+    → IsTrue (is_some (told page (xs ++ n ∷ [])))
+told_snoc page [] n h k = one (page n) k
+  where
+    one : (o : Option (List ℕ)) → IsTrue (is_some o) → IsTrue (is_some (told_both o (Some [])))
+    one None k = absurd cc
+    one (Some b) k = refl
+told_snoc page (x ∷ xs) n h k = step (page x) (told page xs) (told page (xs ++ n ∷ [])) h (λ was. told_snoc page xs n was k)
+  where
+    step : (o : Option (List ℕ)) (p q : Option (List (List ℕ))) → IsTrue (is_some (told_both o p)) → (IsTrue (is_some p) → IsTrue (is_some q))
+        → IsTrue (is_some (told_both o q))
+    step None p q h on = absurd cc
+    step (Some b) None q h on = absurd cc
+    step (Some b) (Some bs) None h on = absurd (let z = on refl in cc)
+    step (Some b) (Some bs) (Some cs) h on = refl
+
+telling_more : (page : List ℕ → Option (List ℕ)) (xs : List (List ℕ)) (n : List ℕ) → IsTelling page xs → TellsAlso page n → IsTelling page (xs ++ n ∷ [])
+telling_more page xs n all one = λ m some. told_snoc page xs n (all m some) (one m some)
+
 -- one more page was read, and the limit isn't passed
 pub read_more : (page : List ℕ → Option (List ℕ)) (names : List (List ℕ)) (name : List ℕ) (rest : List (List ℕ)) (n : ℕ) (left : Option (List ℕ)) (f g : Forest)
-    → g.sums.bytes ≤ 268435456 → ReadsOn (page name) left n f g → HasReadSome page names (name ∷ rest) n f → HasReadSome page names rest (n + 1) g
-read_more page names name rest n left f g most on h =
+    → g.sums.bytes ≤ 268435456 → ReadsOn (page name) left n f g → TellsAlso page name → HasReadSome page names (name ∷ rest) n f → HasReadSome page names rest (n + 1) g
+read_more page names name rest n left f g most on also h =
     let whole = whole_is (page name) left on.front (on.whole most) on.told in
     record {
       front = h.front ++ name ∷ [];
@@ -174,6 +195,7 @@ read_more page names name rest n left f g most on h =
       told_is = if_told (told page names) _ _ (λ all t.
           let next = told_next (page name) (told page rest) t.0 h.bs on.front t.2 whole in
           (next.0, t.1 ∙ next.1, next.2)) h.told_is;
+      telling = telling_more page h.front name h.telling also;
     }
 
 over : (n m : ℕ) → 268435456 < n → size_rule n m ≡ Some S1
@@ -267,6 +289,7 @@ read_none page names f bytes tags found roots = record {
   read = record { bytes = bytes; tags = tags; found = found; roots = λ e. subst (λ (es : List (Bor Element)). AreRoots 0 [] es) (sym roots) tt };
   front_is = refl;
   told_is = none_of (told page names);
+  telling = λ n some. refl;
 }
   where
     none_of : (o : Option (List (List ℕ))) → IfSome o (λ all. (more : List (List ℕ)) × (all ≡ [] ++ more) × (o ≡ Some more))
@@ -290,6 +313,7 @@ last_is page names name rest n left asked f g before most at on h = record {
   splits = h.splits;
   asked_is = at;
   within = within_of page names (name ∷ rest) n f before h;
+  telling = h.telling;
   most = if_told (told page (h.front ++ name ∷ [])) _ _ (λ all t.
       let was : t.0 ≡ h.bs = subst (λ (o : Option (List (List ℕ))). IfSome o (λ done. done ≡ h.bs)) t.1 h.front_is in
       let one = subst (λ (o : Option (List ℕ)). IfSome o (λ b. (more : List ℕ) × (b ≡ on.front ++ more) × (left ≡ Some more))) t.2.1 on.told in
@@ -310,12 +334,13 @@ next_among page names name rest n asked f before at h = record {
   splits = h.splits;
   asked_is = at;
   within = within_of page names (name ∷ rest) n f before h;
+  telling = h.telling;
 }
 
 pub last_among : (page : List ℕ → Option (List ℕ)) (names back : List (List ℕ)) (left asked : Option (List ℕ)) → (l : IsLast page names back left asked)
     → (name : List ℕ) × IsAmong page names asked name
 last_among page names back left asked l =
-    (l.name, record { front = l.front; back = back; splits = l.splits; asked_is = l.asked_is; within = l.within })
+    (l.name, record { front = l.front; back = back; splits = l.splits; asked_is = l.asked_is; within = l.within; telling = l.telling })
 
 pub stops_among : (page : List ℕ → Option (List ℕ)) (names : List (List ℕ)) (left asked : Option (List ℕ)) → StopsInTime page names left asked
     → (name : List ℕ) × IsAmong page names asked name

@@ -3,9 +3,9 @@ use Rattle.std.proofs.Common.{◌≡◌, ◌∙◌, ap, sym, refl, subst, ℕ, �
 use Rattle.std.proofs.Math.ListN.{drop_of_length-le}
 use Rattle.std.proofs.lemmas.List.{get_or-map, length-map}
 use Rattle.ix_base.specs.declared.memory.pages.MemPage.{MemPage}
-use Rattle.ixds_run.specs.Outcomes.{AreSome}
+use Rattle.ixds_run.specs.CommandBytes.{AreSome}
 use Rattle.ixds_run.specs.Reading.{HasReadSome, IsRead, IsSound, ReadsOn}
-use Rattle.ixds_run.specs.Told.{told, told_both}
+use Rattle.ixds_run.specs.Sources.{told, told_both}
 use Rattle.ixds_run.specs.declared.forest.Forest.{Forest}
 use Rattle.ixds_run.proofs.ForestLaws.{next_of, read_more, some_is_sound, some_over, some_read}
 
@@ -14,7 +14,7 @@ told_self : (bs : List (List ℕ)) → told Some bs ≡ Some bs
 told_self [] = refl
 told_self (b ∷ bs) = ap (told_both (Some b)) (told_self bs)
 
-some_is : (o : Option (List (List ℕ))) (bs : List (List ℕ)) (P : List (List ℕ) → Type 0) → o ≡ Some bs → AreSome o P → P bs
+pub some_is : (o : Option (List (List ℕ))) (bs : List (List ℕ)) (P : List (List ℕ) → Type 0) → o ≡ Some bs → AreSome o P → P bs
 some_is o bs P e some =
     let h : AreSome (Some bs) P = subst (λ (x : Option (List (List ℕ))). AreSome x P) e some in
     subst P (sym h.1) h.2
@@ -41,7 +41,7 @@ module _ (pages : List MemPage) (n : ℕ) (page : MemPage) (f g : Forest) (withi
     -- one more page was built
     pub built_more : g.sums.bytes ≤ 268435456
         → HasReadSome Some (map (λ p. p.bytes) pages) (drop (n + 1) (map (λ p. p.bytes) pages)) (n + 1) g
-    built_more most = read_more Some (map (λ p. p.bytes) pages) page.bytes (drop (n + 1) (map (λ p. p.bytes) pages)) n (Some []) f g most on cut_before
+    built_more most = read_more Some (map (λ p. p.bytes) pages) page.bytes (drop (n + 1) (map (λ p. p.bytes) pages)) n (Some []) f g most on (λ m some. refl) cut_before
 
     -- the limit is passed
     pub built_over : 268435456 < g.sums.bytes → IsRead (map (λ p. p.bytes) pages) g

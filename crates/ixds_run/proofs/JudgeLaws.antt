@@ -2,7 +2,7 @@
 use Rattle.std.proofs.Common.{◌≡◌, ◌≢◌, ◌∙◌, sym, ℕ, zero, suc, ◌==◌, true, ◌+◌, ◌<◌, ◌≤◌, List, [], ◌∷◌, All, length, slice_index_or, Option, Some, None, IfOk, Result, Ok, Err, subst, arith, inl, inr, refl}
 use Rattle.std.specs.Borrow.{Bor}
 use Rattle.std.proofs.lemmas.Bool.{eqb-true}
-use Rattle.ixds_run.specs.Sizes.{size_rule}
+use Rattle.targets.specs.Breaches.{size_rule, PagesComeTo, fault_row, on_page, set_rule, text_fault, text_faults}
 use Rattle.std.proofs.lemmas.List.Elements.{All-append}
 use Rattle.ix_base.specs.Elements.{pages_of}
 use Rattle.ix_base.specs.Sound.{IsSoundRoot}
@@ -12,13 +12,10 @@ use Rattle.ix_base.specs.declared.breach.Found.{Found}
 use Rattle.ix_base.specs.declared.tree.Element.{Element}
 use Rattle.page_tree.specs.Break.{Fault, w}
 use Rattle.page_tree.specs.Page.{page}
-use Rattle.ixds_run.proofs.MadeLaws.{trees_of}
-use Rattle.ixds_run.specs.Made.{AreSoundRoots, Made}
-use Rattle.ixds_run.specs.Outcomes.{AreTrees, Says}
+use Rattle.targets.specs.Forest.{AreSoundRoots, AreTrees, page_set, trees_of}
+use Rattle.targets.specs.SetOutcomes.{ComesTo, IsReport}
 use Rattle.ixds_run.specs.Reading.{AreRoots, HasRead, IsRead}
-use Rattle.ixds_run.specs.Told.{fault_row, on_page, set_rule, text_fault, text_faults}
 use Rattle.ixds_run.specs.declared.forest.Forest.{Forest}
-use Rattle.targets.specs.Outcomes.{IsReport}
 use Rattle.targets.specs.declared.outcome.Outcome.{Outcome}
 
 pub are_trees : (n : ℕ) (bs : List (List ℕ)) (es : List (Bor Element)) → AreRoots n bs es → AreTrees bs (trees_of es)
@@ -44,19 +41,19 @@ faults_below n m (b ∷ bs) h =
 -- what pages say that break no size rule
 pub kept_says : (base : List ℕ) (names bs : List (List ℕ)) (r : Result Outcome NoMemory) → set_rule bs ≡ None
     → (text_faults 0 bs ≢ [] → IfOk r (IsReport names (text_faults 0 bs)))
-    → (text_faults 0 bs ≡ [] → IfOk r (λ o. (trees : List Tree) × AreTrees bs trees × Made base names trees o))
-    → IfOk r (Says base names bs)
+    → (text_faults 0 bs ≡ [] → IfOk r (λ o. (trees : List Tree) × AreTrees bs trees × ComesTo (page_set base names trees) o))
+    → IfOk r (PagesComeTo base names bs)
 kept_says base names bs r kept broken made = by (text_faults 0 bs) refl
   where
-    by : (found : List Found) → text_faults 0 bs ≡ found → IfOk r (Says base names bs)
+    by : (found : List Found) → text_faults 0 bs ≡ found → IfOk r (PagesComeTo base names bs)
     by [] e = made_says r (made e)
       where
-        made_says : (r : Result Outcome NoMemory) → IfOk r (λ o. (trees : List Tree) × AreTrees bs trees × Made base names trees o) → IfOk r (Says base names bs)
+        made_says : (r : Result Outcome NoMemory) → IfOk r (λ o. (trees : List Tree) × AreTrees bs trees × ComesTo (page_set base names trees) o) → IfOk r (PagesComeTo base names bs)
         made_says (Ok v) h = inr (kept, inr h)
         made_says (Err x) h = tt
     by (f ∷ fs) e = broken_says r (λ z. absurd (let y : [] ≡ f ∷ fs = sym z ∙ e in cc)) (broken (λ z. absurd (let y : [] ≡ f ∷ fs = sym z ∙ e in cc)))
       where
-        broken_says : (r : Result Outcome NoMemory) → text_faults 0 bs ≢ [] → IfOk r (IsReport names (text_faults 0 bs)) → IfOk r (Says base names bs)
+        broken_says : (r : Result Outcome NoMemory) → text_faults 0 bs ≢ [] → IfOk r (IsReport names (text_faults 0 bs)) → IfOk r (PagesComeTo base names bs)
         broken_says (Ok v) some h = inr (kept, inl (some, h))
         broken_says (Err x) some h = tt
 
@@ -78,7 +75,7 @@ pub sound_roots : ((b : List ℕ) (n number : ℕ) (e : Element) → page b n (t
 sound_roots sound bs f read empty = sound_from sound 0 bs f.roots.items (read.roots (sym read.found ∙ empty_of f.found empty))
 
 pub trees_made : (base : List ℕ) (names bs : List (List ℕ)) (f : Forest) (es : List (Bor Element)) (r : Result Outcome NoMemory) → es ≡ f.roots.items → HasRead bs f → text_faults 0 bs ≡ []
-    → IfOk r (Made base names (trees_of es)) → IfOk r (λ o. (trees : List Tree) × AreTrees bs trees × Made base names trees o)
+    → IfOk r (ComesTo (page_set base names (trees_of es))) → IfOk r (λ o. (trees : List Tree) × AreTrees bs trees × ComesTo (page_set base names trees) o)
 trees_made base names bs f es (Ok v) is read none h =
     (trees_of es, are_trees 0 bs es (subst (λ (xs : List (Bor Element)). AreRoots 0 bs xs) (sym is) (read.roots none)), h)
 trees_made base names bs f es (Err x) is read none h = tt
@@ -86,15 +83,15 @@ trees_made base names bs f es (Err x) is read none h = tt
 pub found_below : (bs : List (List ℕ)) (f : Forest) (n : ℕ) → HasRead bs f → length bs ≤ n → All (λ x. x.place.page < n) f.found
 found_below bs f n read few = subst (λ (xs : List Found). All (λ x. x.place.page < n) xs) (sym read.found) (faults_below 0 n bs (omega arith))
 
-each : (base : List ℕ) (names : List (List ℕ)) (f : Forest) (r : Result Outcome NoMemory) → ((bs : List (List ℕ)) → IsRead bs f → IfOk r (Says base names bs))
-    → IfOk r (λ v. (bs : List (List ℕ)) → IsRead bs f → Says base names bs v)
+each : (base : List ℕ) (names : List (List ℕ)) (f : Forest) (r : Result Outcome NoMemory) → ((bs : List (List ℕ)) → IsRead bs f → IfOk r (PagesComeTo base names bs))
+    → IfOk r (λ v. (bs : List (List ℕ)) → IsRead bs f → PagesComeTo base names bs v)
 each base names f (Ok v) h = h
 each base names f (Err x) h = tt
 
 pub judged : (base : List ℕ) (names : List (List ℕ)) (f : Forest) (r : Result Outcome NoMemory) → None ≡ size_rule f.sums.bytes f.sums.tags
     → ((bs : List (List ℕ)) → HasRead bs f → text_faults 0 bs ≢ [] → IfOk r (IsReport names (text_faults 0 bs)))
-    → ((bs : List (List ℕ)) → HasRead bs f → text_faults 0 bs ≡ [] → IfOk r (λ o. (trees : List Tree) × AreTrees bs trees × Made base names trees o))
-    → IfOk r (λ v. (bs : List (List ℕ)) → IsRead bs f → Says base names bs v)
+    → ((bs : List (List ℕ)) → HasRead bs f → text_faults 0 bs ≡ [] → IfOk r (λ o. (trees : List Tree) × AreTrees bs trees × ComesTo (page_set base names trees) o))
+    → IfOk r (λ v. (bs : List (List ℕ)) → IsRead bs f → PagesComeTo base names bs v)
 judged base names f r kept broken made = each base names f r (λ bs read.
     let whole = read.read (sym kept) in
     kept_says base names bs r (read.size ∙ sym kept) (broken bs whole) (made bs whole))

@@ -8,10 +8,7 @@ use Rattle.ix_base.specs.Located.{Paged}
 use Rattle.ix_base.specs.Sound.{IsSoundRoot}
 use Rattle.ix_base.specs.Trees.{Tree, tree_of}
 use Rattle.ix_base.specs.declared.tree.Element.{Element}
-use Rattle.ixds_run.specs.Made.{AreSoundRoots, paged}
-
-abbrev pub trees_of : List (Bor Element) → List Tree
-trees_of es = map (λ e. tree_of e.now) es
+use Rattle.targets.specs.Forest.{AreSoundRoots, paged, trees_of}
 
 -- the element at this index and those behind it
 pub cut_at : {X : Type 0} (xs : List X) (n : ℕ) (x : X) → n < length xs → x ≡ get_or xs n x → drop n xs ≡ x ∷ drop (n + 1) xs

@@ -18,17 +18,17 @@ use Rattle.page_tree.specs.Break.{Fault, w}
 use Rattle.page_tree.specs.Page.{page}
 use Rattle.targets.specs.Contents.{IsContent, IsGathered, SaysItem}
 use Rattle.targets.specs.Faults.{AreOfItems, element_faults, link_faults, value_fault}
-use Rattle.targets.specs.Outcomes.{ComesOfValues, ComesTo, FirstOf, IsReport, IsWhole}
+use Rattle.targets.specs.Forest.{AreTrees, page_set, paged}
+use Rattle.targets.specs.SetOutcomes.{ComesOfValues, ComesTo, FirstOf, IsReport, ComesToTargets}
 use Rattle.targets.specs.PageSet.{PageSet, asked, base_at, elements, names as names_of}
 use Rattle.targets.specs.TargetFacts.{AreFacts, members_read, one_less}
 use Rattle.targets.specs.declared.outcome.Outcome.{Outcome}
 use Rattle.targets.specs.declared.outcome.Outcome.TheVariants.{Broken, Whole}
 use Rattle.targets.specs.declared.outcome.Target.{Target}
 use Rattle.ixds_run.specs.Commands.{base_of, dir_of, number_of, pages_of}
-use Rattle.ixds_run.specs.Made.{Made, paged}
-use Rattle.ixds_run.specs.Outcomes.{AreTrees, DueOutcome, IsOutcome, Says, due_of, targets_under, text_of}
+use Rattle.ixds_run.specs.DueOutcomes.{DueOutcome, IsOutcome, due_of, targets_under, text_of}
+use Rattle.targets.specs.Breaches.{PagesComeTo, fault_row, on_page, text_faults}
 use Rattle.ixds_run.specs.Texts.{breach_line}
-use Rattle.ixds_run.specs.Told.{fault_row, on_page, text_faults}
 use Rattle.ixds_run.specs.declared.command.Command.{Command}
 use Rattle.ixds_run.specs.declared.status.Status.TheVariants as status
 
@@ -141,7 +141,7 @@ module _
         let rest = same_targets bases es ts us names (All-tail P t ts h) (All-tail P u us k) in
         λ i. record { name = name i; content = content i } ∷ rest i
 
-    same_whole : (dir : Option (List ℕ)) (number : Option ℕ) (s : PageSet) (o p : Outcome) → IsWhole s o → IsWhole s p → due_of dir number o ≡ due_of dir number p
+    same_whole : (dir : Option (List ℕ)) (number : Option ℕ) (s : PageSet) (o p : Outcome) → ComesToTargets s o → ComesToTargets s p → due_of dir number o ≡ due_of dir number p
     same_whole dir number s (Broken r) p h k = absurd h
     same_whole dir number s (Whole ts) (Broken r) h k = absurd k
     same_whole dir number s (Whole ts) (Whole us) h k =
@@ -151,14 +151,14 @@ module _
     same_valued : (dir : Option (List ℕ)) (number : Option ℕ) (s : PageSet) (o p : Outcome) → ComesOfValues s o → ComesOfValues s p → due_of dir number o ≡ due_of dir number p
     same_valued dir number s o p (found, are, first) (more, are', first') =
         let e : more ≡ found = same_broken (IsItem (base_at s) (asked s)) (says (base_at s) (asked s)) (filter is_item (elements s)) more found are' are in
-        same_first dir number (names_of s) found (IsWhole s) (same_whole dir number s) o p first (subst (λ (xs : List Found). FirstOf (names_of s) xs (IsWhole s) p) e first')
+        same_first dir number (names_of s) found (ComesToTargets s) (same_whole dir number s) o p first (subst (λ (xs : List Found). FirstOf (names_of s) xs (ComesToTargets s) p) e first')
 
     same_set : (dir : Option (List ℕ)) (number : Option ℕ) (s : PageSet) (o p : Outcome) → ComesTo s o → ComesTo s p → due_of dir number o ≡ due_of dir number p
     same_set dir number s =
         same_first dir number (names_of s) (element_faults s) (FirstOf (names_of s) (link_faults s) (ComesOfValues s))
         (same_first dir number (names_of s) (link_faults s) (ComesOfValues s) (same_valued dir number s))
 
-    same_saying : (dir : Option (List ℕ)) (number : Option ℕ) (base : List ℕ) (names bs : List (List ℕ)) (o p : Outcome) → Says base names bs o → Says base names bs p → due_of dir number o ≡ due_of dir number p
+    same_saying : (dir : Option (List ℕ)) (number : Option ℕ) (base : List ℕ) (names bs : List (List ℕ)) (o p : Outcome) → PagesComeTo base names bs o → PagesComeTo base names bs p → due_of dir number o ≡ due_of dir number p
     same_saying dir number base names bs o p (inl (rule, set, report)) (inl (other, set', report')) =
         let z : other ≡ rule = cc in
         same_report dir number names (on_page 0 0 rule ∷ []) o p report (subst (λ (r : Rule). IsReport names (on_page 0 0 r ∷ []) p) z report')
@@ -169,7 +169,7 @@ module _
     same_saying dir number base names bs o p (inr (kept, inr (ts, trees, made))) (inr (kept', inl (some, report))) = absurd (some (no_faults 0 bs ts trees))
     same_saying dir number base names bs o p (inr (kept, inr (ts, trees, made))) (inr (kept', inr (us, trees', made'))) =
         same_set dir number (record { base = base; pages = paged names ts }) o p made
-        (subst (λ (xs : List Tree). Made base names xs p) (one_trees bs us ts trees' trees) made')
+        (subst (λ (xs : List Tree). ComesTo (page_set base names xs) p) (one_trees bs us ts trees' trees) made')
 
     pub outcome_one : (c : Command) (bs : List (List ℕ)) (due other : DueOutcome) → IsOutcome c bs due → IsOutcome c bs other → due ≡ other
     outcome_one c bs due other h k =

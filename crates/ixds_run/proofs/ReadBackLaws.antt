@@ -11,14 +11,14 @@ use Rattle.instance_out.specs.Proper.{Proper}
 use Rattle.instance_out.specs.Theorem.{IsReadBack}
 use Rattle.page_tree.specs.Page.{page}
 use Rattle.targets.specs.Clean.{AreProper}
-use Rattle.targets.specs.Outcomes.{IsReport}
+use Rattle.targets.specs.SetOutcomes.{IsReport}
 use Rattle.targets.specs.declared.outcome.Outcome.{Outcome}
 use Rattle.targets.specs.declared.outcome.Outcome.TheVariants.{Broken, Whole}
 use Rattle.targets.specs.declared.outcome.Target.{Target}
 use Rattle.targets.proofs.ProperLaws.{comes-proper}
-use Rattle.ixds_run.specs.Made.{paged}
-use Rattle.ixds_run.specs.Outcomes.{AreReadBack, Says}
-use Rattle.ixds_run.specs.Told.{on_page, text_faults}
+use Rattle.targets.specs.Forest.{paged}
+use Rattle.ixds_run.specs.DueOutcomes.{AreReadBack}
+use Rattle.targets.specs.Breaches.{PagesComeTo, on_page, text_faults}
 use Rattle.ixds_run.proofs.SoundPages.{sound_pages}
 
 -- a report has no targets
@@ -35,7 +35,7 @@ module _
     proper_back (Whole ts) h =
         All-weaker (λ (t : Target). Proper (said_of t.content)) (λ (t : Target). IsReadBack (canon t.content) t.content) (λ t proper. back t.content proper) ts h
 
-    pub said_back : (base : List ℕ) (names bs : List (List ℕ)) (o : Outcome) → Says base names bs o → AreReadBack o
+    pub said_back : (base : List ℕ) (names bs : List (List ℕ)) (o : Outcome) → PagesComeTo base names bs o → AreReadBack o
     said_back base names bs o (inl (rule, set, report)) = report_back names (on_page 0 0 rule ∷ []) o report
     said_back base names bs o (inr (kept, inl (some, report))) = report_back names (text_faults 0 bs) o report
     said_back base names bs o (inr (kept, inr (trees, are, made))) =

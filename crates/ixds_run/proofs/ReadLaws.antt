@@ -5,8 +5,8 @@ use Rattle.std.proofs.lemmas.List.Sums.{sum_by-append}
 use Rattle.ix_base.specs.Outside.{ReadsFrom}
 use Rattle.page_tree.specs.Standing.{StandsFor}
 use Rattle.page_tree.specs.declared.builder.TreeBuilder.{TreeBuilder}
-use Rattle.ixds_run.specs.Sizes.{tags_in}
-use Rattle.ixds_run.specs.Reading.{HasFed, IsWhole}
+use Rattle.targets.specs.Breaches.{tags_in}
+use Rattle.ixds_run.specs.Reading.{HasFed, IsReadWhole}
 use Rattle.ixds_run.specs.declared.reading.Sums.{Sums}
 
 tags-append : (xs ys : List ℕ) → tags_in (xs ++ ys) ≡ tags_in xs + tags_in ys
@@ -64,9 +64,9 @@ told_end (Some b) left front end t =
     t.2 ∙ ap Some (subst (λ (l : Option (List ℕ)). IfSome l (λ rest. rest ≡ [])) t.2 end)
 
 -- all of it was read
-pub whole_at_end : (page left : Option (List ℕ)) (t : TreeBuilder) (before s : Sums) → HasFed page left t before s → IfSome left (λ rest. rest ≡ []) → IsWhole page left s
+pub whole_at_end : (page left : Option (List ℕ)) (t : TreeBuilder) (before s : Sums) → HasFed page left t before s → IfSome left (λ rest. rest ≡ []) → IsReadWhole page left s
 whole_at_end page left t before s h end = λ most. told_end page left h.front end h.told
 
 -- more was read than pages may have
-pub whole_over : (page left : Option (List ℕ)) (s : Sums) → 268435456 < s.bytes → IsWhole page left s
+pub whole_over : (page left : Option (List ℕ)) (s : Sums) → 268435456 < s.bytes → IsReadWhole page left s
 whole_over page left s over = λ most. absurd (omega arith)

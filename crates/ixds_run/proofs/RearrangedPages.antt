@@ -16,12 +16,10 @@ use Rattle.page_tree.specs.Break.{Fault, w}
 use Rattle.page_tree.specs.Page.{page}
 use Rattle.targets.specs.declared.outcome.Outcome.{Outcome}
 use Rattle.targets.specs.declared.outcome.Outcome.TheVariants.{Broken, Whole}
-use Rattle.targets.specs.Outcomes.{IsReport}
-use Rattle.ixds_run.specs.Made.{Made, paged}
-use Rattle.ixds_run.specs.Outcomes.{AreTrees, Says}
+use Rattle.targets.specs.Forest.{AreTrees, page_set, paged}
+use Rattle.targets.specs.SetOutcomes.{IsReport, ComesTo}
+use Rattle.targets.specs.Breaches.{PagesComeTo, size_rule, tags_in, all_tags_in, bytes_in, fault_row, on_page, set_rule, text_fault, text_faults}
 use Rattle.ixds_run.specs.Rearrangement.{Handed, names_of, bytes_of}
-use Rattle.ixds_run.specs.Sizes.{size_rule, tags_in}
-use Rattle.ixds_run.specs.Told.{all_tags_in, bytes_in, fault_row, on_page, set_rule, text_fault, text_faults}
 use Rattle.ixds_run.proofs.SoundPages.{sound_pages}
 use Rattle.targets.proofs.Exchanged.{exchanged, numbered, said_at, swap_at}
 use Rattle.targets.proofs.FaultsMoved.{found_moved}
@@ -107,7 +105,7 @@ trees-exchanged (p ∷ front) back a b (t ∷ ts) h =
 module _ (sound : (b : List ℕ) (n : ℕ) (t : Tree) → page b n t → IsSoundTree t n) where
   module _ (base : List ℕ) (o : Outcome) where
     abbrev Say : List Handed → Type 0
-    Say ps = Says base (names_of ps) (bytes_of ps) o
+    Say ps = PagesComeTo base (names_of ps) (bytes_of ps) o
 
     says-exchanged : (front back : List Handed) (a b : Handed) → Say (front ++ a ∷ b ∷ back) → Say (front ++ b ∷ a ∷ back)
     says-exchanged front back a b h =
@@ -124,7 +122,7 @@ module _ (sound : (b : List ℕ) (n : ℕ) (t : Tree) → page b n t → IsSound
           λ none. s.0 (none-left (found_moved r) (text_faults 0 (bytes_of P)) (text_faults 0 (bytes_of Q)) faults none),
           report-moved r (names_of P) (names_of Q) (said_at (λ (p : Handed). p.name) front back a b) (text_faults 0 (bytes_of P)) (text_faults 0 (bytes_of Q)) faults o s.1,
         ) in
-        let made : (ts : List Tree) × AreTrees (bytes_of P) ts × Made base (names_of P) ts o → (ts : List Tree) × AreTrees (bytes_of Q) ts × Made base (names_of Q) ts o =
+        let made : (ts : List Tree) × AreTrees (bytes_of P) ts × ComesTo (page_set base (names_of P) ts) o → (ts : List Tree) × AreTrees (bytes_of Q) ts × ComesTo (page_set base (names_of Q) ts) o =
         λ s. (let next = trees-exchanged front back a b s.0 s.1 in
         (next.0, next.1, rearranged base (paged (names_of P) s.0) (paged (names_of Q) next.0) next.2 (sound_pages sound (names_of P) (bytes_of P) s.0 s.1) o s.2)) in
         ⊎_elim size (λ e. inr (sym same ∙ e.0, ⊎_elim (λ s. inl (text s)) (λ s. inr (made s)) e.1)) h

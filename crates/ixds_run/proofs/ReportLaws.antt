@@ -15,6 +15,8 @@ of_one_class class.W b = refl
 of_one_class class.N b = refl
 of_one_class class.L b = refl
 of_one_class class.V b = refl
+of_one_class class.P b = refl
+of_one_class class.X b = refl
 
 first_of_one : (b : Breach) → first_class (b ∷ []) ≡ b ∷ []
 first_of_one b = of_one_class (class_of b.rule) b

@@ -5,8 +5,7 @@ use Rattle.ix_base.specs.Located.{Paged}
 use Rattle.ix_base.specs.Sound.{IsSoundTree}
 use Rattle.ix_base.specs.Trees.{Tree}
 use Rattle.page_tree.specs.Page.{page}
-use Rattle.ixds_run.specs.Made.{paged}
-use Rattle.ixds_run.specs.Outcomes.{AreTrees}
+use Rattle.targets.specs.Forest.{paged, AreTrees}
 
 abbrev Sound : Paged → Type 0
 Sound p = IsSoundTree p.tree 256

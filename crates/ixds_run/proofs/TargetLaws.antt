@@ -2,10 +2,10 @@
 use Rattle.std.proofs.Common.{◌≡◌, ◌∙◌, ap, sym, ℕ, List, [], ◌∷◌, ◌++◌, length, take, Option, Some, None, IfSome, true, false, option_map, refl, inr, suc, ◌+◌, ◌<◌, drop, get_or, map, append_assoc, add-one}
 use Rattle.std.proofs.Math.Seq.{take-length, take-suc, drop-cons}
 use Rattle.std.proofs.lemmas.List.{append-nil, map-append, take-append-drop}
-use Rattle.ixds_run.specs.Outcomes.{ready}
+use Rattle.ixds_run.specs.DueTables.{ready}
 use Rattle.ixds_run.specs.declared.due.DueTarget.{DueTarget}
 use Rattle.ix_base.specs.Outside.{Begun, begun, last_grown, last_finished, GainsFront}
-use Rattle.ixds_run.specs.Gains.{GainsAll, GainsCut, GainsPart}
+use Rattle.ixds_run.specs.Gains.{GainsAll, GainsCut, GainsPart, Words}
 
 -- a target with these bytes, unfinished and finished
 abbrev pub unfinished : List ℕ → List ℕ → List ℕ → Begun
@@ -74,10 +74,10 @@ ready_more dir ts n t h e =
     ap (map (ready dir)) more ∙ map-append (ready dir) (take n ts) (t ∷ [])
 
 -- targets were added whole, and then nothing of the next or a front
-pub gains_part : (dir : List ℕ) (ts : List DueTarget) (n : ℕ) (t : DueTarget) (old mid new : Option (List Begun)) (asked : Option (List ℕ × List ℕ))
+pub gains_part : (dir : List ℕ) (ts : List DueTarget) (n : ℕ) (t : DueTarget) (old mid new : Option (List Begun)) (asked : Words)
     → n < length ts → t ≡ get_or ts n t → GainsAll (map (ready dir) (take n ts)) old mid → GainsCut (ready dir t) mid new
-    → IfSome asked (λ words. words ≡ (dir, t.name)) → GainsPart (map (ready dir) ts) old new asked
-gains_part dir ts n t old mid new asked h e before cut at = record {
+    → IfSome asked.told (λ words. words ≡ (dir, t.name)) → asked.len ≡ length dir + length t.name → GainsPart (map (ready dir) ts) old new asked
+gains_part dir ts n t old mid new asked h e before cut at len = record {
   whole = map (ready dir) (take n ts);
   target = ready dir t;
   behind = map (ready dir) (drop (suc n) ts);
@@ -86,4 +86,5 @@ gains_part dir ts n t old mid new asked h e before cut at = record {
   cut = cut.1;
   gained = gains_both (map (ready dir) (take n ts)) cut.0 old mid new before cut.2;
   asked_is = at;
+  asked_len = len;
 }

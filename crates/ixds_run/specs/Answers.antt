@@ -1,12 +1,14 @@
 -- What a run answers: each status, when it comes, and what then stands.
-use Rattle.std.specs.Prelude.{◌≡◌, ◌⊎◌, ℕ, ◌<◌, List, Option, None, IfSome}
+use Rattle.std.specs.Prelude.{◌≡◌, ◌⊎◌, ℕ, ◌<◌, Bool, IsTrue, List, Option, None, IfSome}
 use Rattle.ix_base.specs.Outside.{Begun, TextGainsFront}
 use Rattle.ix_base.specs.declared.outside.PageSource as source
 use Rattle.ix_base.specs.declared.outside.TargetSink as sink
 use Rattle.ix_base.specs.declared.outside.TextSink as text
 use Rattle.ixds_run.specs.Commands.{dir_of, number_of, pages_of}
-use Rattle.ixds_run.specs.Gains.{GainsStarts, GainsText}
-use Rattle.ixds_run.specs.Outcomes.{Gives, GivesFront, GivesPart, IfTold, OfBytes, SaysNothing}
+use Rattle.ixds_run.specs.Gains.{GainsStarts, GainsText, Words, words_asked}
+use Rattle.ixds_run.specs.Deliveries.{Gives, GivesFront, GivesPart}
+use Rattle.ixds_run.specs.CommandBytes.{IfTold, OfBytes}
+use Rattle.ixds_run.specs.DueOutcomes.{HasBreach}
 use Rattle.ixds_run.specs.Reading.{IsAmong, StopsInTime}
 use Rattle.ixds_run.specs.Texts.{cannot_read_line, usage_text}
 use Rattle.ixds_run.specs.declared.command.Command.{Command}
@@ -16,19 +18,25 @@ use Rattle.ixds_run.specs.declared.status.Status.TheVariants.{Done, Broken, Usag
 -- what the pages, the targets and the text of the outside tell, at one time
 pub record Outside : Type 0 where
   -- the bytes of each page by its name, what is left of the started one, the name asked for last, the names of all starts, how
-  -- often a call failed
+  -- often a call failed, whether the last one did, and the numbers by which the source was made
   pub page : List ℕ → Option (List ℕ)
   pub left : Option (List ℕ)
   pub page_asked : Option (List ℕ)
   pub page_starts : Option (List (List ℕ))
   pub page_faults : ℕ
-  -- the targets begun, the two words asked for last, how often a call failed
+  pub page_failed : Bool
+  pub page_numbers : List ℕ
+  -- the targets begun, the two words asked for last, how often a call failed, whether the last one did, and its numbers
   pub targets : Option (List Begun)
-  pub target_asked : Option (List ℕ × List ℕ)
+  pub target_asked : Words
   pub target_faults : ℕ
-  -- the bytes that the text has taken, how often a call failed
+  pub target_failed : Bool
+  pub target_numbers : List ℕ
+  -- the bytes that the text has taken, how often a call failed, whether the last one did, and its numbers
   pub taken : Option (List ℕ)
   pub text_faults : ℕ
+  pub text_failed : Bool
+  pub text_numbers : List ℕ
 
 -- what three objects tell
 abbrev pub outside : {P S T : Type 0} → source.Ghosts P → sink.Ghosts S → text.Ghosts T → P → S → T → Outside
@@ -38,17 +46,24 @@ outside source sink text p s t = record {
   page_asked = source.asked p;
   page_starts = source.starts p;
   page_faults = source.faults p;
+  page_failed = source.last_failed p;
+  page_numbers = source.numbers p;
   targets = sink.targets s;
-  target_asked = sink.asked s;
+  target_asked = words_asked sink s;
   target_faults = sink.faults s;
+  target_failed = sink.last_failed s;
+  target_numbers = sink.numbers s;
   taken = text.taken t;
   text_faults = text.faults t;
+  text_failed = text.last_failed t;
+  text_numbers = text.numbers t;
 }
 
--- one of these pages can't be read, which was asked for last, and its line is added to the text
+-- one of these pages can't be read, which was asked for last and which the last call told, and its line is added to the text
 abbrev pub TellsFault : Outside → Outside → (Gains : List ℕ → Option (List ℕ) → Option (List ℕ) → Type 0) → Command → Type 0
 TellsFault old new Gains c =
-    (name : List ℕ) × IsAmong old.page (pages_of c) new.page_asked name × Gains (cannot_read_line name) old.taken new.taken
+    (name : List ℕ) × IsAmong old.page (pages_of c) new.page_asked name × IsTrue new.page_failed
+    × Gains (cannot_read_line name) old.taken new.taken
 
 -- What a run answers to a command, or to words that give none, and what its three objects then tell. The three facts say
 -- of the pages, the targets and the text that they are as they were.
@@ -63,7 +78,7 @@ pub record Answers (command : Option Command) (old new : Outside) (SamePages Sam
   -- Broken: the pages break a rule, and the text took the report. For such pages no target is begun, whatever the status.
   pub broken : s ≡ Broken → OfBytes command old.page (Gives Broken old.targets new.targets old.taken new.taken)
   pub broken_targets : s ≡ Broken → SameTargets
-  pub broken_pages : IfTold command old.page (λ c bs. SaysNothing c bs → SameTargets)
+  pub broken_pages : IfTold command old.page (λ c bs. HasBreach c bs → SameTargets)
   -- A command without a directory leaves the targets, whatever the status.
   pub check : IfSome command (λ c. dir_of c ≡ None → SameTargets)
   -- A sample, whose pages are made, leaves the pages of the outside, too.
@@ -74,10 +89,12 @@ pub record Answers (command : Option Command) (old new : Outside) (SamePages Sam
   -- ReadFault: the count of the pages rose in this call. The line names the page that was asked for last.
   pub read_fault : s ≡ ReadFault
       → (old.page_faults < new.page_faults) × SameTargets × IfSome command (TellsFault old new GainsText)
-  -- WriteFault: the count of the targets or of the text rose in this call. Of what was due a part stands: where the count of
+  -- WriteFault: the count of the targets or of the text rose in this call, and the last call of these failed. Of what was due a part stands: where the count of
   -- the targets rose, a part of them, and the first that isn't whole was asked for last; else, all of them and a front of the
   -- text, which after a read fault is its line and without a command the usage text.
   pub write_fault : s ≡ WriteFault → (old.target_faults < new.target_faults) ⊎ (old.text_faults < new.text_faults)
+  pub write_fault_last : s ≡ WriteFault → old.target_faults < new.target_faults → IsTrue new.target_failed
+  pub write_fault_last_text : s ≡ WriteFault → new.target_faults ≡ old.target_faults → IsTrue new.text_failed
   pub write_fault_targets : s ≡ WriteFault → old.target_faults < new.target_faults
       → SameText × OfBytes command old.page (GivesPart old.targets new.targets new.target_asked)
   pub write_fault_text : s ≡ WriteFault → new.target_faults ≡ old.target_faults → new.page_faults ≡ old.page_faults
@@ -94,6 +111,8 @@ pub record Answers (command : Option Command) (old new : Outside) (SamePages Sam
   pub starts : IfSome command (λ c. GainsStarts (pages_of c) old.page_starts new.page_starts)
   pub asked_page : IfSome command (λ c. SamePages ⊎ ((name : List ℕ) × IsAmong old.page (pages_of c) new.page_asked name))
   pub same_pages : new.page ≡ old.page
+  -- The numbers by which the three objects were made stay.
+  pub same_numbers : (new.page_numbers ≡ old.page_numbers) × (new.target_numbers ≡ old.target_numbers) × (new.text_numbers ≡ old.text_numbers)
   pub stops : (s ≡ Done) ⊎ (s ≡ Broken)
       → IfSome command (λ c. number_of c ≡ None → StopsInTime old.page (pages_of c) new.left new.page_asked)
   -- A failed call ends the run: each other status comes with no fault but its own.

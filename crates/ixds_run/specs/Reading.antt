@@ -1,5 +1,5 @@
 -- Reading pages one behind another, each piece by piece.
-use Rattle.std.specs.Prelude.{◌≡◌, ◌⊎◌, ℕ, suc, ◌+◌, ◌≤◌, ◌<◌, List, [], ◌∷◌, ◌++◌, length, Option, Some, None, IfSome, Result, Ok, Err}
+use Rattle.std.specs.Prelude.{◌≡◌, ◌⊎◌, ℕ, suc, ◌+◌, ◌≤◌, ◌<◌, Bool, true, IsTrue, List, [], ◌∷◌, ◌++◌, length, Option, Some, None, IfSome, Result, Ok, Err}
 use Rattle.std.specs.Borrow.{Bor}
 use Rattle.ix_base.specs.Elements.{pages_of}
 use Rattle.ix_base.specs.Trees.{tree_of}
@@ -9,15 +9,21 @@ use Rattle.page_tree.specs.Break.{w}
 use Rattle.page_tree.specs.Stacks.{AreAll}
 use Rattle.page_tree.specs.Standing.{StandsFor}
 use Rattle.page_tree.specs.declared.builder.TreeBuilder.{TreeBuilder}
-use Rattle.ixds_run.specs.Sizes.{size_rule, tags_in}
+use Rattle.targets.specs.Breaches.{size_rule, tags_in, all_tags_in, bytes_in, set_rule, text_fault, text_faults}
 use Rattle.ixds_run.specs.Texts.{cannot_read_line}
-use Rattle.ixds_run.specs.Told.{told, all_tags_in, bytes_in, set_rule, text_fault, text_faults}
+use Rattle.ixds_run.specs.Sources.{IsTelling, told}
 use Rattle.ixds_run.specs.declared.forest.Forest.{Forest}
 use Rattle.ixds_run.specs.declared.forest.Stopped.{Stopped}
 use Rattle.ixds_run.specs.declared.forest.Stopped.TheVariants as stopped
 use Rattle.ixds_run.specs.declared.reading.ReadError.{ReadError}
 use Rattle.ixds_run.specs.declared.reading.ReadError.TheVariants as read_error
 use Rattle.ixds_run.specs.declared.reading.Sums.{Sums}
+
+-- a read that failed was the last call
+abbrev pub IsLastCall : {X : Type 0} → (failed : Bool) → Result X ReadError → Type 0
+IsLastCall failed (Ok x) = Unit {0}
+IsLastCall failed (Err read_error.Failed) = IsTrue failed
+IsLastCall failed (Err read_error.NoMemory) = Unit {0}
 
 -- A read that failed raised the count of faults; any other answer left it.
 abbrev pub HasReadCause : {X : Type 0} → (before now : ℕ) → Result X ReadError → Type 0
@@ -35,8 +41,8 @@ pub record HasFed (page left : Option (List ℕ)) (t : TreeBuilder) (before now 
   pub told : IfSome page (λ b. (rest : List ℕ) × (b ≡ front ++ rest) × (left ≡ Some rest))
 
 -- That front is the whole page, unless the bytes read are more than pages may have.
-abbrev pub IsWhole : Option (List ℕ) → Option (List ℕ) → Sums → Type 0
-IsWhole page left sums = sums.bytes ≤ 268435456 → IfSome page (λ b. left ≡ Some [])
+abbrev pub IsReadWhole : Option (List ℕ) → Option (List ℕ) → Sums → Type 0
+IsReadWhole page left sums = sums.bytes ≤ 268435456 → IfSome page (λ b. left ≡ Some [])
 
 -- a page of this number, with these bytes, has this root
 abbrev pub IsRoot : ℕ → List ℕ → Bor Element → Type 0
@@ -66,7 +72,7 @@ pub record ReadsOn (page left : Option (List ℕ)) (n : ℕ) (old new : Forest) 
   pub bytes : new.sums.bytes ≡ old.sums.bytes + length front
   pub tags : new.sums.tags ≡ old.sums.tags + tags_in front
   pub told : IfSome page (λ b. (rest : List ℕ) × (b ≡ front ++ rest) × (left ≡ Some rest))
-  pub whole : IsWhole page left new.sums
+  pub whole : IsReadWhole page left new.sums
   pub gained : new.sums.bytes ≤ 268435456 → HasGained n front old new
 
 -- So many of the pages of these names were read, and these names are left.
@@ -78,6 +84,7 @@ pub record HasReadSome (page : List ℕ → Option (List ℕ)) (names rest : Lis
   pub read : HasRead bs f
   pub front_is : IfSome (told page front) (λ all. all ≡ bs)
   pub told_is : IfSome (told page names) (λ all. (more : List (List ℕ)) × (all ≡ bs ++ more) × (told page rest ≡ Some more))
+  pub telling : IsTelling page front
 
 -- What the forest tells of pages: the size rule that they break; where they break none, they are what was read.
 pub record IsRead (bs : List (List ℕ)) (f : Forest) : Type 0 where
@@ -89,13 +96,14 @@ abbrev pub IsSound : List (List ℕ) → Forest → Type 0
 IsSound names f = size_rule f.sums.bytes f.sums.tags ≡ None → (bs : List (List ℕ)) × HasRead bs f × (length bs ≤ length names)
 
 -- The page that was asked for last is one of these. Those before it, where the source tells them, don't have more bytes than
--- pages may have.
+-- pages may have; and a source that tells any page tells them.
 pub record IsAmong (page : List ℕ → Option (List ℕ)) (names : List (List ℕ)) (asked : Option (List ℕ)) (name : List ℕ) : Type 0 where
   pub front : List (List ℕ)
   pub back : List (List ℕ)
   pub splits : names ≡ front ++ name ∷ back
   pub asked_is : IfSome asked (λ n. n ≡ name)
   pub within : IfSome (told page front) (λ bs. bytes_in bs ≤ 268435456)
+  pub telling : IsTelling page front
 
 -- The same, with these names behind it. Of the pages up to it, where the source tells them, at most the limit and one
 -- buffer was read.
@@ -105,6 +113,7 @@ pub record IsLast (page : List ℕ → Option (List ℕ)) (names back : List (Li
   pub splits : names ≡ front ++ name ∷ back
   pub asked_is : IfSome asked (λ n. n ≡ name)
   pub within : IfSome (told page front) (λ bs. bytes_in bs ≤ 268435456)
+  pub telling : IsTelling page front
   pub most : IfSome (told page (front ++ name ∷ [])) (λ bs. IfSome left (λ rest. bytes_in bs ≤ length rest + (268435456 + 65536)))
 
 -- Reading stopped in time: at the last of these pages, unless they have together, where the source tells them, more bytes
@@ -114,14 +123,15 @@ StopsInTime page names left asked =
     (back : List (List ℕ)) × IsLast page names back left asked
     × ((back ≡ []) ⊎ IfSome (told page names) (λ bs. 268435456 < bytes_in bs))
 
--- why reading the page of this name ended before its end: it can't be read, and the line names it, or memory was wanted
-abbrev pub StopsAt : List ℕ → Option (List ℕ) → (before now : ℕ) → Stopped → Type 0
-StopsAt name asked before now (stopped.Failed line) =
-    (before < now) × IfSome asked (λ n. n ≡ name) × (line.items ≡ cannot_read_line name)
-StopsAt name asked before now stopped.NoMemory = now ≡ before
+-- why reading the page of this name ended before its end: it can't be read, which the last call told, and the line names it, or
+-- memory was wanted
+abbrev pub StopsAt : List ℕ → Option (List ℕ) → (before now : ℕ) → (failed : Bool) → Stopped → Type 0
+StopsAt name asked before now failed (stopped.Failed line) =
+    (before < now) × IfSome asked (λ n. n ≡ name) × (line.items ≡ cannot_read_line name) × IsTrue failed
+StopsAt name asked before now failed stopped.NoMemory = now ≡ before
 
 -- the same of one of these pages
-abbrev pub WhyStopped : (List ℕ → Option (List ℕ)) → List (List ℕ) → Option (List ℕ) → (before now : ℕ) → Stopped → Type 0
-WhyStopped page names asked before now (stopped.Failed line) =
-    (before < now) × ((name : List ℕ) × IsAmong page names asked name × (line.items ≡ cannot_read_line name))
-WhyStopped page names asked before now stopped.NoMemory = now ≡ before
+abbrev pub WhyStopped : (List ℕ → Option (List ℕ)) → List (List ℕ) → Option (List ℕ) → (before now : ℕ) → (failed : Bool) → Stopped → Type 0
+WhyStopped page names asked before now failed (stopped.Failed line) =
+    (before < now) × ((name : List ℕ) × IsAmong page names asked name × (line.items ≡ cannot_read_line name) × IsTrue failed)
+WhyStopped page names asked before now failed stopped.NoMemory = now ≡ before

@@ -11,15 +11,15 @@ use Rattle.targets.specs.declared.outcome.Target.{Target}
 
 -- how many items and how many tuples some facts are, with the members of tuples, at any depth
 
-abbrev pub items_in : Facts → ℕ
-items_in none = 0
-items_in (item here rest) = suc (items_in rest)
-items_in (tuple name id nil members rest) = items_in members + items_in rest
+abbrev pub item_count : Facts → ℕ
+item_count none = 0
+item_count (item here rest) = suc (item_count rest)
+item_count (tuple name id nil members rest) = item_count members + item_count rest
 
-abbrev pub tuples_in : Facts → ℕ
-tuples_in none = 0
-tuples_in (item here rest) = tuples_in rest
-tuples_in (tuple name id nil members rest) = suc (tuples_in members + tuples_in rest)
+abbrev pub tuple_count : Facts → ℕ
+tuple_count none = 0
+tuple_count (item here rest) = tuple_count rest
+tuple_count (tuple name id nil members rest) = suc (tuple_count members + tuple_count rest)
 
 -- the ids of the footnotes of a link
 abbrev pub link_ids : NoteLink → List (List ℕ)
@@ -40,7 +40,7 @@ count n what = decimal n ++ what
 
 -- how many items and tuples there are
 abbrev pub facts_text : Facts → List ℕ
-facts_text facts = count (items_in facts) (codes " facts, ") ++ count (tuples_in facts) (codes " tuples, ")
+facts_text facts = count (item_count facts) (codes " facts, ") ++ count (tuple_count facts) (codes " tuples, ")
 
 -- how many contexts, units and footnotes a content has
 abbrev pub others_text : Content → List ℕ

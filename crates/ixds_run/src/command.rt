@@ -16,9 +16,6 @@ mod base;
 mod names;
 mod number;
 mod simple;
-#[cfg(test)]
-mod tests;
-
 /// What the words of a command line ask for.
 #[derive(Debug, Drop)]
 pub enum Command {

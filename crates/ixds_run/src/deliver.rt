@@ -1,8 +1,8 @@
 //! Writing what is due.
-ghost use Rattle.std.specs.Prelude.{◌≡◌, ◌⊎◌, ◌+◌, ◌^◌, ◌<◌, ◌∷◌, [], List, ℕ, map, Option, None, Some, option_map, OnOk, OnErr, IfSome};
+ghost use Rattle.std.specs.Prelude.{◌≡◌, ◌⊎◌, ◌+◌, ◌^◌, ◌<◌, ◌∷◌, [], List, ℕ, map, Option, None, Some, option_map, OnOk, OnErr, IfSome, IsTrue, length};
 ghost use Rattle.ix_base.specs.Outside.{TextGainsFront};
-ghost use Rattle.ixds_run.specs.Gains.{GainsAll, GainsCut, GainsPart, GainsText};
-ghost use Rattle.ixds_run.specs.Outcomes.{ready, status_of, targets_due};
+ghost use Rattle.ixds_run.specs.Gains.{GainsAll, GainsCut, GainsPart, GainsText, words_asked};
+ghost use Rattle.ixds_run.specs.DueTables.{ready, status_of, targets_due};
 ghost use Rattle.ixds_run.specs.declared.status.Status.TheVariants as status;
 
 use crate::Status;
@@ -17,7 +17,10 @@ fn put_target<S: TargetSink>(target: &DueTarget, dir: &str, sink: &mut S) -> Res
     ensures err { OnErr result (GainsCut (ready dir.now target.now) (S.targets sink.old) (S.targets sink.new)) }
     ensures faults { OnOk result (S.faults sink.new ≡ S.faults sink.old) }
     ensures failed { OnErr result (S.faults sink.old < S.faults sink.new) }
+    ensures last { OnErr result (IsTrue (S.last_failed sink.new)) }
+    ensures numbers { S.numbers sink.new ≡ S.numbers sink.old }
     ensures words { IfSome (S.asked sink.new) (λ w. w ≡ (dir.now, target.now.name)) }
+    ensures len { S.asked_len sink.new ≡ length dir.now + length target.now.name }
 {
     sink.begin(dir, target.name.as_str())?;
     write(&target.prepared, sink)?;
@@ -28,9 +31,12 @@ fn put_target<S: TargetSink>(target: &DueTarget, dir: &str, sink: &mut S) -> Res
 fn put_targets<S: TargetSink>(targets: &[DueTarget], dir: &str, sink: &mut S) -> Result<(), Failed>
     requires { S.faults sink.old + 1 < 2 ^ 64 }
     ensures ok { OnOk result (GainsAll (map (ready dir.now) targets.now) (S.targets sink.old) (S.targets sink.new)) }
-    ensures err { OnErr result (GainsPart (map (ready dir.now) targets.now) (S.targets sink.old) (S.targets sink.new) (S.asked sink.new)) }
+    ensures err { OnErr result (GainsPart (map (ready dir.now) targets.now) (S.targets sink.old) (S.targets sink.new)
+        (words_asked S.TargetSink sink.new)) }
     ensures faults { OnOk result (S.faults sink.new ≡ S.faults sink.old) }
     ensures failed { OnErr result (S.faults sink.old < S.faults sink.new) }
+    ensures last { OnErr result (IsTrue (S.last_failed sink.new)) }
+    ensures numbers { S.numbers sink.new ≡ S.numbers sink.old }
     ensures none { targets.now ≡ [] → sink.new ≡ sink.old }
 {
     for target in targets {
@@ -45,9 +51,12 @@ fn put_due<S: TargetSink>(due: &Due, dir: Option<&str>, sink: &mut S) -> Result<
     ensures ok { OnOk result (GainsAll (targets_due (option_map (λ s. s.now) dir.entry) due.now)
         (S.targets sink.old) (S.targets sink.new)) }
     ensures err { OnErr result (GainsPart (targets_due (option_map (λ s. s.now) dir.entry) due.now)
-        (S.targets sink.old) (S.targets sink.new) (S.asked sink.new)) }
+        (S.targets sink.old) (S.targets sink.new)
+        (words_asked S.TargetSink sink.new)) }
     ensures faults { OnOk result (S.faults sink.new ≡ S.faults sink.old) }
     ensures failed { OnErr result (S.faults sink.old < S.faults sink.new) }
+    ensures last { OnErr result (IsTrue (S.last_failed sink.new)) }
+    ensures numbers { S.numbers sink.new ≡ S.numbers sink.old }
     ensures no_dir { dir.entry ≡ None → sink.new ≡ sink.old }
     ensures none { due.now.targets.items ≡ [] → sink.new ≡ sink.old }
 {
@@ -74,9 +83,13 @@ pub fn deliver<S: TargetSink, T: TextSink>(
         → (S.faults sink.new ≡ S.faults sink.old) × (T.faults out.new ≡ T.faults out.old) }
     ensures cause { result ≡ Status.WriteFault
         → (S.faults sink.old < S.faults sink.new) ⊎ (T.faults out.old < T.faults out.new) }
+    ensures last { result ≡ Status.WriteFault → S.faults sink.old < S.faults sink.new → IsTrue (S.last_failed sink.new) }
+    ensures last_text { result ≡ Status.WriteFault → S.faults sink.new ≡ S.faults sink.old → IsTrue (T.last_failed out.new) }
+    ensures numbers { (S.numbers sink.new ≡ S.numbers sink.old) × (T.numbers out.new ≡ T.numbers out.old) }
     ensures part { result ≡ Status.WriteFault → S.faults sink.old < S.faults sink.new
         → (out.new ≡ out.old)
-        × GainsPart (targets_due (option_map (λ s. s.now) dir.entry) due.now) (S.targets sink.old) (S.targets sink.new) (S.asked sink.new) }
+        × GainsPart (targets_due (option_map (λ s. s.now) dir.entry) due.now) (S.targets sink.old) (S.targets sink.new)
+        (words_asked S.TargetSink sink.new) }
     ensures all { result ≡ Status.WriteFault → S.faults sink.new ≡ S.faults sink.old
         → GainsAll (targets_due (option_map (λ s. s.now) dir.entry) due.now) (S.targets sink.old) (S.targets sink.new)
         × TextGainsFront due.now.text.items (T.taken out.old) (T.taken out.new) }

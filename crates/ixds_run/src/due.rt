@@ -1,9 +1,10 @@
 //! What is due, ready to be given.
 ghost use Rattle.std.specs.Prelude.{◌≡◌, ◌<◌, [], List, ℕ, Option, All, IfOk, None, map, true, false};
 ghost use Rattle.instance_out.specs.Writable.{IsWritable};
-ghost use Rattle.targets.specs.Outcomes.{CanBeWritten};
+ghost use Rattle.targets.specs.SetOutcomes.{CanBeWritten};
 ghost use Rattle.targets.specs.declared.outcome.Outcome.TheVariants.{Broken, Whole};
-ghost use Rattle.ixds_run.specs.Outcomes.{bare, bare_ready, default_len, due_of, outcome_of, status_of, text_of};
+ghost use Rattle.ixds_run.specs.DueOutcomes.{instance_lines, default_len, due_of, text_of};
+ghost use Rattle.ixds_run.specs.DueTables.{ready_lines, outcome_of, status_of};
 
 use crate::Status;
 use crate::lines::sample_text;
@@ -45,7 +46,7 @@ impl Due {
 /// Targets, ready to be written.
 fn prepared(alloc: Global, targets: &[Target]) -> Result<Vec<DueTarget>, NoMemory>
     requires { All (λ t. IsWritable t.content) targets.now }
-    ensures { IfOk result (λ v. map bare_ready v.items ≡ map bare targets.now) }
+    ensures { IfOk result (λ v. map ready_lines v.items ≡ map instance_lines targets.now) }
 {
     let mut ready = Vec::new(alloc);
     for target in targets {
@@ -58,7 +59,7 @@ fn prepared(alloc: Global, targets: &[Target]) -> Result<Vec<DueTarget>, NoMemor
 
 /// How many bytes the instance of the default target has, 0 where there is none.
 fn default_len(targets: &[DueTarget]) -> u64
-    ensures { result ≡ default_len (map bare_ready targets.now) }
+    ensures { result ≡ default_len (map ready_lines targets.now) }
 {
     for target in targets {
         if target.name.as_str().is_empty() {
@@ -75,7 +76,7 @@ fn text_of(
     ready: &[DueTarget],
     number: Option<u32>,
 ) -> Result<Vec<u8>, NoMemory>
-    requires { map bare_ready ready.now ≡ map bare targets.now }
+    requires { map ready_lines ready.now ≡ map instance_lines targets.now }
     ensures { IfOk result (λ v. v.items ≡ text_of number targets.now) }
 {
     let summary = summary(alloc, targets)?;

@@ -1,10 +1,12 @@
 //! A command, from its pages to its answer.
-ghost use Rattle.std.specs.Prelude.{◌≡◌, ◌⊎◌, ◌+◌, ◌^◌, ◌<◌, ◌≤◌, [], true, ℕ, List, IfOk, IfSome, None, Some};
+ghost use Rattle.std.specs.Prelude.{◌≡◌, ◌⊎◌, ◌+◌, ◌^◌, ◌<◌, ◌≤◌, [], true, ℕ, IsTrue, List, IfOk, IfSome, None, Some};
 ghost use Rattle.ix_base.specs.Outside.{TextGainsFront};
 ghost use Rattle.ixds_run.specs.Answers.{Answers, outside};
 ghost use Rattle.ixds_run.specs.Commands.{IsGiven, base_of, dir_of, pages_of};
-ghost use Rattle.ixds_run.specs.Gains.{GainsText};
-ghost use Rattle.ixds_run.specs.Outcomes.{Gives, GivesFront, GivesPart, IsOutcome, SaysNothing, outcome_of};
+ghost use Rattle.ixds_run.specs.Gains.{GainsText, words_asked};
+ghost use Rattle.ixds_run.specs.Deliveries.{Gives, GivesFront, GivesPart};
+ghost use Rattle.ixds_run.specs.DueOutcomes.{IsOutcome, HasBreach};
+ghost use Rattle.ixds_run.specs.DueTables.{outcome_of};
 ghost use Rattle.ixds_run.specs.Reading.{IsRead, IsSound};
 
 use crate::Status;
@@ -31,7 +33,7 @@ fn due_from<'a>(
     ensures due { IfOk result (λ due. (bs : List (List ℕ)) → IsRead bs forest.entry
         → IsOutcome command.now bs (outcome_of (dir_of command.now) due)) }
     ensures none { IfOk result (λ due. due.is_broken ≡ true → due.targets.items ≡ []) }
-    ensures nothing { IfOk result (λ due. (bs : List (List ℕ)) → IsRead bs forest.entry → SaysNothing command.now bs
+    ensures nothing { IfOk result (λ due. (bs : List (List ℕ)) → IsRead bs forest.entry → HasBreach command.now bs
         → due.targets.items ≡ []) }
 {
     said_read_back();
@@ -65,12 +67,15 @@ pub fn answer<'a, S: TargetSink, T: TextSink>(
         → (S.faults sink.new ≡ S.faults sink.old) × (T.faults out.new ≡ T.faults out.old) }
     ensures untouched { result ≡ Status.Broken → sink.new ≡ sink.old }
     ensures check { dir_of command.now ≡ None → sink.new ≡ sink.old }
-    ensures nothing { (bs : List (List ℕ)) → IsRead bs forest.entry → SaysNothing command.now bs → sink.new ≡ sink.old }
+    ensures nothing { (bs : List (List ℕ)) → IsRead bs forest.entry → HasBreach command.now bs → sink.new ≡ sink.old }
+    ensures numbers { (S.numbers sink.new ≡ S.numbers sink.old) × (T.numbers out.new ≡ T.numbers out.old) }
     ensures cause { result ≡ Status.WriteFault
         → (S.faults sink.old < S.faults sink.new) ⊎ (T.faults out.old < T.faults out.new) }
+    ensures last_text { result ≡ Status.WriteFault → S.faults sink.new ≡ S.faults sink.old → IsTrue (T.last_failed out.new) }
+    ensures last { result ≡ Status.WriteFault → S.faults sink.old < S.faults sink.new → IsTrue (S.last_failed sink.new) }
     ensures part { result ≡ Status.WriteFault → S.faults sink.old < S.faults sink.new
         → (out.new ≡ out.old) × ((bs : List (List ℕ)) → IsRead bs forest.entry
-        → GivesPart (S.targets sink.old) (S.targets sink.new) (S.asked sink.new) command.now bs) }
+        → GivesPart (S.targets sink.old) (S.targets sink.new) (words_asked S.TargetSink sink.new) command.now bs) }
     ensures all { result ≡ Status.WriteFault → S.faults sink.new ≡ S.faults sink.old
         → (bs : List (List ℕ)) → IsRead bs forest.entry
         → GivesFront (S.targets sink.old) (S.targets sink.new) (T.taken out.old) (T.taken out.new) command.now bs }
@@ -113,6 +118,8 @@ fn put_read_fault<T: TextSink>(line: &[u8], out: &mut T) -> Status
     ensures read { result ≡ Status.ReadFault → GainsText line.now (T.taken out.old) (T.taken out.new) }
     ensures quiet { result ≡ Status.ReadFault → T.faults out.new ≡ T.faults out.old }
     ensures cause { result ≡ Status.WriteFault → T.faults out.old < T.faults out.new }
+    ensures last { result ≡ Status.WriteFault → IsTrue (T.last_failed out.new) }
+    ensures numbers { T.numbers out.new ≡ T.numbers out.old }
     ensures front { result ≡ Status.WriteFault → TextGainsFront line.now (T.taken out.old) (T.taken out.new) }
 {
     match out.put(line) {

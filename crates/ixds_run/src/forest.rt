@@ -2,10 +2,11 @@
 ghost use Rattle.std.specs.Prelude.{◌≡◌, ◌+◌, ◌^◌, ◌<◌, ◌≤◌, ◌⊎◌, ◌++◌, ◌∷◌, [], ℕ, List, All, length, vec_len, None};
 ghost use Rattle.std.specs.Prelude.{IfOk, IfErr, IfSome, OnOk, OnErr, option_map};
 ghost use Rattle.ixds_run.specs.Gains.{GainsStarts};
-ghost use Rattle.ixds_run.specs.Outcomes.{AreSome};
+ghost use Rattle.ixds_run.specs.CommandBytes.{AreSome};
+ghost use Rattle.ix_base.specs.Outside.{TellsAlso};
 ghost use Rattle.page_tree.specs.Standing.{StandsFor, limit, page_number};
-ghost use Rattle.ixds_run.specs.Reading.{HasGained, HasReadCause, IsAmong, IsRead, IsSound, ReadsOn, StopsAt, StopsInTime, WhyStopped};
-ghost use Rattle.ixds_run.specs.Told.{told};
+ghost use Rattle.ixds_run.specs.Reading.{HasGained, HasReadCause, IsAmong, IsLastCall, IsRead, IsSound, ReadsOn, StopsAt, StopsInTime, WhyStopped};
+ghost use Rattle.ixds_run.specs.Sources.{told};
 
 use crate::lines::cannot_read;
 use crate::reading::{MOST_BYTES, ReadError, Sums, read_page};
@@ -97,10 +98,13 @@ fn read_on<'a, P: PageSource>(
     ensures reads { OnOk result (ReadsOn (P.page pages.old name.now) (P.left pages.new) number forest.old forest.new) }
     ensures most { OnOk result (forest.new.sums.bytes ≤ 268435456 + 65536) }
     ensures tags { OnOk result (forest.new.sums.tags ≤ forest.new.sums.bytes) }
+    ensures cause { HasReadCause (P.faults pages.old) (P.faults pages.new) result }
+    ensures failed { IsLastCall (P.last_failed pages.new) result }
     ensures named { IfSome (P.asked pages.new) (λ n. n ≡ name.now) }
     ensures starts { P.starts pages.new ≡ option_map (λ names. names ++ name.now ∷ []) (P.starts pages.old) }
     ensures pages { P.page pages.new ≡ P.page pages.old }
-    ensures cause { HasReadCause (P.faults pages.old) (P.faults pages.new) result }
+    ensures told { OnOk result (TellsAlso (P.page pages.old) name.now) }
+    ensures numbers { P.numbers pages.new ≡ P.numbers pages.old }
 {
     let mut builder = TreeBuilder::new(alloc, arena, number, DEPTH);
     read_page(pages, name, buffer, &mut builder, &mut forest.sums)?;
@@ -136,7 +140,8 @@ pub fn read_all<'a, P: PageSource>(
     ensures asked { (pages.new ≡ pages.old) ⊎ ((name : List ℕ) × IsAmong (P.page pages.old) names.now (P.asked pages.new) name) }
     ensures starts { GainsStarts names.now (P.starts pages.old) (P.starts pages.new) }
     ensures stopped { IfErr result (λ why. WhyStopped (P.page pages.old) names.now (P.asked pages.new) (P.faults pages.old)
-        (P.faults pages.new) why) }
+        (P.faults pages.new) (P.last_failed pages.new) why) }
+    ensures numbers { P.numbers pages.new ≡ P.numbers pages.old }
 {
     let Ok(mut buffer) = zeros(alloc, BUFFER) else {
         return Err(Stopped::NoMemory);
@@ -184,7 +189,10 @@ fn read_next<'a, P: PageSource>(
         ⊎ (P.starts pages.new ≡ option_map (λ names. names ++ name.now ∷ []) (P.starts pages.old)) }
     ensures pages { P.page pages.new ≡ P.page pages.old }
     ensures ok { OnOk result (P.faults pages.new ≡ P.faults pages.old) }
-    ensures stopped { IfErr result (λ why. StopsAt name.now (P.asked pages.new) (P.faults pages.old) (P.faults pages.new) why) }
+    ensures stopped { IfErr result (λ why. StopsAt name.now (P.asked pages.new) (P.faults pages.old) (P.faults pages.new)
+        (P.last_failed pages.new) why) }
+    ensures numbers { P.numbers pages.new ≡ P.numbers pages.old }
+    ensures told { OnOk result (TellsAlso (P.page pages.old) name.now) }
 {
     let Ok(line) = cannot_read(alloc, name.as_str()) else {
         return Err(Stopped::NoMemory);

@@ -2,7 +2,7 @@
 ghost use Rattle.std.specs.Prelude.{◌≡◌, ◌+◌, ◌^◌, ◌<◌, ◌≤◌, ◌⊎◌, ℕ, List, None, IfOk, IfErr, IfSome, OnOk};
 ghost use Rattle.ixds_run.specs.Commands.{IsGiven, number_of, pages_of};
 ghost use Rattle.ixds_run.specs.Gains.{GainsStarts};
-ghost use Rattle.ixds_run.specs.Outcomes.{AreSome, bytes_told};
+ghost use Rattle.ixds_run.specs.CommandBytes.{AreSome, bytes_told};
 ghost use Rattle.ixds_run.specs.Reading.{IsAmong, IsRead, IsSound, StopsInTime, WhyStopped};
 ghost use Rattle.ixds_run.specs.Sample.{sample_bytes, sample_names};
 
@@ -44,7 +44,8 @@ pub fn gathered<'a, P: PageSource>(
         ⊎ ((name : List ℕ) × IsAmong (P.page pages.old) (pages_of command.now) (P.asked pages.new) name) }
     ensures starts { GainsStarts (pages_of command.now) (P.starts pages.old) (P.starts pages.new) }
     ensures stopped { IfErr result (λ why. WhyStopped (P.page pages.old) (pages_of command.now) (P.asked pages.new) (P.faults pages.old)
-        (P.faults pages.new) why) }
+        (P.faults pages.new) (P.last_failed pages.new) why) }
+    ensures numbers { P.numbers pages.new ≡ P.numbers pages.old }
 {
     match command {
         Command::Extract(_, _, names) => read_all(alloc, arena, pages, names.as_slice()),

@@ -2,12 +2,10 @@
 ghost use Rattle.std.specs.Prelude.{◌≡◌, ◌∷◌, [], ◌<◌, ◌≤◌, ℕ, List, All, None, length, map, IfOk, ◌≢◌};
 ghost use Rattle.std.specs.Borrow.{Bor};
 ghost use Rattle.ix_base.specs.Trees.{Tree, tree_of};
-ghost use Rattle.ixds_run.specs.Sizes.{size_rule};
-ghost use Rattle.ixds_run.specs.Made.{Made};
-ghost use Rattle.ixds_run.specs.Outcomes.{AreTrees, Says};
+ghost use Rattle.targets.specs.Breaches.{size_rule, PagesComeTo, on_page, text_faults};
+ghost use Rattle.targets.specs.Forest.{AreTrees, page_set};
+ghost use Rattle.targets.specs.SetOutcomes.{ComesTo, CanBeWritten, IsReport};
 ghost use Rattle.ixds_run.specs.Reading.{HasRead, IsRead, IsSound};
-ghost use Rattle.ixds_run.specs.Told.{on_page, text_faults};
-ghost use Rattle.targets.specs.Outcomes.{CanBeWritten, IsReport};
 
 use crate::forest::Forest;
 use crate::made::{made, reported};
@@ -59,7 +57,7 @@ fn judge_kept<'a>(
     ensures broken { (bs : List (List ℕ)) → HasRead bs forest.entry → text_faults 0 bs ≢ []
         → IfOk result (IsReport names.now (text_faults 0 bs)) }
     ensures made { (bs : List (List ℕ)) → HasRead bs forest.entry → text_faults 0 bs ≡ []
-        → IfOk result (λ o. (trees : List Tree) × AreTrees bs trees × Made base.now names.now trees o) }
+        → IfOk result (λ o. (trees : List Tree) × AreTrees bs trees × ComesTo (page_set base.now names.now trees) o) }
     ensures written { IfOk result CanBeWritten }
 {
     if forest.found.is_empty() {
@@ -80,7 +78,7 @@ pub fn judge<'a>(
     requires some { 0 < length names.now }
     requires most { length names.now ≤ 64 }
     requires sound { IsSound names.now forest }
-    ensures says { IfOk result (λ o. (bs : List (List ℕ)) → IsRead bs forest.entry → Says base.now names.now bs o) }
+    ensures says { IfOk result (λ o. (bs : List (List ℕ)) → IsRead bs forest.entry → PagesComeTo base.now names.now bs o) }
     ensures written { IfOk result CanBeWritten }
 {
     match size_rule_of(forest.sums) {

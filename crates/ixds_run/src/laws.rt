@@ -1,18 +1,27 @@
 //! Laws of what words give and of what a run gives.
-ghost use Rattle.std.specs.Prelude.{◌≡◌, ◌∷◌, [], ℕ, List, Some};
+ghost use Rattle.std.specs.Prelude.{◌≡◌, ◌⊎◌, ◌∷◌, [], ℕ, List, Some};
 ghost use Rattle.std.specs.List.{flat_map};
 ghost use Rattle.std.specs.List.Sorted.{IsPermutation};
 ghost use Rattle.ix_base.specs.Breaches.{report_of};
+ghost use Rattle.ix_base.specs.MemTargets.{sink_targets};
+ghost use Rattle.ix_base.specs.MemText.{text_taken};
 ghost use Rattle.ix_base.specs.declared.breach.Breach.{Breach};
+ghost use Rattle.ixds_run.specs.Answers.{Answers, outside};
 ghost use Rattle.ixds_run.specs.Commands.{command_of, IsGiven};
-ghost use Rattle.ixds_run.specs.Outcomes.{AreReadBack, DueOutcome, IsOutcome, Says};
+ghost use Rattle.ixds_run.specs.DueOutcomes.{AreReadBack, DueOutcome, IsOutcome};
+ghost use Rattle.targets.specs.Breaches.{PagesComeTo};
+ghost use Rattle.ixds_run.specs.Deliveries.{Gives};
+ghost use Rattle.ixds_run.specs.InMemory.{AreFit, AreFull, memory_outside};
 ghost use Rattle.ixds_run.specs.Rearrangement.{Handed, bytes_of, names_of};
 ghost use Rattle.ixds_run.specs.Texts.{breach_line};
 ghost use Rattle.ixds_run.specs.declared.command.Command.{Command};
+ghost use Rattle.ixds_run.specs.declared.status.Status.{Status};
+ghost use Rattle.ixds_run.specs.declared.status.Status.TheVariants.{NoMemory};
 ghost use Rattle.targets.specs.declared.outcome.Outcome.{Outcome};
 
 use facts::laws::one_item;
 use instance_out::read_back;
+use ix_base::{MemPages, MemTargets, MemText, PageSource, TargetSink, TextSink};
 use page_tree::laws::{no_tree, one_tree, sound_tree};
 
 /// A command that words give has a base, a directory and pages that it may have.
@@ -27,7 +36,7 @@ pub fn one_line()
 
 /// The targets that pages mark are read back: the bytes of each denote its content, and nothing else.
 pub fn said_read_back()
-    ensures { (base : List ℕ) (names bs : List (List ℕ)) (o : Outcome) → Says base names bs o → AreReadBack o }
+    ensures { (base : List ℕ) (names bs : List (List ℕ)) (o : Outcome) → PagesComeTo base names bs o → AreReadBack o }
 {
     sound_tree();
     read_back();
@@ -36,7 +45,7 @@ pub fn said_read_back()
 /// Pages that are handed over in another order say the same.
 pub fn said_in_any_order()
     ensures { (base : List ℕ) (o : Outcome) (pages others : List Handed) → IsPermutation pages others
-        → Says base (names_of pages) (bytes_of pages) o → Says base (names_of others) (bytes_of others) o }
+        → PagesComeTo base (names_of pages) (bytes_of pages) o → PagesComeTo base (names_of others) (bytes_of others) o }
 {
     sound_tree();
 }
@@ -49,3 +58,18 @@ pub fn one_outcome()
     no_tree();
     one_item();
 }
+
+/// What three objects in memory tell, in the words of the traits.
+pub fn outside_in_memory(p: &MemPages, s: &MemTargets, t: &MemText)
+    ensures { outside ⟦<MemPages as PageSource>⟧ ⟦<MemTargets as TargetSink>⟧ ⟦<MemText as TextSink>⟧ p.now s.now t.now
+        ≡ memory_outside p.now s.now t.now }
+{}
+
+/// What a run answers to a command over objects in memory that are fit for it: the outcome is given, or memory is wanted, or the
+/// targets are full.
+pub fn complete_in_memory()
+    ensures { (c : Command) (bs : List (List ℕ)) (p q : MemPages) (s u : MemTargets) (t v : MemText) (status : Status) → AreFit c bs p s t
+        → Answers (Some c) (memory_outside p s t) (memory_outside q u v) (q ≡ p) (u ≡ s) (v ≡ t) status
+        → Gives status (Some (sink_targets s)) (Some (sink_targets u)) (Some (text_taken t)) (Some (text_taken v)) c bs
+        ⊎ ((status ≡ NoMemory) ⊎ AreFull u) }
+{}

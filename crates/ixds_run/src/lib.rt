@@ -55,6 +55,3 @@ pub fn run<P: PageSource, S: TargetSink, T: TextSink>(
         Ok(Some(command)) => extract(alloc, &command, pages, sink, out),
     }
 }
-
-#[cfg(test)]
-mod tests;

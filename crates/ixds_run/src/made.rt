@@ -1,8 +1,7 @@
 //! What is made of the trees of a set of pages.
-ghost use Rattle.std.specs.Prelude.{◌<◌, All, length, map, IfOk};
-ghost use Rattle.ix_base.specs.Trees.{tree_of};
-ghost use Rattle.targets.specs.Outcomes.{CanBeWritten, IsReport};
-ghost use Rattle.ixds_run.specs.Made.{AreSoundRoots, Made};
+ghost use Rattle.std.specs.Prelude.{◌<◌, All, length, IfOk};
+ghost use Rattle.targets.specs.Forest.{AreSoundRoots, page_set, trees_of};
+ghost use Rattle.targets.specs.SetOutcomes.{CanBeWritten, IsReport, ComesTo};
 
 use bumpalo::Bump;
 use ix_base::{Breaches, Element, NoMemory, Text};
@@ -28,7 +27,7 @@ pub fn made<'a>(
     roots: &[&'a Element<'a>],
 ) -> Result<Outcome, NoMemory>
     requires { AreSoundRoots 0 roots.now }
-    ensures made { IfOk result (Made base.now names.now (map (λ e. tree_of e.now) roots.now)) }
+    ensures made { IfOk result (ComesTo (page_set base.now names.now (trees_of roots.now))) }
     ensures written { IfOk result CanBeWritten }
 {
     let mut set = Set::new(alloc, arena, base)?;

@@ -1,9 +1,10 @@
 //! Reading a page into a builder of its tree.
 ghost use Rattle.std.specs.Prelude.{◌≡◌, ◌+◌, ◌^◌, ◌<◌, ◌≤◌, ◌++◌, ◌∷◌, [], ℕ, List, Option, length, vec_len, true, false};
 ghost use Rattle.std.specs.Prelude.{IsTrue, IfOk, IfSome, OnOk, option_map};
+ghost use Rattle.ix_base.specs.Outside.{TellsAlso};
 ghost use Rattle.page_tree.specs.Standing.{StandsFor, fed_bytes, limit, page_number};
-ghost use Rattle.ixds_run.specs.Sizes.{tags_in};
-ghost use Rattle.ixds_run.specs.Reading.{HasFed, HasReadCause, IsWhole};
+ghost use Rattle.targets.specs.Breaches.{tags_in};
+ghost use Rattle.ixds_run.specs.Reading.{HasFed, HasReadCause, IsLastCall, IsReadWhole};
 ghost use Rattle.ixds_run.specs.declared.reading.Sums.{Sums as SumsOf};
 
 use ix_base::PageSource;
@@ -64,6 +65,8 @@ fn read_piece<P: PageSource>(
     ensures starts { P.starts pages.new ≡ P.starts pages.old }
     ensures pages { P.page pages.new ≡ P.page pages.old }
     ensures cause { HasReadCause (P.faults pages.old) (P.faults pages.new) result }
+    ensures failed { IsLastCall (P.last_failed pages.new) result }
+    ensures numbers { P.numbers pages.new ≡ P.numbers pages.old }
 {
     let n = match pages.read(buffer) {
         Ok(n) => n,
@@ -94,7 +97,7 @@ pub fn read_page<P: PageSource>(
     requires most { sums.old.bytes ≤ 268435456 }
     requires tags { sums.old.tags ≤ sums.old.bytes }
     ensures reads { OnOk result (HasFed (P.page pages.old name.now) (P.left pages.new) builder.new sums.old sums.new) }
-    ensures whole { OnOk result (IsWhole (P.page pages.old name.now) (P.left pages.new) sums.new) }
+    ensures whole { OnOk result (IsReadWhole (P.page pages.old name.now) (P.left pages.new) sums.new) }
     ensures most { OnOk result (sums.new.bytes ≤ 268435456 + 65536) }
     ensures tags { OnOk result (sums.new.tags ≤ sums.new.bytes) }
     ensures limit { OnOk result (limit builder.new ≡ limit builder.old) }
@@ -103,6 +106,9 @@ pub fn read_page<P: PageSource>(
     ensures starts { P.starts pages.new ≡ option_map (λ names. names ++ name.now ∷ []) (P.starts pages.old) }
     ensures pages { P.page pages.new ≡ P.page pages.old }
     ensures cause { HasReadCause (P.faults pages.old) (P.faults pages.new) result }
+    ensures failed { IsLastCall (P.last_failed pages.new) result }
+    ensures numbers { P.numbers pages.new ≡ P.numbers pages.old }
+    ensures told { OnOk result (TellsAlso (P.page pages.old) name.now) }
 {
     if pages.start(name).is_err() {
         return Err(ReadError::Failed);

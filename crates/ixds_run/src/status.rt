@@ -1,6 +1,6 @@
 //! How a run ended.
 ghost use Rattle.std.specs.Prelude.{◌≡◌};
-ghost use Rattle.ixds_run.specs.Outcomes.{code_of};
+ghost use Rattle.ixds_run.specs.ExitCodes.{code_of};
 
 /// How a run ended.
 #[derive(Clone, Copy, Debug, PartialEq, Eq)]

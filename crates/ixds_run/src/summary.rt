@@ -3,7 +3,7 @@ ghost use Rattle.std.specs.Prelude.{◌≡◌, ◌+◌, ◌++◌, length, map, I
 ghost use Rattle.std.specs.Fmt.{decimal};
 ghost use Rattle.std.specs.List.{flat_map};
 ghost use Rattle.ix_base.specs.Facts.{Facts, before, facts_of};
-ghost use Rattle.ixds_run.specs.Summary.{facts_text, items_in, link_ids, note_ids, others_text, shown_name, summary_line, summary_of, tuples_in};
+ghost use Rattle.ixds_run.specs.Summary.{facts_text, item_count, link_ids, note_ids, others_text, shown_name, summary_line, summary_of, tuple_count};
 
 use ix_base::{Content, Fact, Footnote, NoMemory, NoteLink, Text, each_once};
 use std::alloc::Global;
@@ -29,8 +29,8 @@ fn one_more(count: usize) -> Result<usize, NoMemory>
 /// The counts with a fact and its members.
 #[cycle(count)]
 fn with_fact(counts: Counts, fact: &Fact) -> Result<Counts, NoMemory>
-    ensures items { IfOk result (λ c. (rest : Facts) → counts.items + items_in (before fact.now rest) ≡ c.items + items_in rest) }
-    ensures tuples { IfOk result (λ c. (rest : Facts) → counts.tuples + tuples_in (before fact.now rest) ≡ c.tuples + tuples_in rest) }
+    ensures items { IfOk result (λ c. (rest : Facts) → counts.items + item_count (before fact.now rest) ≡ c.items + item_count rest) }
+    ensures tuples { IfOk result (λ c. (rest : Facts) → counts.tuples + tuple_count (before fact.now rest) ≡ c.tuples + tuple_count rest) }
 {
     match fact {
         Fact::Item(_) => Ok(Counts {
@@ -51,8 +51,8 @@ fn with_fact(counts: Counts, fact: &Fact) -> Result<Counts, NoMemory>
 /// The counts with facts and their members.
 #[cycle(count)]
 fn with_facts(mut counts: Counts, facts: &[Fact]) -> Result<Counts, NoMemory>
-    ensures items { IfOk result (λ c. c.items ≡ counts.items + items_in (facts_of facts.now)) }
-    ensures tuples { IfOk result (λ c. c.tuples ≡ counts.tuples + tuples_in (facts_of facts.now)) }
+    ensures items { IfOk result (λ c. c.items ≡ counts.items + item_count (facts_of facts.now)) }
+    ensures tuples { IfOk result (λ c. c.tuples ≡ counts.tuples + tuple_count (facts_of facts.now)) }
 {
     for fact in facts {
         counts = with_fact(counts, fact)?;

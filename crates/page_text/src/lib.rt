@@ -35,6 +35,3 @@ pub enum TextFault {
     #[error("no memory is left")]
     NoMemory,
 }
-
-#[cfg(test)]
-mod tests;

@@ -71,6 +71,7 @@ impl<'a> TreeBuilder<'a> {
         ensures limit { limit result ≡ depth }
         ensures page { page_number result ≡ page }
         ensures fed { fed_bytes result ≡ 0 }
+        ensures spent { is_spent_of result ≡ false }
     {
         TreeBuilder {
             setting: Setting {
@@ -274,6 +275,3 @@ impl<'a> TreeBuilder<'a> {
         )
     }
 }
-
-#[cfg(test)]
-mod tests;

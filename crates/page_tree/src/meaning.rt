@@ -166,6 +166,3 @@ pub(crate) fn meant<'a, 't>(
         Kind::Text => Ok(worded(text)),
     }
 }
-
-#[cfg(test)]
-mod tests;

@@ -8,8 +8,6 @@ ghost use Rattle.ix_base.specs.Decimals.{IsUnsigned};
 ghost use Rattle.scale_sign.specs.Scaled.{IsNumber};
 
 mod parts;
-#[cfg(test)]
-mod tests;
 mod writer;
 
 use parts::{are_both_digits, are_empty};

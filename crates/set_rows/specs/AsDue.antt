@@ -3,7 +3,7 @@ use Rattle.std.specs.Prelude.{◌≡◌, Some, true, All, string_bytes}
 use Rattle.ix_base.specs.MemTargets.{sink_taken, sink_finished}
 use Rattle.ix_base.specs.MemText.{text_taken}
 use Rattle.ix_base.specs.declared.memory.targets.MemTargets.{MemTargets}
-use Rattle.ixds_run.specs.Outcomes.{code_of}
+use Rattle.ixds_run.specs.ExitCodes.{code_of}
 use Rattle.set_rows.specs.declared.due.Due.{Due}
 use Rattle.set_rows.specs.declared.due.Target.{Target}
 use Rattle.set_rows.specs.declared.outcome.Outcome.{Outcome}

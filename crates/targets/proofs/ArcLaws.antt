@@ -20,10 +20,10 @@ use Rattle.ix_base.specs.Once.{in_order}
 use Rattle.ix_base.specs.Sorted.{sorted, text_cmp}
 use Rattle.ix_base.proofs.OnceLemmas.{Contains-filter, Contains-from_filter, Contains-nil, in_order-members, in_order-sorted}
 use Rattle.ix_base.proofs.OnceOrdered.{same_text}
-use Rattle.footnotes.specs.FootnoteLinks.{arc_cmp as by_parts}
+use Rattle.footnotes.specs.FootnoteLinks.{arc_texts_cmp as by_parts}
 use Rattle.footnotes.specs.FootnoteLinks.{Between, arcs_by, arcs_in, between, ends, footnote_of, label, link_of, notes, sources}
 use Rattle.instance_out.specs.Arranged.{arranged, arranged_link, firsts}
-use Rattle.instance_out.specs.Canonical.{arc_cmp}
+use Rattle.instance_out.specs.Canonical.{arc_line_cmp}
 use Rattle.footnotes.proofs.OnceLaws.{same_arc}
 use Rattle.instance_out.specs.Elements.{arc_text, footnote_text}
 use Rattle.instance_out.specs.Holds.{all_arcs, all_notes}
@@ -181,7 +181,7 @@ pub arranged-locs : (l : NoteLink) → (arranged_link l).locs ≡ in_order text_
 unfolding arranged_link
 arranged-locs l = refl
 
-pub arranged-arcs : (l : NoteLink) → (arranged_link l).arcs ≡ in_order arc_cmp l.arcs
+pub arranged-arcs : (l : NoteLink) → (arranged_link l).arcs ≡ in_order arc_line_cmp l.arcs
 unfolding arranged_link
 arranged-arcs l = refl
 
@@ -234,7 +234,7 @@ arc-from bases es target c g a h =
     let l = from-flat (λ (l : NoteLink). l.arcs) (arranged c).notes a h in
     let m = from-links bases es target c g l.0 l.1 in
     let in_link = subst (λ (k : NoteLink). Contains k.arcs a) (sym m.2) l.2 in
-    let in_own = from-order arc_cmp m.0.arcs a (subst (λ as'. Contains as' a) (arranged-arcs m.0) in_link) in
+    let in_own = from-order arc_line_cmp m.0.arcs a (subst (λ as'. Contains as' a) (arranged-arcs m.0) in_link) in
     let x = link-arc bases es target m.0 m.1 a in_own in
     (x.0, all-between es target x.0 (arc-among es target m.1.role x.0 x.1), x.2)
 
@@ -255,12 +255,12 @@ note-from bases es target c g f h =
 -- an arc of a link stands in it as it is arranged, or one that is written alike
 pub arc-kept : (l : NoteLink) (a : Arc) → Contains l.arcs a → (b : Arc) × Contains (arranged_link l).arcs b × AreAlike a b
 arc-kept l a h =
-    let tie = in-order arc_cmp (tied_itself (on_total arc_text nat_list_cmp_total)) l.arcs a h in
+    let tie = in-order arc_line_cmp (tied_itself (on_total arc_text nat_list_cmp_total)) l.arcs a h in
     (tie.0, subst (λ as'. Contains as' tie.0) (sym (arranged-arcs l)) tie.1, same-arc a tie.0 (same_text (arc_text a) (arc_text tie.0) tie.2))
 
 -- and each that stands there is one of the link
 pub arc-own : (l : NoteLink) (a : Arc) → Contains (arranged_link l).arcs a → Contains l.arcs a
-arc-own l a h = from-order arc_cmp l.arcs a (subst (λ as'. Contains as' a) (arranged-arcs l) h)
+arc-own l a h = from-order arc_line_cmp l.arcs a (subst (λ as'. Contains as' a) (arranged-arcs l) h)
 
 -- the arcs between elements are those of their link
 pub arc-in : (bases : Located → List ℕ) (es : List Located) (target : List ℕ) (l : NoteLink) (k : IsLinkOf bases es target l) (x : Between)

@@ -21,11 +21,11 @@ use Rattle.id_table.specs.Tables.{all_located}
 use Rattle.scopes.specs.Kept.{Kept}
 use Rattle.targets.specs.declared.closing.Page.{Page}
 use Rattle.targets.specs.Faults.{faults_from}
-use Rattle.targets.specs.Holding.{AreSoundFrom, Keeps, paged}
+use Rattle.targets.specs.Holding.{AreSoundFrom, Keeps, as_paged}
 
-pub sound-trees : (n : ℕ) (pages : List Page) → AreSoundFrom n pages → All (λ p. IsSoundTree p.tree 256) (map paged pages)
+pub sound-trees : (n : ℕ) (pages : List Page) → AreSoundFrom n pages → All (λ p. IsSoundTree p.tree 256) (map as_paged pages)
 sound-trees n [] h = All-nil (λ (p : Paged). IsSoundTree p.tree 256)
-sound-trees n (p ∷ pages) h = All-cons (λ (q : Paged). IsSoundTree q.tree 256) (paged p) (map paged pages) h.0.tree (sound-trees (suc n) pages h.1)
+sound-trees n (p ∷ pages) h = All-cons (λ (q : Paged). IsSoundTree q.tree 256) (as_paged p) (map as_paged pages) h.0.tree (sound-trees (suc n) pages h.1)
 
 pub sound-push : (n : ℕ) (pages : List Page) (p : Page) → AreSoundFrom n pages → IsSoundRoot p.root.now (n + length pages) 256 → AreSoundFrom n (pages ++ p ∷ [])
 sound-push n [] p h r = (subst (λ k. IsSoundRoot p.root.now k 256) (let e : n + 0 ≡ n = omega arith in e) r, tt)
@@ -33,7 +33,7 @@ sound-push n (q ∷ pages) p h r =
     (h.0, sound-push (suc n) pages p h.1 (subst (λ k. IsSoundRoot p.root.now k 256) (let e : n + suc (length pages) ≡ suc n + length pages = omega arith in e) r))
 
 abbrev pub pages_from : ℕ → List Page → List Paged
-pages_from n pages = map paged (drop n pages)
+pages_from n pages = map as_paged (drop n pages)
 
 -- the page at this index and those behind it
 cut-at : (pages : List Page) (n : ℕ) (d : Page) → n < length pages → drop n pages ≡ get_or pages n d ∷ drop (n + 1) pages
@@ -61,8 +61,8 @@ root-page e n h = All-head (λ (p : ℕ). p ≡ n) e.place.page (flat_map pages_
 -- one more page was looked through
 pub faults-more : (pages : List Page) (n : ℕ) (p : Page) (found more : List Found) → n < length pages → p ≡ get_or pages n p → AreSoundFrom n (drop n pages)
     → more ≡ found ++ found_on p.root.now.place.page (tree_of p.root.now)
-    → found ++ faults_from n (pages_from n pages) ≡ faults_from 0 (map paged pages)
-    → more ++ faults_from (n + 1) (pages_from (n + 1) pages) ≡ faults_from 0 (map paged pages)
+    → found ++ faults_from n (pages_from n pages) ≡ faults_from 0 (map as_paged pages)
+    → more ++ faults_from (n + 1) (pages_from (n + 1) pages) ≡ faults_from 0 (map as_paged pages)
 faults-more pages n p found more h is all added before =
     let rest = faults_from (n + 1) (pages_from (n + 1) pages) in
     let here : drop n pages ≡ p ∷ drop (n + 1) pages = cut-at pages n p h ∙ ap (λ (q : Page). q ∷ drop (n + 1) pages) (sym is) in
@@ -70,7 +70,7 @@ faults-more pages n p found more h is all added before =
     let on : found_on p.root.now.place.page (tree_of p.root.now) ≡ found_on n (tree_of p.root.now) =
     ap (λ k. found_on k (tree_of p.root.now)) (root-page p.root.now n sound.0) in
     let cut : faults_from n (pages_from n pages) ≡ found_on n (tree_of p.root.now) ++ rest =
-    ap (λ (xs : List Page). faults_from n (map paged xs)) here
+    ap (λ (xs : List Page). faults_from n (map as_paged xs)) here
     ∙ ap (λ k. found_on n (tree_of p.root.now) ++ faults_from k (pages_from (n + 1) pages)) (sym (add-one n)) in
     ap (λ (xs : List Found). xs ++ rest) (added ∙ ap (λ (xs : List Found). found ++ xs) on)
     ∙ append_assoc found (found_on n (tree_of p.root.now)) rest ∙ ap (λ (xs : List Found). found ++ xs) (sym cut) ∙ before
@@ -84,26 +84,26 @@ marked-push n (q ∷ pages) p =
     ∙ ap (λ k. (page_marked n q.tree ++ marked_from (suc n) pages) ++ page_marked k p.tree) (let e : suc n + length pages ≡ n + suc (length pages) = omega arith in e)
 
 pub keeps-more : (base name : List ℕ) (root : Bor Element) (pages more : List Page) (index new_index : Held) (bases new_bases : Kept)
-    → Keeps base pages index bases → IsSoundRoot root.now (length (map paged pages)) 256
+    → Keeps base pages index bases → IsSoundRoot root.now (length (map as_paged pages)) 256
     → more ≡ pages ++ record { name = name; root = root } ∷ []
     → new_index ≡ record { spots = index.spots ++ page_marked root.now.place.page (tree_of root.now); is_spent = false }
     → new_bases ≡ record { pages = bases.pages ++ page_base base name (tree_of root.now) ∷ []; is_spent = false }
     → Keeps base more new_index new_bases
 keeps-more base name root pages more index new_index bases new_bases k sound m i b =
     let p : Page = record { name = name; root = root } in
-    let all : map paged more ≡ map paged pages ++ paged p ∷ [] = ap (map paged) m ∙ map-append paged pages (p ∷ []) in
-    let count : length (map paged pages) ≡ length pages = length-map pages paged in
+    let all : map as_paged more ≡ map as_paged pages ++ as_paged p ∷ [] = ap (map as_paged) m ∙ map-append as_paged pages (p ∷ []) in
+    let count : length (map as_paged pages) ≡ length pages = length-map pages as_paged in
     let none : length pages ≡ 0 + length pages = omega arith in
-    let zero : length (map paged pages) ≡ 0 + length (map paged pages) = omega arith in
-    let at : root.now.place.page ≡ 0 + length (map paged pages) = root-page root.now (length (map paged pages)) sound ∙ zero in
+    let zero : length (map as_paged pages) ≡ 0 + length (map as_paged pages) = omega arith in
+    let at : root.now.place.page ≡ 0 + length (map as_paged pages) = root-page root.now (length (map as_paged pages)) sound ∙ zero in
     record {
       index = i ∙ ap (λ xs. record { spots = xs; is_spent = false })
           (ap (λ (h : Held). h.spots ++ page_marked root.now.place.page (tree_of root.now)) k.index
-          ∙ ap (λ n. marked (map paged pages) ++ page_marked n (tree_of root.now)) at
-          ∙ sym (marked-push 0 (map paged pages) (paged p)) ∙ ap marked (sym all));
+          ∙ ap (λ n. marked (map as_paged pages) ++ page_marked n (tree_of root.now)) at
+          ∙ sym (marked-push 0 (map as_paged pages) (as_paged p)) ∙ ap marked (sym all));
       bases = b ∙ ap (λ xs. record { pages = xs; is_spent = false })
           (ap (λ (h : Kept). h.pages ++ page_base base name (tree_of root.now) ∷ []) k.bases
-          ∙ sym (map-append (λ (q : Paged). page_base base q.name q.tree) (map paged pages) (paged p ∷ []))
+          ∙ sym (map-append (λ (q : Paged). page_base base q.name q.tree) (map as_paged pages) (as_paged p ∷ []))
           ∙ ap (map (λ (q : Paged). page_base base q.name q.tree)) (sym all));
       sound = subst (AreSoundFrom 0) (sym m) (sound-push 0 pages p k.sound (subst (λ n. IsSoundRoot root.now n 256) (count ∙ none) sound));
     }
@@ -127,8 +127,8 @@ behind before after xs ys b a =
 pub elements-more : (pages more : List Page) (index new_index : Held) (bases new_bases : Kept) (base : List ℕ) (ys : List Located) (before after : List (Bor Spot))
     → Keeps base pages index bases → Keeps base more new_index new_bases → new_index ≡ record { spots = index.spots ++ ys; is_spent = false }
     → all_located before ≡ index.spots → all_located after ≡ new_index.spots
-    → marked (map paged pages) ++ all_located (part_from (length before) after) ≡ marked (map paged more)
+    → marked (map as_paged pages) ++ all_located (part_from (length before) after) ≡ marked (map as_paged more)
 elements-more pages more index new_index bases new_bases base ys before after k m i b a =
-    let here : index.spots ≡ marked (map paged pages) = ap (λ (h : Held). h.spots) k.index in
-    let all : new_index.spots ≡ marked (map paged pages) ++ ys = ap (λ (h : Held). h.spots) i ∙ ap (λ xs. xs ++ ys) here in
-    behind before after (marked (map paged pages)) ys (b ∙ here) (a ∙ all) ∙ sym all ∙ ap (λ (h : Held). h.spots) m.index
+    let here : index.spots ≡ marked (map as_paged pages) = ap (λ (h : Held). h.spots) k.index in
+    let all : new_index.spots ≡ marked (map as_paged pages) ++ ys = ap (λ (h : Held). h.spots) i ∙ ap (λ xs. xs ++ ys) here in
+    behind before after (marked (map as_paged pages)) ys (b ∙ here) (a ∙ all) ∙ sym all ∙ ap (λ (h : Held). h.spots) m.index

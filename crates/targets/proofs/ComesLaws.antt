@@ -28,11 +28,11 @@ use Rattle.targets.specs.declared.links.Linked.{Linked}
 use Rattle.targets.specs.declared.outcome.Outcome.{Outcome}
 use Rattle.targets.specs.declared.outcome.Outcome.TheVariants.{Broken, Whole}
 use Rattle.targets.specs.Faults.{AreOfItems, link_faults}
-use Rattle.targets.specs.Holding.{Keeps, paged}
+use Rattle.targets.specs.Holding.{Keeps, as_paged}
 use Rattle.targets.specs.Linked.{AreApart, AreOwned, IsLinked, bases_of}
-use Rattle.targets.specs.Outcomes.{IsReport}
+use Rattle.targets.specs.SetOutcomes.{IsReport}
 use Rattle.targets.specs.PageSet.{PageSet, names, page_bases}
-use Rattle.targets.specs.Redirects.{SeesAll}
+use Rattle.targets.specs.RoleAddresses.{SeesAll}
 use Rattle.targets.proofs.AboveLaws.{owner_marked}
 use Rattle.targets.proofs.ClosingLaws.{sound-trees}
 use Rattle.targets.proofs.FitLaws.{flat-none}
@@ -70,32 +70,32 @@ on-names s es ns bs n b h = subst (λ k. All (λ e. e.page < k) es) (sym (same-c
 pub keeps-on : (base : List ℕ) (pages : List Page) (index : Held) (bases : Kept) → Keeps base pages index bases
     → All (λ e. e.page < length bases.pages) index.spots
 keeps-on base pages index bases k =
-    let s : PageSet = record { base = base; pages = map paged pages } in
-    let count : length bases.pages ≡ length (map paged pages) = ap (λ (x : Kept). length x.pages) k.bases ∙ length-map (map paged pages) _ in
+    let s : PageSet = record { base = base; pages = map as_paged pages } in
+    let count : length bases.pages ≡ length (map as_paged pages) = ap (λ (x : Kept). length x.pages) k.bases ∙ length-map (map as_paged pages) _ in
     subst (λ (h : Held). All (λ e. e.page < length bases.pages) h.spots) (sym k.index)
-    (subst (λ n. All (λ (e : Located). e.page < n) (marked (map paged pages))) (sym count) (on_pages (map paged pages)))
+    (subst (λ n. All (λ (e : Located). e.page < n) (marked (map as_paged pages))) (sym count) (on_pages (map as_paged pages)))
 
 -- what was made of the links of a set
 pub is-linked : (l : Linked) (base : List ℕ) (pages : List Page) (index : Held) (bases : Kept) → Keeps base pages index bases → l.index.now ≡ index
     → l.bases.now ≡ bases → AreChainsOf l.chains index.spots → AreMembersOf l.members index.spots → AreRelationsOf l.relations index.spots
-    → SeesAll (base_in bases.pages) index.spots l.redirects → IsLinked l
-is-linked l base pages index bases k i b chains members relations redirects = record {
+    → SeesAll (base_in bases.pages) index.spots l.seen_roles → IsLinked l
+is-linked l base pages index bases k i b chains members relations seen_roles = record {
   chains = subst (λ (h : Held). AreChainsOf l.chains h.spots) (sym i) chains;
   members = subst (λ (h : Held). AreMembersOf l.members h.spots) (sym i) members;
   relations = subst (λ (h : Held). AreRelationsOf l.relations h.spots) (sym i) relations;
-  redirects = subst (λ (h : Held). SeesAll (base_in (bases_of l)) h.spots l.redirects) (sym i)
-      (subst (λ (x : Kept). SeesAll (base_in x.pages) index.spots l.redirects) (sym b) redirects);
-  apart = subst (λ (h : Held). AreApart h.spots) (sym (i ∙ k.index)) (apart (map paged pages) (sound-trees 0 pages k.sound));
-  owned = subst (λ (h : Held). AreOwned h.spots) (sym (i ∙ k.index)) (owner_marked (map paged pages));
+  seen_roles = subst (λ (h : Held). SeesAll (base_in (bases_of l)) h.spots l.seen_roles) (sym i)
+      (subst (λ (x : Kept). SeesAll (base_in x.pages) index.spots l.seen_roles) (sym b) seen_roles);
+  apart = subst (λ (h : Held). AreApart h.spots) (sym (i ∙ k.index)) (apart (map as_paged pages) (sound-trees 0 pages k.sound));
+  owned = subst (λ (h : Held). AreOwned h.spots) (sym (i ∙ k.index)) (owner_marked (map as_paged pages));
   pages = subst (λ (h : Held). All (λ e. e.page < length (bases_of l)) h.spots) (sym i)
       (subst (λ (x : Kept). All (λ e. e.page < length x.pages) index.spots) (sym b) (keeps-on base pages index bases k));
 }
 
 -- the rules on links that are found are those of the set
 pub faults-are : (base : List ℕ) (pages : List Page) (index : Held) (bases : Kept) (found : List Found) → Keeps base pages index bases
-    → SameMembers found (broken (base_in bases.pages) index.spots) → SameMembers found (link_faults (record { base = base; pages = map paged pages }))
+    → SameMembers found (broken (base_in bases.pages) index.spots) → SameMembers found (link_faults (record { base = base; pages = map as_paged pages }))
 faults-are base pages index bases found k same =
-    subst (λ (h : Held). SameMembers found (broken (base_in (page_bases (record { base = base; pages = map paged pages }))) h.spots)) k.index
+    subst (λ (h : Held). SameMembers found (broken (base_in (page_bases (record { base = base; pages = map as_paged pages }))) h.spots)) k.index
     (subst (λ (x : Kept). SameMembers found (broken (base_in x.pages) index.spots)) k.bases same)
 
 pub none-same : (xs ys : List Found) → SameMembers xs ys → xs ≡ [] → ys ≡ []
@@ -119,6 +119,6 @@ report-alike ns xs ys same (Broken r) h =
     (record { there = map-there (named ns) xs ys same.there; back = map-there (named ns) ys xs same.back })
 report-alike ns xs ys same (Whole ts) h = h
 
-pub names-are : (pages : List Page) → map (λ p. p.name) pages ≡ map (λ p. p.name) (map paged pages)
+pub names-are : (pages : List Page) → map (λ p. p.name) pages ≡ map (λ p. p.name) (map as_paged pages)
 names-are [] = refl
 names-are (p ∷ pages) = ap (λ ns. p.name ∷ ns) (names-are pages)

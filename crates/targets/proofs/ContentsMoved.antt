@@ -19,7 +19,7 @@ use Rattle.id_table.specs.Moved.{moved}
 use Rattle.id_table.proofs.Asking.{map-filter}
 use Rattle.id_table.proofs.Renumbered.{filter-same, map-same, map-twice, named-moved, owner-moved}
 use Rattle.targets.specs.Contents.{IsGathered, SaysItem, context_at, context_named, contexts_of, first_of, ids_named, is_item_of, is_linkbase_for, is_outer, linkbase_at, of_ids, role_at, role_to, roles_for, unit_at, unit_named, units_of, uris_in, roles_in, arcroles_in}
-use Rattle.targets.specs.Redirects.{refers_to}
+use Rattle.targets.specs.RoleAddresses.{refers_to}
 use Rattle.targets.specs.TargetFacts.{AreFacts}
 use Rattle.targets.proofs.FactsMoved.{facts-moved}
 use Rattle.targets.proofs.FaultsMoved.{address-moved, uri-moved}

@@ -18,7 +18,7 @@ use Rattle.facts.specs.ItemValue.{IsItem}
 use Rattle.footnotes.proofs.NotesSame.{IsPermutation-flat_map, filter-moved, notes-same, texts-same}
 use Rattle.id_table.proofs.Rearranged.{asks-same}
 use Rattle.targets.specs.Contents.{IsGathered, context_at, context_named, contexts_of, first_of, ids_named, is_item_of, is_linkbase_for, is_outer, linkbase_at, of_ids, role_at, role_to, roles_for, unit_at, unit_named, units_of, uris_in, roles_in, arcroles_in}
-use Rattle.targets.specs.Redirects.{refers_to}
+use Rattle.targets.specs.RoleAddresses.{refers_to}
 use Rattle.targets.specs.TargetFacts.{AreFacts}
 use Rattle.targets.proofs.ContentsMoved.{given-same}
 use Rattle.targets.proofs.FactsMoved.{facts-same}

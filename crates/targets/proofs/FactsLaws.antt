@@ -1,14 +1,14 @@
 -- The facts of elements, one by one.
-use Rattle.std.proofs.Common.{◌≡◌, ◌∙◌, ℕ, suc, Bool, true, false, List, [], ◌∷◌, ◌++◌, Option, ap, refl, subst, sym}
+use Rattle.std.proofs.Common.{◌≡◌, ◌∙◌, ℕ, zero, suc, Bool, true, false, List, [], ◌∷◌, ◌++◌, Option, ap, map, refl, subst, sym}
 use Rattle.ix_base.specs.declared.content.Fact.{Fact}
 use Rattle.ix_base.specs.declared.content.Fact.TheVariants as fact
 use Rattle.ix_base.specs.declared.content.Item.{Item}
 use Rattle.ix_base.specs.declared.content.OwnName.{OwnName}
 use Rattle.ix_base.specs.declared.content.Tuple.{Tuple}
-use Rattle.ix_base.specs.Facts.{Facts, before, facts_of, tuple}
+use Rattle.ix_base.specs.Facts.{Facts, before, facts_of, item, joined, none, tuple}
 use Rattle.ix_base.specs.Ids.{id_of}
 use Rattle.ix_base.specs.Located.{Located, is_nil, is_tuple}
-use Rattle.ix_base.specs.Membership.{fact_name, members}
+use Rattle.ix_base.specs.Membership.{fact_by, fact_name, members, within}
 use Rattle.ix_base.proofs.FactLaws.{before-Item, before-Tuple}
 use Rattle.targets.specs.TargetFacts.{AreFacts, IsFactOf, members_read, one_less}
 
@@ -55,3 +55,27 @@ pub tuple-before : (t : Tuple) (name : OwnName) (id : Option (List ℕ)) (nil : 
 tuple-before t name id nil members n i b m rest =
     before-Tuple t rest ∙ ap (λ x. tuple x t.id t.nil (facts_of t.members) rest) n ∙ ap (λ x. tuple name x t.nil (facts_of t.members) rest) i
     ∙ ap (λ x. tuple name id x (facts_of t.members) rest) b ∙ ap (λ (x : List Fact). tuple name id nil (facts_of x) rest) m
+
+-- The facts, where a function tells what items say.
+module _ (Says : Located → Item → Type 0) (items : Located → Item) (one : (e : Located) (i : Item) → is_tuple e ≡ false → Says e i → i ≡ items e)
+    (all : List Located) where
+  abbrev given : ℕ → Located → Facts → Facts
+  given n e = fact_by (is_tuple e) items (within items all n) e
+
+  inside : (n : ℕ) (t : Located) → joined (map (given (one_less n)) (members_read n all t)) ≡ within items all n t
+  inside zero t = refl
+  inside (suc n) t = refl
+
+  pub facts-given : (n : ℕ) (es : List Located) (facts : Facts) → AreFacts Says all n es facts → facts ≡ joined (map (given n) es)
+  facts-given n [] none h = refl
+  facts-given n [] (item i rest) h = absurd h
+  facts-given n [] (tuple name id nil members rest) h = absurd h
+  facts-given n (e ∷ es) none h = absurd h
+  facts-given n (e ∷ es) (item i rest) h =
+      let more = facts-given n es rest h.2 in
+      (λ j. item (one e i h.0 h.1 j) (more j)) ∙ sym (ap (λ b. fact_by b items (within items all n) e (joined (map (given n) es))) h.0)
+  facts-given n (e ∷ es) (tuple name id nil members rest) h =
+      let here = facts-given (one_less n) (members_read n all e) members h.4 ∙ inside n e in
+      let more = facts-given n es rest h.5 in
+      (λ j. tuple (h.1 j) (h.2 j) (h.3 j) (here j) (more j))
+      ∙ sym (ap (λ b. fact_by b items (within items all n) e (joined (map (given n) es))) h.0)

@@ -170,12 +170,6 @@ module _ (bases : Located → List ℕ) (es : List Located) (target : List ℕ) 
   some-arcs : not (is_empty kept.arcs) ≡ true
   some-arcs = let a = arc-kept l k.some.arc (arc-in bases es target l k k.some k.some_there) in not-empty kept.arcs a.0 a.1
 
-  starts-within : is_within (map (λ (a : Arc). a.from_id) kept.arcs) kept.locs ≡ true
-  starts-within = within-from (map (λ (a : Arc). a.from_id) kept.arcs) kept.locs (λ id h.
-      let a = from-map (λ (a : Arc). a.from_id) kept.arcs id h in
-      let x = arc-between a.0 a.1 in
-      subst (Contains kept.locs) (sym (from-named es target x.0 (between-of x.0 x.1)) ∙ ap (λ (y : Arc). y.from_id) x.2 ∙ a.2) (from-there x.0 x.1))
-
   ends-within : is_within (arc_ends kept) (kept.locs ++ note_ids kept) ≡ true
   ends-within = within-from (arc_ends kept) (kept.locs ++ note_ids kept) (λ id h.
       let all = kept.locs ++ note_ids kept in
@@ -256,9 +250,8 @@ whole-link : (s : PageSet) → IsClean s → (target : List ℕ) (c : Content) �
 whole-link s clean target c have l k =
     let bases = base_at s in
     let es = elements s in
-    and_from _ _ (and_from _ _ (and_from _ _ (and_from _ _
+    and_from _ _ (and_from _ _ (and_from _ _
     (some-arcs bases es target l k)
-    (starts-within bases es target l k))
     (ends-within bases es target l k))
     (all-ends bases es target l k))
     (locs-within s clean target c have l k)

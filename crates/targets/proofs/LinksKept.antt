@@ -15,7 +15,7 @@ use Rattle.ix_base.specs.LinkRules.{address_of, breaks, broken, found_at, lacks_
 use Rattle.ix_base.specs.Located.{Located, is_kind, is_text}
 use Rattle.ix_base.specs.Rows.{row}
 use Rattle.ix_base.proofs.OnceLemmas.{Contains-filter, Contains-from_filter, Contains-nil}
-use Rattle.targets.specs.Redirects.{refers_to}
+use Rattle.targets.specs.RoleAddresses.{refers_to}
 use Rattle.targets.proofs.FitLaws.{flat-none, row-none}
 use Rattle.targets.proofs.MemberLaws.{from-map}
 

@@ -16,7 +16,7 @@ use Rattle.ix_base.specs.Sorted.{sorted, text_cmp}
 use Rattle.ix_base.specs.Written.{Markup}
 use Rattle.ix_base.proofs.OnceLemmas.{in_order-sorted}
 use Rattle.instance_out.specs.Arranged.{arranged, arranged_link, by_line}
-use Rattle.instance_out.specs.Canonical.{Spaces, arc_cmp, arcrole_markup, content_spaces, fact_markups, line, line_cmp, linkbase_markup, role_markup, schema_markup}
+use Rattle.instance_out.specs.Canonical.{Spaces, arc_line_cmp, arcrole_markup, content_spaces, fact_markups, line, line_cmp, linkbase_markup, role_markup, schema_markup}
 use Rattle.instance_out.specs.Elements.{arc_text, fact_markup}
 use Rattle.instance_out.specs.Holds.{said_spaces}
 use Rattle.instance_out.specs.Lists.{rises, strictly}
@@ -72,8 +72,8 @@ link-up bases es target l k =
     let locs = ap (strictly text_cmp) (arranged-locs l) ∙ strictly-is text_cmp (in_order text_cmp l.locs) (in_order-sorted nat_list_cmp_total l.locs) in
     let notes = ap (strictly by_note) (link-notes bases es target l k ∙ ap (λ (m : NoteLink). m.footnotes) k.is)
     ∙ strictly-is by_note _ (link-strict bases es k.role (arcs_of es target k.role)) in
-    let arcs = ap (strictly arc_cmp) (arranged-arcs l) ∙ strictly-is arc_cmp (in_order arc_cmp l.arcs) (in_order-sorted (on_total arc_text nat_list_cmp_total) l.arcs) in
-    and_from _ (strictly arc_cmp (arranged_link l).arcs)
+    let arcs = ap (strictly arc_line_cmp) (arranged-arcs l) ∙ strictly-is arc_line_cmp (in_order arc_line_cmp l.arcs) (in_order-sorted (on_total arc_text nat_list_cmp_total) l.arcs) in
+    and_from _ (strictly arc_line_cmp (arranged_link l).arcs)
     (and_from (strictly text_cmp (arranged_link l).locs) (strictly by_note (arranged_link l).footnotes) locs notes) arcs
 
 fits-of : (bases : Located → List ℕ) (es : List Located) (target : List ℕ) (c : Content) → IsGathered bases es target c → lists_fit (said_of (arranged c)) ≡ true

@@ -9,7 +9,7 @@ use Rattle.ix_base.specs.LinkRules.{address_of}
 use Rattle.ix_base.specs.Located.{Located}
 use Rattle.targets.specs.declared.addresses.Seen.{Seen}
 use Rattle.targets.specs.Contents.{first_of, role_at, role_to, roles_for}
-use Rattle.targets.specs.Redirects.{AreSeen, refers_to, role_seen, seen_from}
+use Rattle.targets.specs.RoleAddresses.{AreSeen, refers_to, role_seen, seen_from}
 use Rattle.targets.proofs.RedirectLaws.{seen-some}
 
 -- the address that is kept is the first one

@@ -13,7 +13,7 @@ use Rattle.targets.specs.declared.outcome.Target.{Target}
 use Rattle.targets.specs.Clean.{AreProper, IsClean}
 use Rattle.targets.specs.Contents.{IsContent}
 use Rattle.targets.specs.Faults.{element_faults, link_faults}
-use Rattle.targets.specs.Outcomes.{ComesOfValues, ComesTo, FirstOf, IsReport, IsWhole}
+use Rattle.targets.specs.SetOutcomes.{ComesOfValues, ComesTo, FirstOf, IsReport, ComesToTargets}
 use Rattle.targets.specs.PageSet.{PageSet, base_at, elements, names}
 use Rattle.targets.proofs.BodiesFit.{bodies-fit}
 use Rattle.targets.proofs.FormFits.{forms-fit}
@@ -43,7 +43,7 @@ module _ (s : PageSet) (clean : IsClean s) where
     bodies = bodies-fit s clean target c is;
   }
 
-  whole-proper : (o : Outcome) → IsWhole s o → AreProper o
+  whole-proper : (o : Outcome) → ComesToTargets s o → AreProper o
   whole-proper (Broken report) h = tt
   whole-proper (Whole targets) h = All-weaker (λ (t : Target). IsContent (base_at s) (elements s) t.name t.content)
       (λ (t : Target). Proper (said_of t.content)) (λ t is. proper-content t.name t.content is) targets h.contents
@@ -62,4 +62,4 @@ pub comes-proper : (s : PageSet) → All (λ p. IsSoundTree p.tree 256) s.pages 
 comes-proper s sound o h =
     first-proper (names s) (element_faults s) (FirstOf (names s) (link_faults s) (ComesOfValues s)) o
     (λ e. first-proper (names s) (link_faults s) (ComesOfValues s) o
-    (λ l v. first-proper (names s) v.0 (IsWhole s) o (λ n w. whole-proper s (record { sound = sound; elements = e; links = l }) o w) v.2)) h
+    (λ l v. first-proper (names s) v.0 (ComesToTargets s) o (λ n w. whole-proper s (record { sound = sound; elements = e; links = l }) o w) v.2)) h

@@ -31,7 +31,7 @@ use Rattle.targets.specs.declared.outcome.Target.{Target}
 use Rattle.targets.specs.Clean.{IsClean}
 use Rattle.targets.specs.Contents.{IsContent, target_names, targets_at}
 use Rattle.targets.specs.Faults.{AreOfItems, AreValueFaults, element_faults, faults_from, link_faults}
-use Rattle.targets.specs.Outcomes.{ComesOfValues, ComesTo, FirstOf, IsWhole}
+use Rattle.targets.specs.SetOutcomes.{ComesOfValues, ComesTo, FirstOf, ComesToTargets}
 use Rattle.targets.specs.PageSet.{PageSet, asked, base_at, elements, names}
 use Rattle.targets.proofs.ContentsMoved.{gathered-moved}
 use Rattle.targets.proofs.ContentsShuffled.{gathered-shuffled}
@@ -115,7 +115,7 @@ module _ (s t : PageSet) (is : IsRenumbered s t) where
         let one : c ≡ d = one-text c d (proper-content s here target c h) (proper-content t there target d that) (ap canon h.2 ∙ same-canon h.0 next.0 next.2) in
         (next.0, next.1, one)
 
-    whole-moved : (o : Outcome) → IsWhole s o → IsWhole t o
+    whole-moved : (o : Outcome) → ComesToTargets s o → ComesToTargets t o
     whole-moved (Broken report) h = absurd h
     whole-moved (Whole targets) h = record {
       names = h.names ∙ names-same;
@@ -134,7 +134,7 @@ module _ (s t : PageSet) (is : IsRenumbered s t) where
         let more = values-of v.0 v.1 in (
           more.0,
           more.1,
-          first v.0 more.0 more.2 (IsWhole s) (IsWhole t) o
+          first v.0 more.0 more.2 (ComesToTargets s) (ComesToTargets t) o
               (λ n m w. whole-moved (record { sound = here; elements = e; links = l }) (record { sound = there; elements = f; links = k }) o w) v.2,
         ))) h
 

@@ -19,8 +19,8 @@ use Rattle.ix_base.specs.Kinds.{kind_of, same_kind}
 use Rattle.ix_base.specs.LinkRules.{address_of, are_some, has_two_addresses, redirects, uri_by, uri_of}
 use Rattle.ix_base.specs.Located.{Located, is_kind, is_text}
 use Rattle.targets.specs.declared.addresses.Seen.{Seen}
-use Rattle.targets.specs.declared.addresses.Redirects.{Redirects}
-use Rattle.targets.specs.Redirects.{AreSeen, SeesAll, refers_to, seen_at, seen_from, seen_with}
+use Rattle.targets.specs.declared.addresses.SeenRoles.{SeenRoles}
+use Rattle.targets.specs.RoleAddresses.{AreSeen, SeesAll, refers_to, seen_at, seen_from, seen_with}
 use Rattle.targets.proofs.MemberLaws.{any-passes, in-map, passes-any}
 
 -- noting some more addresses behind others
@@ -159,7 +159,7 @@ module _ (bases : Located → List ℕ) (es : List Located) (e : Located) where
   not-so : {S : Type 0} (m : IndexMap (Bor (List ℕ)) Seen S) (k : Kind) → is_kind k e ≡ false → seen-two m k e ≡ false
   not-so m k h = ap (λ b. b && option_map_or (λ uri. two-of (seen_at m uri)) (uri_of e) false) h
 
-  by-kind : (r : Redirects) → SeesAll bases es r → Contains es e → (k : Kind) → kind_of e.placed ≡ k
+  by-kind : (r : SeenRoles) → SeesAll bases es r → Contains es e → (k : Kind) → kind_of e.placed ≡ k
       → (seen-two r.roles kind.RoleRef e || seen-two r.arcroles kind.ArcroleRef e) ≡ goes
   by-kind r sees at kind.RoleRef is =
       ap (λ b. seen-two r.roles kind.RoleRef e || b) (not-so r.arcroles kind.ArcroleRef (ap (λ l. same_kind l kind.ArcroleRef) is))
@@ -174,6 +174,6 @@ module _ (bases : Located → List ℕ) (es : List Located) (e : Located) where
       ∙ sym (ap (λ l. is_some (uri_by l e) && are_some (asks es) (redirects bases e)) is)
 
   -- what is seen of both tables is whether the reference is to a role that has two addresses
-  pub both-seen : (r : Redirects) → SeesAll bases es r → Contains es e
+  pub both-seen : (r : SeenRoles) → SeesAll bases es r → Contains es e
       → (seen-two r.roles kind.RoleRef e || seen-two r.arcroles kind.ArcroleRef e) ≡ has_two_addresses bases (asks es) e
   both-seen r sees at = by-kind r sees at (kind_of e.placed) refl

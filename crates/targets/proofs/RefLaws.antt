@@ -35,7 +35,7 @@ use Rattle.instance_out.specs.Lists.{of_option}
 use Rattle.targets.specs.Clean.{IsClean}
 use Rattle.targets.specs.Contents.{IsContent, first_of, if_any, is_linkbase_for, linkbase_at, role_at, role_to}
 use Rattle.targets.specs.PageSet.{PageSet, base_at, elements}
-use Rattle.targets.specs.Redirects.{refers_to}
+use Rattle.targets.specs.RoleAddresses.{refers_to}
 use Rattle.targets.proofs.AllowedLaws.{allowed-nil}
 use Rattle.targets.proofs.FitLaws.{none-broken, not-not}
 use Rattle.targets.proofs.HoldLaws.{IsGood, good-token}

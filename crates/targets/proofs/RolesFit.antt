@@ -31,7 +31,7 @@ use Rattle.ix_base.specs.Said.{said_of}
 use Rattle.targets.specs.Clean.{IsClean}
 use Rattle.targets.specs.Contents.{IsContent, IsGathered, arcroles_in, first_of, role_at, role_to, roles_for, roles_in, uris_in}
 use Rattle.targets.specs.PageSet.{PageSet, base_at, elements}
-use Rattle.targets.specs.Redirects.{refers_to}
+use Rattle.targets.specs.RoleAddresses.{refers_to}
 use Rattle.targets.proofs.ArcLaws.{all-links, arc-kept, arranged-role, in-links, link-notes}
 use Rattle.targets.proofs.HasLaws.{any-none, from-order, once-from}
 use Rattle.targets.proofs.MemberLaws.{from-flat, from-given, from-map, in-flat, in-map, within-from}

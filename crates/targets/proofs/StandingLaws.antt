@@ -1,22 +1,60 @@
 -- How links stand with one more element, and with one more link.
 use Rattle.std.proofs.Common.{◌≡◌, ◌∙◌, ap, refl, subst, sym, ℕ, suc, ◌+◌, ◌-◌, ◌≤◌, Bool, true, false, cond, List, [], ◌∷◌, ◌++◌, inl, inr, length, Option, Some, None, arith, append-nil, length-append}
-use Rattle.std.specs.Prelude.{◌&&◌, ◌||◌, bytes_eq, not, if◌then◌else◌}
+use Rattle.std.specs.Prelude.{◌&&◌, ◌||◌, bytes_eq, is_some, not, if◌then◌else◌}
 use Rattle.std.specs.List.{filter}
 use Rattle.std.specs.Option.{option_map_or}
 use Rattle.std.proofs.lemmas.List.Elements.{filter-append}
 use Rattle.std.proofs.lemmas.Slice.Eq.{bytes_eq-Decides}
-use Rattle.ix_base.specs.Ids.{id_of, tuple_id_of}
+use Rattle.ix_base.specs.Asks.{asks, only}
+use Rattle.ix_base.specs.Ids.{holds_id, holds_tuple_id, id_of, one, one_tuple, tuple_id_of}
 use Rattle.ix_base.specs.Located.{Located, is_text}
 use Rattle.std.specs.Borrow.{Bor}
 use Rattle.indexmap.specs.IndexMap.{IndexMap}
 use Rattle.targets.specs.declared.standing.Links.{Links}
 use Rattle.targets.specs.declared.standing.Named.{Named}
-use Rattle.targets.specs.Standing.{AreLinked, Counts, GoesOn, Known, link_stands, counts_of, found_in, named_in, named_of, named_once_more, nothing, link_by, with_holder, with_link, Link, Stands, pending, resolved, doubled, holder_by, is_doubled, is_pending, is_tuple_ref, names_id, names_tuple_id, standing, stands_among, stands_by, stands_with}
+use Rattle.targets.specs.LinkTables.{AreLinked, Counts, Known, counts_of, found_in, named_in, named_of, named_once_more, nothing, link_by, with_holder, with_link, holder_by, names_id, names_tuple_id, stands_with}
+use Rattle.targets.specs.LinkStates.{GoesOn, holder, link_stands, Link, Stands, pending, resolved, doubled, is_doubled, is_pending, is_tuple_ref, standing, stands_among, stands_by}
 
 one-more : (xs : List Located) (e : Located) → stands_by (xs ++ e ∷ []) ≡ stands_with (stands_by xs) e
 one-more [] e = refl
 one-more (x ∷ []) e = refl
 one-more (x ∷ y ∷ xs) e = refl
+
+-- resolved with the only one
+pub resolved-only : (xs : List Located) (e : Located) → stands_by xs ≡ resolved e → only xs ≡ Some e
+resolved-only [] e h = absurd (let z : true ≡ false = ap is_pending h in cc)
+resolved-only (x ∷ []) e h = ap to h
+  where
+    to : Stands → Option Located
+    to (resolved y) = Some y
+    to s = None
+resolved-only (x ∷ y ∷ xs) e h = absurd (let z : true ≡ false = ap is_doubled h in cc)
+
+pub only-resolved : (xs : List Located) (e : Located) → only xs ≡ Some e → stands_by xs ≡ resolved e
+only-resolved [] e h = absurd (let z : false ≡ true = ap is_some h in cc)
+only-resolved (x ∷ []) e h = ap to h
+  where
+    to : Option Located → Stands
+    to (Some y) = resolved y
+    to None = pending
+only-resolved (x ∷ y ∷ xs) e h = absurd (let z : false ≡ true = ap is_some h in cc)
+
+-- a link that is resolved, and the one that has its id
+pub one-holder : (es : List Located) (l : Link) (e : Located) → link_stands es l ≡ resolved e → holder es l ≡ Some e
+one-holder es l e = by (is_tuple_ref l.attribute)
+  where
+    by : (b : Bool) → (if b then standing tuple_id_of es l.id else standing id_of es l.id) ≡ resolved e
+        → (if b then one_tuple (asks es) l.id else one (asks es) l.id) ≡ Some e
+    by true h = resolved-only (filter (holds_tuple_id l.id) es) e h
+    by false h = resolved-only (filter (holds_id l.id) es) e h
+
+pub holder-one : (es : List Located) (l : Link) (e : Located) → holder es l ≡ Some e → link_stands es l ≡ resolved e
+holder-one es l e = by (is_tuple_ref l.attribute)
+  where
+    by : (b : Bool) → (if b then one_tuple (asks es) l.id else one (asks es) l.id) ≡ Some e
+        → (if b then standing tuple_id_of es l.id else standing id_of es l.id) ≡ resolved e
+    by true h = only-resolved (filter (holds_tuple_id l.id) es) e h
+    by false h = only-resolved (filter (holds_id l.id) es) e h
 
 -- how an id stands with one more element
 pub stands-more : (own : Located → Option (List ℕ)) (es : List Located) (e : Located) (q : List ℕ)

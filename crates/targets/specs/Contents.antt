@@ -29,7 +29,7 @@ use Rattle.ix_base.specs.UnitForm.{unit}
 use Rattle.facts.specs.ItemValue.{IsItem, unit_of}
 use Rattle.footnotes.specs.FootnoteLinks.{notes}
 use Rattle.instance_out.specs.Arranged.{arranged}
-use Rattle.targets.specs.Redirects.{refers_to}
+use Rattle.targets.specs.RoleAddresses.{refers_to}
 use Rattle.targets.specs.TargetFacts.{AreFacts}
 
 -- an element that has a target of its own

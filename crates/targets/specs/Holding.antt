@@ -16,8 +16,8 @@ pub record HeldSet : Type 0 where
   pub held : PageSet
   pub is_spent : Bool
 
-abbrev pub paged : Page → Paged
-paged p = record { name = p.name; tree = tree_of p.root.now }
+abbrev pub as_paged : Page → Paged
+as_paged p = record { name = p.name; tree = tree_of p.root.now }
 
 -- the roots are sound, and of pages numbered on from this number
 abbrev pub AreSoundFrom : ℕ → List Page → Type 0
@@ -26,12 +26,12 @@ AreSoundFrom n (p ∷ ps) = IsSoundRoot p.root.now n 256 × AreSoundFrom (suc n)
 
 -- the set has an index of its pages and their bases, and their roots are sound
 pub record Keeps (base : List ℕ) (pages : List Page) (i : Held) (b : Kept) : Type 0 where
-  pub index : i ≡ record { spots = marked (map paged pages); is_spent = false }
-  pub bases : b ≡ record { pages = page_bases (record { base = base; pages = map paged pages }); is_spent = false }
+  pub index : i ≡ record { spots = marked (map as_paged pages); is_spent = false }
+  pub bases : b ≡ record { pages = page_bases (record { base = base; pages = map as_paged pages }); is_spent = false }
   pub sound : AreSoundFrom 0 pages
 
 abbrev pub set_of : Pages → PageSet
-set_of p = record { base = p.base.now; pages = map paged p.pages.now }
+set_of p = record { base = p.base.now; pages = map as_paged p.pages.now }
 
 abbrev pub KeepsAll : Pages → Type 0
 KeepsAll p = Keeps p.base.now p.pages.now p.index.now p.bases.now

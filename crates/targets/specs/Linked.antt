@@ -13,7 +13,7 @@ use Rattle.footnotes.specs.Kept.{AreRelationsOf}
 use Rattle.tuples.specs.Kept.{AreMembersOf}
 use Rattle.targets.specs.Contents.{SaysItem}
 use Rattle.targets.specs.declared.links.Linked.{Linked}
-use Rattle.targets.specs.Redirects.{SeesAll}
+use Rattle.targets.specs.RoleAddresses.{SeesAll}
 
 abbrev pub all_of : Linked → List Located
 all_of l = l.index.now.spots
@@ -34,7 +34,7 @@ pub record IsLinked (l : Linked) : Type 0 where
   pub chains : AreChainsOf l.chains (all_of l)
   pub members : AreMembersOf l.members (all_of l)
   pub relations : AreRelationsOf l.relations (all_of l)
-  pub redirects : SeesAll (base_in (bases_of l)) (all_of l) l.redirects
+  pub seen_roles : SeesAll (base_in (bases_of l)) (all_of l) l.seen_roles
   pub apart : AreApart (all_of l)
   pub owned : AreOwned (all_of l)
   pub pages : All (λ e. e.page < length (bases_of l)) (all_of l)

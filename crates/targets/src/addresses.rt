@@ -16,7 +16,7 @@ ghost use Rattle.ix_base.specs.declared.rule.Rule.TheVariants.{L17};
 ghost use Rattle.id_table.specs.Held.{asked};
 ghost use Rattle.id_table.specs.Tables.{all_located};
 ghost use Rattle.targets.specs.Faults.{redirected_at};
-ghost use Rattle.targets.specs.Redirects.{AreSeen, SeesAll, refers_to, seen_at, seen_from, seen_with};
+ghost use Rattle.targets.specs.RoleAddresses.{AreSeen, SeesAll, refers_to, seen_at, seen_from, seen_with};
 ghost use Rattle.targets.specs.Seen.{AreOnPages};
 
 use id_table::Index;
@@ -181,32 +181,32 @@ fn has_two<'a>(roles: &Roles<'a>, kind: Kind, spot: &Spot<'a>) -> bool
 
 /// What is seen of the roles and of the arcroles of a set.
 #[derive(Drop)]
-pub(crate) struct Redirects<'a> {
+pub(crate) struct SeenRoles<'a> {
     pub(crate) roles: Roles<'a>,
     pub(crate) arcroles: Roles<'a>,
 }
 
-fn redirects_of<'a>(
+fn seen_roles_of<'a>(
     alloc: Global,
     bases: &Bases,
     spots: &[&'a Spot<'a>],
-) -> Result<Redirects<'a>, NoMemory>
+) -> Result<SeenRoles<'a>, NoMemory>
     requires { AreOnPages bases.now.pages spots.now }
     ensures { IfOk result (SeesAll (base_in bases.now.pages) (all_located spots.now)) }
 {
-    Ok(Redirects {
+    Ok(SeenRoles {
         roles: roles_of(alloc, bases, Kind::RoleRef, spots)?,
         arcroles: roles_of(alloc, bases, Kind::ArcroleRef, spots)?,
     })
 }
 
 /// Whether a reference is to a role, or to an arcrole, that has two addresses.
-fn is_redirected<'a>(redirects: &Redirects<'a>, spot: &Spot<'a>) -> bool
-    ensures { (bases : Located → List ℕ) (es : List Located) → SeesAll bases es redirects.now → Contains es (located spot.now)
+fn is_redirected<'a>(seen_roles: &SeenRoles<'a>, spot: &Spot<'a>) -> bool
+    ensures { (bases : Located → List ℕ) (es : List Located) → SeesAll bases es seen_roles.now → Contains es (located spot.now)
         → result ≡ rules.has_two_addresses bases (asks es) (located spot.now) }
 {
-    has_two(&redirects.roles, Kind::RoleRef, spot)
-        || has_two(&redirects.arcroles, Kind::ArcroleRef, spot)
+    has_two(&seen_roles.roles, Kind::RoleRef, spot)
+        || has_two(&seen_roles.arcroles, Kind::ArcroleRef, spot)
 }
 
 /// Adds a reference to a role, or to an arcrole, that has two addresses.
@@ -226,15 +226,15 @@ pub(crate) fn add_redirected<'a>(
     index: &Index<'a>,
     bases: &Bases,
     found: &mut Breaches,
-) -> Result<Redirects<'a>, NoMemory>
+) -> Result<SeenRoles<'a>, NoMemory>
     requires { All (λ e. e.page < length bases.now.pages) index.now.spots }
     ensures seen { IfOk result (SeesAll (base_in bases.now.pages) index.now.spots) }
     ensures faults { OnOk result (found.new
         ≡ found.old ++ flat_map (redirected_at (base_in bases.now.pages) (asked index.now)) index.now.spots) }
 {
-    let redirects = redirects_of(alloc, bases, index.spots())?;
+    let seen_roles = seen_roles_of(alloc, bases, index.spots())?;
     for spot in index.spots() {
-        add_if_redirected(spot, is_redirected(&redirects, spot), found)?;
+        add_if_redirected(spot, is_redirected(&seen_roles, spot), found)?;
     }
-    Ok(redirects)
+    Ok(seen_roles)
 }

@@ -4,7 +4,7 @@ ghost use Rattle.targets.specs.Faults.{element_faults, link_faults};
 ghost use Rattle.targets.specs.Holding.{KeepsAll, set_of};
 ghost use Rattle.targets.specs.Linked.{IsLinked, IsShallow, IsValued, all_of, bases_of};
 ghost use Rattle.ix_base.specs.Located.{base_in};
-ghost use Rattle.targets.specs.Outcomes.{AreAllTargets, CanBeWritten, ComesOfValues, ComesTo, FirstOf, IsReport};
+ghost use Rattle.targets.specs.SetOutcomes.{AreAllTargets, CanBeWritten, ComesOfValues, ComesTo, FirstOf, IsReport};
 ghost use Rattle.targets.specs.PageSet as spec;
 ghost use Rattle.targets.specs.PageSet.{elements, page_bases};
 

@@ -17,7 +17,7 @@ ghost use Rattle.targets.specs.Contents as spec;
 ghost use Rattle.targets.specs.Contents.{IsContent, IsGathered, target_names};
 ghost use Rattle.targets.specs.Groups.{AreGroups, ref_by};
 ghost use Rattle.targets.specs.Linked.{IsLinked, IsShallow, IsValued, SaysIn, all_of, bases_of};
-ghost use Rattle.targets.specs.Outcomes.{AreTargets};
+ghost use Rattle.targets.specs.SetOutcomes.{AreTargets};
 ghost use Rattle.targets.specs.Seen.{AreOnPages, values_of};
 ghost use Rattle.targets.specs.TargetFacts.{AreFacts};
 

@@ -23,10 +23,7 @@ pub(crate) enum Group {
 pub(crate) fn is_fact(spot: &Spot<'_>) -> bool
     ensures { result ≡ kinds.is_fact (located spot.now) }
 {
-    matches!(
-        kind_of(spot),
-        Kind::NonFraction | Kind::NonNumeric | Kind::Fraction | Kind::Tuple
-    )
+    ix_base::is_fact(kind_of(spot))
 }
 
 /// The target of the element right above.

@@ -13,9 +13,9 @@ ghost use Rattle.id_table.specs.Tables.{all_located, spots_at};
 ghost use Rattle.tuples.specs.Fits.{fits};
 ghost use Rattle.tuples.specs.Kept.{AreMembersOf};
 ghost use Rattle.targets.specs.Faults.{refs_at};
-ghost use Rattle.targets.specs.Redirects.{SeesAll};
+ghost use Rattle.targets.specs.RoleAddresses.{SeesAll};
 
-use crate::addresses::{Redirects, add_redirected};
+use crate::addresses::{SeenRoles, add_redirected};
 use crate::groups::{Group, grouped, is_fact};
 use bumpalo::Bump;
 use continuations::{Chains, link};
@@ -36,7 +36,7 @@ pub(crate) struct Linked<'s, 'a> {
     pub(crate) chains: Chains<'a>,
     pub(crate) members: Members<'a>,
     pub(crate) relations: Relations<'a>,
-    pub(crate) redirects: Redirects<'a>,
+    pub(crate) seen_roles: SeenRoles<'a>,
 }
 
 /// Adds the items whose context isn't there, and the numbers whose unit isn't there.
@@ -98,7 +98,7 @@ pub(crate) fn link_all<'s, 'a>(
     ensures chains { IfOk result (λ l. found.new ≡ [] → AreChainsOf l.chains index.now.spots) }
     ensures members { IfOk result (λ l. AreMembersOf l.members index.now.spots) }
     ensures relations { IfOk result (λ l. AreRelationsOf l.relations index.now.spots) }
-    ensures redirects { IfOk result (λ l. SeesAll (base_in bases.now.pages) index.now.spots l.redirects) }
+    ensures seen_roles { IfOk result (λ l. SeesAll (base_in bases.now.pages) index.now.spots l.seen_roles) }
     ensures index { IfOk result (λ l. l.index ≡ index.entry) }
     ensures bases { IfOk result (λ l. l.bases ≡ bases.entry) }
 {
@@ -108,13 +108,13 @@ pub(crate) fn link_all<'s, 'a>(
     let members = membership(alloc, arena, index, found)?;
     let relations = relate(alloc, arena, index, found)?;
     add_lacking_schema(alloc, index, found)?;
-    let redirects = add_redirected(alloc, index, bases, found)?;
+    let seen_roles = add_redirected(alloc, index, bases, found)?;
     Ok(Linked {
         index,
         bases,
         chains,
         members,
         relations,
-        redirects,
+        seen_roles,
     })
 }

@@ -6,7 +6,7 @@ ghost use Rattle.ix_base.specs.declared.kind.Kind.TheVariants as kind;
 ghost use Rattle.footnotes.specs.FootnoteLinks as footnote_links;
 ghost use Rattle.targets.specs.Contents as spec;
 ghost use Rattle.targets.specs.Linked.{IsLinked, all_of, bases_of};
-ghost use Rattle.targets.specs.Redirects.{role_seen};
+ghost use Rattle.targets.specs.RoleAddresses.{role_seen};
 ghost use Rattle.targets.specs.Seen.{values_of};
 
 use crate::addresses::Roles;
@@ -125,7 +125,7 @@ pub(crate) fn roles_for(
 {
     let mut uris = each_role(alloc, links)?;
     each_once(&mut uris);
-    references_for(alloc, &linked.redirects.roles, uris.as_slice())
+    references_for(alloc, &linked.seen_roles.roles, uris.as_slice())
 }
 
 /// The references for the arcroles that links use.
@@ -140,5 +140,5 @@ pub(crate) fn arcroles_for(
 {
     let mut uris = each_arcrole(alloc, links)?;
     each_once(&mut uris);
-    references_for(alloc, &linked.redirects.arcroles, uris.as_slice())
+    references_for(alloc, &linked.seen_roles.arcroles, uris.as_slice())
 }

@@ -3,9 +3,9 @@ ghost use Rattle.std.specs.Prelude.{◌≡◌, ◌++◌, ◌∷◌, [], length, 
 ghost use Rattle.ix_base.specs.Sound.{IsSoundRoot};
 ghost use Rattle.ix_base.specs.Trees.{tree_of};
 ghost use Rattle.targets.specs.Clean.{AreProper};
-ghost use Rattle.targets.specs.Outcomes.{CanBeWritten, ComesTo, ComesToAlways};
+ghost use Rattle.targets.specs.SetOutcomes.{CanBeWritten, ComesTo, ComesToAlways};
 ghost use Rattle.targets.specs.PageSet.{elements};
-ghost use Rattle.targets.specs.Standing.{doubled_links, pending_links};
+ghost use Rattle.targets.specs.LinkStates.{doubled_links, pending_links};
 
 use crate::closing::{Page, Pages, closed};
 use crate::outcome::Outcome;
@@ -36,17 +36,17 @@ pub struct Set<'a> {
 impl<'a> Model for Set<'a> {
     ghost use Rattle.std.specs.Prelude.{◌≡◌, false, map};
     ghost use Rattle.ix_base.specs.Located.{marked};
-    ghost use Rattle.targets.specs.Holding.{HeldSet, Keeps, held_code, paged};
-    ghost use Rattle.targets.specs.Standing.{AreLinks};
+    ghost use Rattle.targets.specs.Holding.{HeldSet, Keeps, held_code, as_paged};
+    ghost use Rattle.targets.specs.LinkTables.{AreLinks};
 
     ghost Value = { HeldSet };
 
     ghost coded = { held_code };
 
-    ghost view = { λ s. record { held = record { base = s.base; pages = map paged s.pages.items }; is_spent = s.is_spent } };
+    ghost view = { λ s. record { held = record { base = s.base; pages = map as_paged s.pages.items }; is_spent = s.is_spent } };
 
     ghost invariant = { λ s. s.is_spent ≡ false
-        → Keeps s.base s.pages.items s.index s.bases × AreLinks (marked (map paged s.pages.items)) s.links };
+        → Keeps s.base s.pages.items s.index s.bases × AreLinks (marked (map as_paged s.pages.items)) s.links };
 }
 
 impl<'a> Set<'a> {

@@ -11,8 +11,10 @@ ghost use Rattle.ix_base.specs.Located.{Located, is_continuation, is_kind, is_st
 ghost use Rattle.ix_base.specs.declared.kind.Kind.TheVariants as kinds;
 ghost use Rattle.ix_base.specs.NcName.{is_ncname as spec_is_ncname};
 ghost use Rattle.id_table.specs.Tables.{all_located};
-ghost use Rattle.targets.specs.Standing as spec;
-ghost use Rattle.targets.specs.Standing.{AreLinked, AreLinks, AreOfSome, AreSomeLinks, Link, found_in, links_from, named_of, named_in, stands_with};
+ghost use Rattle.targets.specs.LinkStates as states;
+ghost use Rattle.targets.specs.LinkTables as tables;
+ghost use Rattle.targets.specs.LinkTables.{AreLinked, AreLinks, AreOfSome, AreSomeLinks, found_in, named_of, named_in, stands_with};
+ghost use Rattle.targets.specs.LinkStates.{Link, links_from};
 
 use crate::groups::is_fact;
 use crate::values::is_item;
@@ -76,7 +78,7 @@ fn tuple_id_at<'a>(spot: &Spot<'a>) -> Option<&'a str>
 
 /// How an id stands with one more element that has it.
 fn with_holder<'a>(standing: Standing<'a>, spot: &'a Spot<'a>) -> Standing<'a>
-    ensures { spec.stands_in result ≡ stands_with (spec.stands_in standing.entry) (located spot.entry.now) }
+    ensures { tables.stands_in result ≡ stands_with (tables.stands_in standing.entry) (located spot.entry.now) }
 {
     match standing {
         Standing::Pending => Standing::Resolved(spot),
@@ -110,7 +112,7 @@ fn keep<'a>(names: &mut Names<'a>, id: &'a str, named: Named<'a>) -> Result<(), 
 fn name_once_more<'a>(names: &mut Names<'a>, id: &'a str) -> Result<Named<'a>, NoMemory>
     ensures before { IfOk result (λ n. named_of n ≡ named_in names.old id.entry.now) }
     ensures kept { OnOk result ((q : List ℕ) → named_in names.new q
-        ≡ (if bytes_eq q id.entry.now then spec.named_once_more (named_in names.old q) else named_in names.old q)) }
+        ≡ (if bytes_eq q id.entry.now then tables.named_once_more (named_in names.old q) else named_in names.old q)) }
 {
     let before = known(names, id);
     let links = before.links.checked_add(1).ok_or(NoMemory)?;
@@ -147,7 +149,7 @@ fn is_number(spot: &Spot<'_>) -> bool
 
 /// The one id that an attribute of an element names, where the element may have it.
 fn single_at<'a>(attribute: LinkAttribute, spot: &Spot<'a>) -> Option<&'a str>
-    ensures { option_map (λ s. s.now) result ≡ spec.single_at attribute (located spot.now) }
+    ensures { option_map (λ s. s.now) result ≡ states.single_at attribute (located spot.now) }
 {
     match attribute {
         LinkAttribute::ContinuedAt => continued_at(spot),
@@ -160,7 +162,7 @@ fn single_at<'a>(attribute: LinkAttribute, spot: &Spot<'a>) -> Option<&'a str>
 
 /// The list of ids that an attribute of an element names, where the element may have it.
 fn list_at<'a>(attribute: LinkAttribute, spot: &Spot<'a>) -> Option<&'a str>
-    ensures { option_map (λ s. s.now) result ≡ spec.list_at attribute (located spot.now) }
+    ensures { option_map (λ s. s.now) result ≡ states.list_at attribute (located spot.now) }
 {
     if kind_of(spot) != Kind::Relationship {
         return None;
@@ -202,7 +204,7 @@ fn ids_at<'a>(
     attribute: LinkAttribute,
     spot: &Spot<'a>,
 ) -> Result<Vec<&'a str>, NoMemory>
-    ensures { IfOk result (λ v. map (λ s. s.now) v.items ≡ spec.ids_at attribute (located spot.now)) }
+    ensures { IfOk result (λ v. map (λ s. s.now) v.items ≡ states.ids_at attribute (located spot.now)) }
 {
     let mut ids = Vec::new(alloc);
     if let Some(id) = single_at(attribute, spot) {
@@ -244,8 +246,8 @@ impl<'a> Links<'a> {
 
     /// The links that wait for an id are resolved, where it has its first holder, and doubled at its second.
     fn count_holder(&mut self, named: Named<'a>) -> Result<(), NoMemory>
-        requires { spec.is_pending (named_of named).stands ≡ true → named.links ≤ self.old.pending }
-        ensures counts { OnOk result (spec.counts_of self.new ≡ spec.with_holder (named_of named.entry) (spec.counts_of self.old)) }
+        requires { states.is_pending (named_of named).stands ≡ true → named.links ≤ self.old.pending }
+        ensures counts { OnOk result (tables.counts_of self.new ≡ tables.with_holder (named_of named.entry) (tables.counts_of self.old)) }
         ensures same { (self.new.ids ≡ self.old.ids) × (self.new.tuple_ids ≡ self.old.tuple_ids) }
     {
         match named.standing {
@@ -260,7 +262,7 @@ impl<'a> Links<'a> {
 
     /// A link comes to an id.
     fn count_link(&mut self, named: Named<'a>) -> Result<(), NoMemory>
-        ensures counts { OnOk result (spec.counts_of self.new ≡ spec.with_link (named_of named.entry) (spec.counts_of self.old)) }
+        ensures counts { OnOk result (tables.counts_of self.new ≡ tables.with_link (named_of named.entry) (tables.counts_of self.old)) }
         ensures same { (self.new.ids ≡ self.old.ids) × (self.new.tuple_ids ≡ self.old.tuple_ids) }
     {
         match named.standing {

@@ -11,7 +11,7 @@ ghost use Rattle.ix_base.specs.declared.rule.Rule.{Rule as RuleOf};
 ghost use Rattle.std.specs.Prelude.{Result as ResultOf};
 ghost use Rattle.ix_base.specs.declared.breach.Found.{Found};
 ghost use Rattle.facts.specs.ItemValue.{IsItem};
-ghost use Rattle.facts.specs.Said.{said};
+ghost use Rattle.facts.specs.Verdicts.{said};
 ghost use Rattle.id_table.specs.Tables.{all_located};
 ghost use Rattle.targets.specs.Faults.{AreOfItems, fault_by, rule_said, value_fault};
 ghost use Rattle.targets.specs.Linked.{IsLinked, IsValued, all_of, bases_of};

@@ -85,6 +85,3 @@ pub fn one_value()
 pub fn one_month()
     ensures { (l : Language) (text : List ℕ) (m n : ℕ) → IsNameIn (names l) text m → IsNameIn (names l) text n → m ≡ n }
 {}
-
-#[cfg(test)]
-mod tests;

@@ -1,19 +1,18 @@
-//! The formats of numbers and the fixed formats: which value the text of a fact has in each.
+//! The formats of numbers and the fixed formats of the registries 3 and 4: which value the text of a fact has in each.
 #![tactic(auto)]
 
-ghost use Rattle.std.specs.Prelude.{◌≡◌, ◌≢◌, ◌+◌, ◌≤◌, IfSome, IfNone, ℕ, List, length, take};
+ghost use Rattle.std.specs.Prelude.{◌≡◌, ◌≢◌, ◌+◌, ◌≤◌, IfSome, IfNone, IsTrue, ℕ, List, Some, false, length, take};
 ghost use Rattle.std.specs.Str.{chars, IsUtf8};
 ghost use Rattle.tr4_numbers.specs.declared.FixedFormat.{FixedFormat};
 ghost use Rattle.tr4_numbers.specs.declared.NumberFormat.{NumberFormat};
-ghost use Rattle.tr4_numbers.specs.Transformation.{IsValue, IsFixedValue};
-ghost use Rattle.tr4_numbers.specs.Names.{number_name, fixed_name};
+ghost use Rattle.tr4_numbers.specs.Transformation.{IsValue, IsFixedValue, Takes, fixed_value};
+ghost use Rattle.tr4_numbers.specs.Names.{number_name, fixed_name, number_name_3, fixed_name_3};
+ghost use Rattle.tr4_numbers.specs.Reading.{reads_dash};
 ghost use Rattle.tr4_numbers.specs.Values.{IsUnsignedDecimal};
 
 mod reader;
-#[cfg(test)]
-mod tests;
 
-use reader::{first, may_end, next, sort_of, write_added, write_last};
+use reader::{first, is_dash, is_dropped, may_end, next, sort_of, write_added, write_last};
 
 /// How the digits of a number are grouped, and where its point stands.
 #[derive(Clone, Copy, Debug, PartialEq, Eq, Hash)]
@@ -27,7 +26,7 @@ pub enum NumberFormat {
 }
 
 impl NumberFormat {
-    /// The format with this local name.
+    /// The format with this local name in registry 4.
     pub fn named(local: &str) -> Option<NumberFormat>
         ensures found { IfSome result (λ format. local.now ≡ number_name format) }
         ensures none { IfNone result ((format : NumberFormat) → local.now ≢ number_name format) }
@@ -39,26 +38,41 @@ impl NumberFormat {
             _ => None,
         }
     }
+
+    /// The format with this local name in registry 3.
+    pub fn named3(local: &str) -> Option<NumberFormat>
+        ensures found { IfSome result (λ format. local.now ≡ number_name_3 format) }
+        ensures none { IfNone result ((format : NumberFormat) → local.now ≢ number_name_3 format) }
+    {
+        match local {
+            "numdotdecimal" => Some(NumberFormat::Dot),
+            "numcommadecimal" => Some(NumberFormat::Comma),
+            "numunitdecimal" => Some(NumberFormat::Unit),
+            _ => None,
+        }
+    }
 }
 
-/// A format that takes any text and gives one value.
+/// A format that gives one value to each text that it takes. All but `ZeroDash` take any text.
 #[derive(Clone, Copy, Debug, PartialEq, Eq, Hash)]
 pub enum FixedFormat {
-    /// `fixed-empty`: the empty text.
+    /// `fixed-empty`, in registry 3 `nocontent`: the empty text.
     Empty,
-    /// `fixed-false`: `false`.
+    /// `fixed-false`, in registry 3 `booleanfalse`: `false`.
     False,
-    /// `fixed-true`: `true`.
+    /// `fixed-true`, in registry 3 `booleantrue`: `true`.
     True,
-    /// `fixed-zero`: `0`.
+    /// `fixed-zero`, in registry 4 alone: `0`.
     Zero,
+    /// `zerodash`, in registry 3 alone: `0` of a dash.
+    ZeroDash,
 }
 
 impl FixedFormat {
-    /// The format with this local name.
+    /// The format with this local name in registry 4.
     pub fn named(local: &str) -> Option<FixedFormat>
-        ensures found { IfSome result (λ format. local.now ≡ fixed_name format) }
-        ensures none { IfNone result ((format : FixedFormat) → local.now ≢ fixed_name format) }
+        ensures found { IfSome result (λ format. Some local.now ≡ fixed_name format) }
+        ensures none { IfNone result ((format : FixedFormat) → Some local.now ≢ fixed_name format) }
     {
         match local {
             "fixed-empty" => Some(FixedFormat::Empty),
@@ -69,17 +83,60 @@ impl FixedFormat {
         }
     }
 
-    /// The value of every text in this format.
+    /// The format with this local name in registry 3.
+    pub fn named3(local: &str) -> Option<FixedFormat>
+        ensures found { IfSome result (λ format. Some local.now ≡ fixed_name_3 format) }
+        ensures none { IfNone result ((format : FixedFormat) → Some local.now ≢ fixed_name_3 format) }
+    {
+        match local {
+            "nocontent" => Some(FixedFormat::Empty),
+            "booleanfalse" => Some(FixedFormat::False),
+            "booleantrue" => Some(FixedFormat::True),
+            "zerodash" => Some(FixedFormat::ZeroDash),
+            _ => None,
+        }
+    }
+
+    /// The value of every text that this format takes.
     pub fn value(self) -> &'static str
-        ensures { (text : List ℕ) → IsFixedValue self text result.now }
+        ensures { result.now ≡ fixed_value self }
     {
         match self {
             FixedFormat::Empty => "",
             FixedFormat::False => "false",
             FixedFormat::True => "true",
-            FixedFormat::Zero => "0",
+            FixedFormat::Zero | FixedFormat::ZeroDash => "0",
         }
     }
+
+    /// Whether this format takes the text. All take any but `ZeroDash`, which takes one dash, with white space and spaces
+    /// around it. It takes no memory.
+    pub fn accepts(self, text: &str) -> bool
+        ensures yes { IsTrue result → Takes self (chars text.now) }
+        ensures no { result ≡ false → ¬ Takes self (chars text.now) }
+    {
+        match self {
+            FixedFormat::ZeroDash => is_one_dash(text),
+            _ => true,
+        }
+    }
+}
+
+/// Whether the text is one dash, beside what is dropped at the ends of numbers.
+fn is_one_dash(text: &str) -> bool
+    ensures { result ≡ reads_dash false (chars text.now) }
+{
+    let mut was_read = false;
+    for c in text.chars() {
+        if is_dropped(c) {
+            continue;
+        }
+        if was_read || !is_dash(c) {
+            return false;
+        }
+        was_read = true;
+    }
+    was_read
 }
 
 /// Writes the value that the format gives the text to the front of `out`, and gives its length in bytes. None where

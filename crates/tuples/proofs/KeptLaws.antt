@@ -13,7 +13,7 @@ use Rattle.ix_base.specs.Located.{Located, located}
 use Rattle.ix_base.specs.Membership as spec
 use Rattle.ix_base.specs.declared.tree.Spot.{Spot}
 use Rattle.id_table.specs.Tables.{all_located, spots_at}
-use Rattle.tuples.specs.declared.slices.Slice.{Slice}
+use Rattle.tuples.specs.declared.slice.Slice.{Slice}
 use Rattle.tuples.specs.Grouped.{is_key}
 use Rattle.tuples.specs.Kept.{Kept, listed, owner_by, tuple_at, tuples_in}
 use Rattle.tuples.specs.Slices.{lists_in, members_in, slice_at}

@@ -1,3 +1,4 @@
+pub mod AboveLaws
 pub mod Adding
 pub mod DeepLaws
 pub mod Each
@@ -7,5 +8,6 @@ pub mod KeptLaws
 pub mod MemberLaws
 pub mod OrderLaws
 pub mod RankLaws
+pub mod RisingLaws
 pub mod SliceLaws
 pub mod TieLaws

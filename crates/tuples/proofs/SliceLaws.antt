@@ -12,7 +12,7 @@ use Rattle.ix_base.specs.Asks.{asks}
 use Rattle.ix_base.specs.Located.{Located, is_fact}
 use Rattle.ix_base.specs.Sorted.{sorted}
 use Rattle.tuples.specs.declared.fact.Fact.{Fact}
-use Rattle.tuples.specs.declared.slices.Slice.{Slice}
+use Rattle.tuples.specs.declared.slice.Slice.{Slice}
 use Rattle.tuples.specs.Grouped.{group_at}
 use Rattle.tuples.specs.Grouping.{members_at, AreGrouped}
 use Rattle.tuples.specs.Known.{all_seen, fact_cmp, is_owned_at, IsKnown}

@@ -11,7 +11,7 @@ use Rattle.ix_base.specs.Located.{Located, offset_of}
 use Rattle.ix_base.specs.Membership.{members, nearest_tuple, owner, tuple_ref_of}
 use Rattle.ix_base.specs.declared.tree.Spot.{Spot}
 use Rattle.id_table.specs.HeldCodes.{located_code}
-use Rattle.id_table.specs.Tables.{all_located}
+use Rattle.id_table.specs.Tables.{all_located, spots_at, AreOnOwnPages}
 use Rattle.tuples.specs.Grouped.{is_key}
 
 pub record Kept : Type 0 where
@@ -38,6 +38,10 @@ owner_in k e = owner_by k e (tuple_ref_of e)
 pub record AreMembersOf (k : Kept) (es : List Located) : Type 0 where
   pub members : (t : Located) → listed k t.page (offset_of t) ≡ members es t
   pub owners : (e : Located) → owner_in k e ≡ owner (asks es) e
+
+-- what stands above each spot of the table is of its page
+abbrev pub AreAllOnOwnPages : {S : Type 0} → IndexMap (Bor (List ℕ)) (Vec (Bor Spot) Global) S → Type 0
+AreAllOnOwnPages m = (id : List ℕ) → AreOnOwnPages (spots_at m id)
 
 -- tuples by their tuple ids
 abbrev pub tuples_in : {S : Type 0} → IndexMap (Bor (List ℕ)) (Vec (Bor Spot) Global) S → List (List ℕ × List Located)

@@ -5,5 +5,6 @@ pub mod Grouping
 pub mod Kept
 pub mod Known
 pub mod Owners
+pub mod Rising
 pub mod Slices
 pub mod Tests

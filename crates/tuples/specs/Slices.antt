@@ -3,7 +3,7 @@ use Rattle.std.specs.Prelude.{ℕ, Bool, true, false, List, map, Option, Some, N
 use Rattle.indexmap.specs.IndexMap.{IndexMap, get_by}
 use Rattle.ix_base.specs.Located.{Located}
 use Rattle.id_table.specs.Tables.{all_located}
-use Rattle.tuples.specs.declared.slices.Slice.{Slice}
+use Rattle.tuples.specs.declared.slice.Slice.{Slice}
 use Rattle.tuples.specs.Grouped.{is_key}
 
 -- the members that a slice has

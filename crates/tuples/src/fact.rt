@@ -3,6 +3,7 @@ ghost use Rattle.std.specs.Prelude.{◌≡◌, true, option_map};
 ghost use Rattle.ix_base.specs.Located as kinds;
 ghost use Rattle.ix_base.specs.Located.{located};
 ghost use Rattle.ix_base.specs.Membership.{order_of};
+ghost use Rattle.ix_base.specs.Spots.{IsOnOnePage};
 ghost use Rattle.tuples.specs.Fits.{is_number};
 
 use ix_base::Spot;
@@ -20,6 +21,7 @@ pub(crate) struct Fact<'a> {
     pub spot: &'a Spot<'a>,
     pub order: Option<&'a str>,
     pub owner: Option<Owner<'a>>,
+    pub ghost on_page: { IsOnOnePage spot.now },
     pub ghost is_fact: { kinds.is_fact (located spot.now) ≡ true },
     pub ghost is_its: { option_map (λ s. s.now) order ≡ order_of (located spot.now) },
     pub ghost is_decimal: { is_number (option_map (λ s. s.now) order) ≡ true },

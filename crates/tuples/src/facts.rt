@@ -3,6 +3,7 @@ ghost use Rattle.std.specs.Prelude.{◌≡◌, ◌++◌, OnOk, IfOk, All, true, 
 ghost use Rattle.ix_base.specs.Located as kinds;
 ghost use Rattle.ix_base.specs.Located.{located};
 ghost use Rattle.ix_base.specs.Membership as spec;
+ghost use Rattle.ix_base.specs.Spots.{IsOnOnePage};
 ghost use Rattle.id_table.specs.Held.{asked};
 ghost use Rattle.tuples.specs.Fits.{fits};
 ghost use Rattle.tuples.specs.Known.{seen, all_seen, IsKnown};
@@ -10,16 +11,13 @@ ghost use Rattle.tuples.specs.Known.{seen, all_seen, IsKnown};
 use crate::fact::Fact;
 use crate::owners::owner_of;
 use id_table::Index;
-use ix_base::{Kind, NoMemory, Spot, kind_of, token_at};
+use ix_base::{NoMemory, Spot, kind_of, token_at};
 use std::alloc::Global;
 
 pub(crate) fn is_fact(spot: &Spot<'_>) -> bool
     ensures { result ≡ kinds.is_fact (located spot.now) }
 {
-    matches!(
-        kind_of(spot),
-        Kind::NonFraction | Kind::NonNumeric | Kind::Fraction | Kind::Tuple
-    )
+    ix_base::is_fact(kind_of(spot))
 }
 
 fn order_of<'a>(spot: &Spot<'a>) -> Option<&'a str>
@@ -32,6 +30,7 @@ fn order_of<'a>(spot: &Spot<'a>) -> Option<&'a str>
 fn fact_of<'a>(index: &Index<'a>, spot: &'a Spot<'a>) -> Fact<'a>
     requires fact { kinds.is_fact (located spot.now) ≡ true }
     requires fits { fits (located spot.now) ≡ true }
+    requires page { IsOnOnePage spot.now }
     ensures seen { seen result ≡ located spot.entry.now }
     ensures known { IsKnown (asked index.now) result }
 {
@@ -49,6 +48,7 @@ fn push_if_fact<'a>(
     facts: &mut Vec<Fact<'a>>,
 ) -> Result<(), NoMemory>
     requires fits { fits (located spot.now) ≡ true }
+    requires page { IsOnOnePage spot.now }
     requires known { All (IsKnown (asked index.now)) facts.old.items }
     ensures seen { OnOk result (all_seen facts.new.items ≡ all_seen facts.old.items ++ filter kinds.is_fact (located spot.entry.now ∷ [])) }
     ensures known { OnOk result (All (IsKnown (asked index.now)) facts.new.items) }

@@ -11,16 +11,15 @@ mod decimals;
 mod fact;
 mod facts;
 mod groups;
+pub mod laws;
 mod linking;
 mod members;
 mod owners;
 mod rules;
+mod slice;
 mod slices;
 mod sorting;
 mod ties;
 
 pub use linking::membership;
 pub use members::Members;
-
-#[cfg(test)]
-mod tests;

@@ -1,22 +1,24 @@
 //! The members of tuples, and the owners of facts.
-ghost use Rattle.std.specs.Prelude.{◌≡◌, ℕ, List, [], All, IfOk, filter, option_map};
+ghost use Rattle.std.specs.Prelude.{◌≡◌, ℕ, List, [], All, IfOk, IfSome, filter, option_map};
 ghost use Rattle.std.specs.Option.{option_map_or};
 ghost use Rattle.ix_base.specs.Asks.{only};
 ghost use Rattle.ix_base.specs.Elements.{placed};
 ghost use Rattle.ix_base.specs.Ids as ids;
 ghost use Rattle.ix_base.specs.Located.{is_fact, located, offset_of};
 ghost use Rattle.ix_base.specs.Membership as spec;
+ghost use Rattle.ix_base.specs.Spots.{IsOnOnePage};
 ghost use Rattle.id_table.specs.Held.{asked};
-ghost use Rattle.id_table.specs.Tables.{all_located, spots_at};
+ghost use Rattle.id_table.specs.Tables.{all_located, spots_at, AreOnOwnPages};
 ghost use Rattle.tuples.specs.Grouping.{AreGrouped};
-ghost use Rattle.tuples.specs.Kept.{listed, owner_in, AreMembersOf};
+ghost use Rattle.tuples.specs.Kept.{listed, owner_in, AreAllOnOwnPages, AreMembersOf};
 ghost use Rattle.tuples.specs.Known.{all_seen, IsKnown};
 ghost use Rattle.tuples.specs.Slices.{members_in, slice_at};
 
 use crate::fact::Fact;
 use crate::groups::Groups;
 use crate::owners::{is_tuple, nearest_tuple, tuple_ref};
-use crate::slices::{Slice, Slices, slices_of};
+use crate::slice::Slice;
+use crate::slices::{Slices, slices_of};
 use bumpalo::Bump;
 use id_table::{Holders, Index, enter};
 use indexmap::IndexMap;
@@ -34,7 +36,7 @@ pub struct Members<'a> {
 }
 
 impl<'a> Model for Members<'a> {
-    ghost use Rattle.tuples.specs.Kept.{kept_code, tuples_in, Kept};
+    ghost use Rattle.tuples.specs.Kept.{kept_code, tuples_in, AreAllOnOwnPages, Kept};
     ghost use Rattle.tuples.specs.Slices.{lists_in};
 
     ghost Value = { Kept };
@@ -42,6 +44,8 @@ impl<'a> Model for Members<'a> {
     ghost coded = { kept_code };
 
     ghost view = { λ m. record { lists = lists_in m.slices; tuples = tuples_in m.tuples } };
+
+    ghost invariant = { λ m. AreAllOnOwnPages m.tuples };
 }
 
 /// The tuple id of a tuple.
@@ -56,8 +60,9 @@ fn tuple_id_of<'a>(spot: &Spot<'a>) -> Option<&'a str>
 
 /// The tuples by their tuple ids.
 fn tuples_of<'a>(alloc: Global, index: &Index<'a>) -> Result<Holders<'a>, NoMemory>
-    ensures { IfOk result (λ m. (id : List ℕ)
+    ensures tuples { IfOk result (λ m. (id : List ℕ)
         → option_map (λ s. located s.now) (only (spots_at m id)) ≡ ids.one_tuple (asked index.now) id) }
+    ensures pages { IfOk result (λ m. AreAllOnOwnPages m) }
 {
     let mut tuples = IndexMap::new(alloc);
     for spot in index.spots() {
@@ -85,7 +90,8 @@ fn slice_in<'a>(slices: &Slices<'a>, key: (u32, u64)) -> Option<Slice<'a>>
 
 /// The members that are kept at a place.
 fn spots_in<'a>(slices: &Slices<'a>, key: (u32, u64)) -> &'a [&'a Spot<'a>]
-    ensures { all_located result.now ≡ option_map_or (λ l. l) (slice_at slices.now key.0 key.1) [] }
+    ensures members { all_located result.now ≡ option_map_or (λ l. l) (slice_at slices.now key.0 key.1) [] }
+    ensures pages { AreOnOwnPages result.now }
 {
     let none = Slice { spots: &[] };
     slice_in(slices, key).unwrap_or(none).spots
@@ -101,25 +107,35 @@ fn place_of(spot: &Spot<'_>) -> (u32, u64)
 
 /// The nearest tuple around an element.
 fn tuple_around<'a>(spot: &Spot<'a>) -> Option<&'a Spot<'a>>
-    ensures { option_map (λ s. placed s.now) result
+    ensures placed { option_map (λ s. placed s.now) result
         ≡ option_map (λ o. o.placed) (spec.nearest_tuple (located spot.now).page (located spot.now).placed.above) }
+    ensures located { IsOnOnePage spot.now → option_map (λ s. located s.now) result
+        ≡ spec.nearest_tuple (located spot.now).page (located spot.now).placed.above }
+    ensures page { IsOnOnePage spot.now → IfSome result (λ s. IsOnOnePage s.now) }
 {
-    let owner = nearest_tuple(spot.element.place.page, spot.up)?;
-    Some(owner.spot)
+    match nearest_tuple(spot.element.place.page, spot.up) {
+        Some(owner) => Some(owner.spot),
+        None => None,
+    }
 }
 
 impl<'a> Members<'a> {
     /// The members of a tuple by rising order, those that tie as they came, and those without one behind all others. It
     /// takes no memory.
     pub fn of(&self, tuple: &Spot<'a>) -> &'a [&'a Spot<'a>]
-        ensures { all_located result.now ≡ listed self.now (located tuple.now).page (offset_of (located tuple.now)) }
+        ensures members { all_located result.now ≡ listed self.now (located tuple.now).page (offset_of (located tuple.now)) }
+        ensures pages { AreOnOwnPages result.now }
     {
         spots_in(&self.slices, place_of(tuple))
     }
 
     /// The tuple that owns a fact, none where there is none: the element and those around it. It takes no memory.
     pub fn owner(&self, fact: &Spot<'a>) -> Option<&'a Spot<'a>>
-        ensures { option_map (λ s. placed s.now) result ≡ option_map (λ o. o.placed) (owner_in self.now (located fact.now)) }
+        ensures placed { option_map (λ s. placed s.now) result ≡ option_map (λ o. o.placed) (owner_in self.now (located fact.now)) }
+
+        // Where all that stands above the fact is of its page, so it is with the tuple.
+        ensures located { IsOnOnePage fact.now → option_map (λ s. located s.now) result ≡ owner_in self.now (located fact.now) }
+        ensures page { IsOnOnePage fact.now → IfSome result (λ s. IsOnOnePage s.now) }
     {
         match tuple_ref(fact) {
             Some(id) => one_in(&self.tuples, id),

@@ -3,7 +3,7 @@ ghost use Rattle.std.specs.Prelude.{◌≡◌, ◌++◌, ◌==◌, ◌&&◌, ℕ
 ghost use Rattle.std.specs.Option.{option_map_or};
 ghost use Rattle.ix_base.specs.Located.{is_fact};
 ghost use Rattle.id_table.specs.Held.{asked};
-ghost use Rattle.id_table.specs.Tables.{all_located};
+ghost use Rattle.id_table.specs.Tables.{all_located, AreOnOwnPages};
 ghost use Rattle.tuples.specs.Grouped.{group_at};
 ghost use Rattle.tuples.specs.Grouping.{members_at, AreGrouped};
 ghost use Rattle.tuples.specs.Known.{all_seen, is_owned_at, IsKnown};
@@ -12,18 +12,13 @@ ghost use Rattle.tuples.specs.Slices.{members_in, put_first, slice_at};
 use crate::fact::Fact;
 use crate::groups::Groups;
 use crate::owners::place_of;
+use crate::slice::Slice;
 use bumpalo::Bump;
 use bumpalo::collections::into_bump_slice;
 use id_table::Index;
 use indexmap::IndexMap;
 use ix_base::{NoMemory, Spot};
 use std::alloc::Global;
-
-/// Members, in the arena.
-#[derive(Clone, Copy)]
-pub(crate) struct Slice<'a> {
-    pub spots: &'a [&'a Spot<'a>],
-}
 
 /// Members, by the places of their tuples.
 pub(crate) type Slices<'a> = IndexMap<(u32, u64), Slice<'a>>;
@@ -42,7 +37,9 @@ fn enter_at<'a>(slices: &mut Slices<'a>, key: (u32, u64), slice: Slice<'a>) -> R
 
 /// Adds facts at the end of a list of the arena.
 fn push_spots<'a>(to: &mut Vec<&'a Spot<'a>, &'a Bump>, facts: &[Fact<'a>]) -> Result<(), NoMemory>
-    ensures { OnOk result (all_located to.new.items ≡ all_located to.old.items ++ all_seen facts.now) }
+    requires { AreOnOwnPages to.old.items }
+    ensures spots { OnOk result (all_located to.new.items ≡ all_located to.old.items ++ all_seen facts.now) }
+    ensures pages { OnOk result (AreOnOwnPages to.new.items) }
 {
     for fact in facts {
         to.push(fact.spot)?;

@@ -1,10 +1,12 @@
 //! Reading the elements of a name among some nodes.
 ghost use Rattle.std.specs.Prelude.{◌≡◌, Option, IfOk};
 ghost use Rattle.ix_base.specs.Holding.{named_in};
+ghost use Rattle.ix_base.specs.Namespaces.{link_namespace, xbrli_namespace};
 ghost use Rattle.ix_base.specs.Steps.{each};
 ghost use Rattle.ix_base.specs.Trees.{Tree, tree_of, nodes_of};
 
 use holding::is_of;
+use ix_base::namespaces::{LINK, XBRLI};
 use ix_base::{Element, List, NoMemory, Node};
 use std::alloc::Global;
 
@@ -22,8 +24,8 @@ pub(super) trait Reader {
 }
 
 /// What the elements of a name among some nodes denote, if each denotes something.
-#[tactic(auto, using(crate::proofs::EachLaws::each_put, crate::proofs::EachLaws::each_none))]
-pub(super) fn read_named<R: Reader>(
+#[tactic(auto, using(xbrl_parts::proofs::EachLaws::each_put, xbrl_parts::proofs::EachLaws::each_none))]
+fn read_named<R: Reader>(
     alloc: Global,
     reader: &R,
     nodes: &[Node<'_>],
@@ -46,4 +48,30 @@ pub(super) fn read_named<R: Reader>(
         parts.push(part)?;
     }
     Ok(Some(parts))
+}
+
+/// What the elements of linkbases of a name among some nodes denote, if each denotes something.
+#[tactic(auto, unfolding(ix_base::specs::Namespaces::link_namespace))]
+pub(super) fn read_links<R: Reader>(
+    alloc: Global,
+    reader: &R,
+    nodes: &[Node<'_>],
+    local: &str,
+) -> Result<Option<List<R::Part>>, NoMemory>
+    ensures { IfOk result (λ o. o ≡ each (R.reads reader.now) (named_in link_namespace local.now (nodes_of nodes.now))) }
+{
+    read_named(alloc, reader, nodes, LINK, local)
+}
+
+/// What the elements of instances of a name among some nodes denote, if each denotes something.
+#[tactic(auto, unfolding(ix_base::specs::Namespaces::xbrli_namespace))]
+pub(super) fn read_parts<R: Reader>(
+    alloc: Global,
+    reader: &R,
+    nodes: &[Node<'_>],
+    local: &str,
+) -> Result<Option<List<R::Part>>, NoMemory>
+    ensures { IfOk result (λ o. o ≡ each (R.reads reader.now) (named_in xbrli_namespace local.now (nodes_of nodes.now))) }
+{
+    read_named(alloc, reader, nodes, XBRLI, local)
 }

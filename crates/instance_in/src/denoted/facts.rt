@@ -5,7 +5,7 @@ ghost use Rattle.ix_base.specs.Trees.{named, nodes_of, tree_of};
 ghost use Rattle.instance_out.specs.Denotation as spec;
 ghost use Rattle.instance_in.specs.Reading.{fact_at, tuple_at};
 
-use crate::denoted::items::{is_childless, item_of, own_name};
+use crate::denoted::items::{item_of, own_name};
 use crate::denoted::links::own_if;
 use holding::is_blank;
 use ix_base::namespaces::{LINK, XBRLI};
@@ -21,20 +21,16 @@ fn is_part(name: &Name<'_>) -> bool
     name.ns == XBRLI || name.ns == LINK
 }
 
-/// The members of a tuple. One that is nil holds nothing.
+/// The members of a tuple. One that is nil has none.
 #[cycle(facts)]
 fn members_of(alloc: Global, e: &Element<'_>) -> Result<Option<List<Fact>>, NoMemory>
     ensures { IfOk result (λ o. option_map joined_of o
-        ≡ spec.members_by (spec.is_nil (tree_of e.now).head.attrs) (tree_of e.now).children (spec.facts_in (tree_of e.now).children)) }
+        ≡ spec.members_by (spec.is_nil (tree_of e.now).head.attrs) (spec.facts_in (tree_of e.now).children)) }
 {
-    if !is_nil(e) {
-        return facts_in(alloc, e.children);
+    if is_nil(e) {
+        return Ok(Some(List::new(alloc)));
     }
-    if is_childless(e) {
-        Ok(Some(List::new(alloc)))
-    } else {
-        Ok(None)
-    }
+    facts_in(alloc, e.children)
 }
 
 /// The tuple that an element denotes.

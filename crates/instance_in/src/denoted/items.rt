@@ -1,7 +1,7 @@
 //! Items: what an element with a context denotes.
 ghost use Rattle.std.specs.Prelude.{◌≡◌, [], option_map, IfOk, codes};
 ghost use Rattle.ix_base.specs.Attributes as attributes;
-ghost use Rattle.ix_base.specs.Holding.{elements_in, is_end};
+ghost use Rattle.ix_base.specs.Holding.{elements_in};
 ghost use Rattle.ix_base.specs.OwnNames.{own};
 ghost use Rattle.ix_base.specs.Trees.{named, nodes_of, tree_of};
 ghost use Rattle.instance_out.specs.Denotation as spec;
@@ -108,24 +108,14 @@ fn value_from(alloc: Global, nodes: &[Node<'_>]) -> Result<Option<Value>, NoMemo
     }
 }
 
-/// Whether an element has no children.
-pub(super) fn is_childless(e: &Element<'_>) -> bool
-    ensures { result ≡ is_end (tree_of e.now).children }
-{
-    e.children.is_empty()
-}
-
-/// What an item says. One that is nil holds nothing.
+/// What an item says. One that is nil says nothing, whatever it holds.
 fn value_of(alloc: Global, e: &Element<'_>) -> Result<Option<Value>, NoMemory>
     ensures { IfOk result (λ o. o ≡ spec.value_by (spec.is_nil (tree_of e.now).head.attrs) (tree_of e.now).children) }
 {
-    if !is_nil(e) {
-        return value_from(alloc, e.children);
-    }
-    if is_childless(e) {
+    if is_nil(e) {
         Ok(Some(Value::Nil))
     } else {
-        Ok(None)
+        value_from(alloc, e.children)
     }
 }
 

@@ -5,12 +5,11 @@ ghost use Rattle.ix_base.specs.Trees.{nodes_of, tree_of};
 ghost use Rattle.instance_out.specs.Denotation as spec;
 ghost use Rattle.instance_in.specs.Reading.{arc_by, arcs_in, end_at, id_at, link_by};
 
-use crate::denoted::children::{Reader, read_named};
+use crate::denoted::children::{Reader, read_links};
 use crate::denoted::ends::{Ends, ends_of, id_of, table_of};
 use crate::denoted::links::{is_typed, own_if, xlink_of};
 use escape_text::markup_as_is;
-use holding::holds_only;
-use ix_base::namespaces::{LINK, XML};
+use ix_base::namespaces::XML;
 use ix_base::{Arc, Element, Footnote, List, NoMemory, Node, NoteLink, Text, attr_of};
 use std::alloc::Global;
 
@@ -168,7 +167,6 @@ impl Reader for ArcReader<'_, '_> {
 }
 
 /// The arcs among some nodes, if no two of their ends have one label.
-#[tactic(auto, unfolding(ix_base::specs::Namespaces::link_namespace))]
 fn arcs_of(
     alloc: Global,
     locs: &[(Text, Text)],
@@ -179,13 +177,7 @@ fn arcs_of(
 {
     let ends = ends_of(alloc, locs, footnotes)?;
     match table_of(alloc, ends.as_slice())? {
-        Some(table) => read_named(
-            alloc,
-            &ArcReader { ends: &table },
-            nodes,
-            LINK,
-            "footnoteArc",
-        ),
+        Some(table) => read_links(alloc, &ArcReader { ends: &table }, nodes, "footnoteArc"),
         None => Ok(None),
     }
 }
@@ -202,7 +194,6 @@ fn ids_of(alloc: Global, locs: List<(Text, Text)>) -> Result<List<Text>, NoMemor
 }
 
 /// A footnote link of this role, from its locators and footnotes.
-#[tactic(auto, unfolding(ix_base::specs::Namespaces::link_namespace))]
 fn link_of(
     alloc: Global,
     role: &str,
@@ -215,9 +206,6 @@ fn link_of(
     let Some(arcs) = arcs_of(alloc, locs.as_slice(), footnotes.as_slice(), nodes)? else {
         return Ok(None);
     };
-    if !holds_only(nodes, LINK, &["loc", "footnote", "footnoteArc"]) {
-        return Ok(None);
-    }
     Ok(Some(NoteLink {
         role: Text::of(alloc, role)?,
         locs: ids_of(alloc, locs)?,
@@ -227,7 +215,7 @@ fn link_of(
 }
 
 /// A footnote link.
-#[tactic(auto, unfolding(instance_out::specs::Denotation::notes_in, ix_base::specs::Namespaces::link_namespace))]
+#[tactic(auto, unfolding(instance_out::specs::Denotation::notes_in))]
 fn notes_of(alloc: Global, e: &Element<'_>) -> Result<Option<NoteLink>, NoMemory>
     ensures { IfOk result (λ o. o ≡ spec.notes_in (tree_of e.now)) }
 {
@@ -237,10 +225,10 @@ fn notes_of(alloc: Global, e: &Element<'_>) -> Result<Option<NoteLink>, NoMemory
     let Some(role) = xlink_of(e, "role") else {
         return Ok(None);
     };
-    let Some(locs) = read_named(alloc, &LocatorReader, e.children, LINK, "loc")? else {
+    let Some(locs) = read_links(alloc, &LocatorReader, e.children, "loc")? else {
         return Ok(None);
     };
-    let Some(footnotes) = read_named(alloc, &FootnoteReader, e.children, LINK, "footnote")? else {
+    let Some(footnotes) = read_links(alloc, &FootnoteReader, e.children, "footnote")? else {
         return Ok(None);
     };
     link_of(alloc, role, locs, footnotes, e.children)

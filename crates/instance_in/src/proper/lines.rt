@@ -6,7 +6,7 @@ ghost use Rattle.ix_base.specs.Facts.{facts_of};
 ghost use Rattle.ix_base.specs.Said.{said_of};
 ghost use Rattle.ix_base.specs.Sorted.{text_cmp};
 ghost use Rattle.instance_in.specs.InOrder.{notes_in_order, parts_in_order, references_in_order};
-ghost use Rattle.instance_out.specs.Canonical.{arc_cmp, arcrole_markup, fact_markups, line_cmp, linkbase_markup, role_markup, schema_markup};
+ghost use Rattle.instance_out.specs.Canonical.{arc_line_cmp, arcrole_markup, fact_markups, line_cmp, linkbase_markup, role_markup, schema_markup};
 ghost use Rattle.instance_out.specs.Holds.{said_spaces};
 ghost use Rattle.instance_out.specs.Lists.{rises, strictly};
 ghost use Rattle.instance_out.specs.Proper as spec;
@@ -96,7 +96,7 @@ fn facts_never_fall(alloc: Global, content: &Content) -> Result<bool, NoMemory>
 
 /// Whether the texts of arcs rise.
 fn arcs_rise(alloc: Global, arcs: &[Arc]) -> Result<bool, NoMemory>
-    ensures { IfOk result (λ b. b ≡ strictly arc_cmp arcs.now) }
+    ensures { IfOk result (λ b. b ≡ strictly arc_line_cmp arcs.now) }
 {
     let mut texts = Vec::new(alloc);
     for arc in arcs {

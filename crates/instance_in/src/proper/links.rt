@@ -8,23 +8,12 @@ ghost use Rattle.instance_out.specs.Lists.{is_within};
 ghost use Rattle.instance_out.specs.Proper as spec;
 ghost use Rattle.instance_out.specs.Tables.{values_of};
 
-use crate::proper::among::{Among, are_within, have_same};
+use crate::proper::among::{Among, have_same};
 use crate::proper::decimals::is_canonical_decimal;
 use crate::proper::gathered::names_of;
 use crate::proper::held::Held;
 use ix_base::{Arc, Content, NoMemory, NoteLink};
 use std::alloc::Global;
-
-/// From where arcs go.
-fn starts_of(alloc: Global, arcs: &[Arc]) -> Result<Vec<&str>, NoMemory>
-    ensures { IfOk result (λ v. values_of v.items ≡ map (λ a. a.from_id) arcs.now) }
-{
-    let mut ids = Vec::new(alloc);
-    for arc in arcs {
-        ids.push(arc.from_id.as_str())?;
-    }
-    Ok(ids)
-}
 
 /// From where and to where arcs go.
 fn ends_of(alloc: Global, arcs: &[Arc]) -> Result<Vec<&str>, NoMemory>
@@ -48,19 +37,12 @@ fn known_in(alloc: Global, link: &NoteLink) -> Result<Vec<&str>, NoMemory>
     Ok(ids)
 }
 
-/// Whether the arcs of a link go from its locators, to what it has, and name all of it.
+/// Whether the arcs of a link name all that it has, and nothing else.
 fn has_ends(alloc: Global, link: &NoteLink) -> Result<bool, NoMemory>
-    ensures { IfOk result (λ b. b ≡ (is_within (map (λ a. a.from_id) link.now.arcs) link.now.locs
-        && (is_within (spec.arc_ends link.now) (link.now.locs ++ spec.note_ids link.now)
-        && is_within (link.now.locs ++ spec.note_ids link.now) (spec.arc_ends link.now)))) }
+    ensures { IfOk result (λ b. b ≡ (is_within (spec.arc_ends link.now) (link.now.locs ++ spec.note_ids link.now)
+        && is_within (link.now.locs ++ spec.note_ids link.now) (spec.arc_ends link.now))) }
 {
-    let arcs = link.arcs.as_slice();
-    let locs = names_of(alloc, link.locs.as_slice())?;
-    let starts = starts_of(alloc, arcs)?;
-    if !are_within(starts.as_slice(), locs) {
-        return Ok(false);
-    }
-    let ends = ends_of(alloc, arcs)?;
+    let ends = ends_of(alloc, link.arcs.as_slice())?;
     let known = known_in(alloc, link)?;
     Ok(have_same(ends, known))
 }

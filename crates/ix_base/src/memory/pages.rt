@@ -1,6 +1,7 @@
 //! Pages in memory.
-ghost use Rattle.std.specs.Prelude.{◌≡◌, ◌+◌, ◌^◌, ◌<◌, ◌≤◌, Some, None, true, false, IsTrue, MatchOption, take, drop, is_ok, OnOk, OnErr, IfOk, IfSome, is_err, option_map, vec_len, length};
-ghost use Rattle.ix_base.specs.Outside.{HasCause, ReadsFrom};
+ghost use Rattle.std.specs.Prelude.{◌≡◌, ◌+◌, ◌^◌, ◌<◌, ◌≤◌, Some, None, true, false, IsTrue, MatchOption, take, drop, is_none, is_ok, OnOk, OnErr, IfOk, IfSome, is_err, option_map, vec_len, length};
+ghost use Rattle.ix_base.specs.Causes.{Shows};
+ghost use Rattle.ix_base.specs.Outside.{HasCause, ReadsFrom, TellsAlso};
 ghost use Rattle.ix_base.specs.Pages.{page_of, bytes_at};
 
 use super::Calls;
@@ -29,11 +30,12 @@ pub struct MemPages {
     ghost kept: { asked_len ≤ 4096 },
     ghost there: { started ≡ true → index < vec_len pages },
     ghost within: { started ≡ true → offset ≤ length (bytes_at pages.items index) },
+    ghost shown: { Shows calls.failed calls.fails.items (is_none (page_of pages.items (take asked_len asked))) },
 }
 
 impl MemPages {
     ghost use Rattle.ix_base.specs.Calls.{no_calls};
-    ghost use Rattle.ix_base.specs.MemPages.{pages_faults, pages_page, pages_left, pages_started, pages_asked, pages_starts, pages_calls, pages_step};
+    ghost use Rattle.ix_base.specs.MemPages.{pages_faults, pages_page, pages_left, pages_started, pages_asked, pages_starts, pages_calls, pages_step, pages_failed, pages_numbers};
 
     /// These pages, of which none is started. The calls of these numbers fail. It takes no memory.
     pub fn new(pages: Vec<MemPage>, step: usize, fails: Vec<u64>) -> MemPages
@@ -43,6 +45,7 @@ impl MemPages {
         ensures calls { pages_calls result ≡ no_calls fails }
         ensures step { pages_step result ≡ step }
         ensures started { pages_started result ≡ false }
+        ensures failed { pages_failed result ≡ false }
     {
         MemPages {
             calls: Calls::new(fails),
@@ -64,6 +67,8 @@ impl MemPages {
         ensures started { ⟦<MemPages as PageSource>⟧.started self.now ≡ pages_started self.now }
         ensures asked { ⟦<MemPages as PageSource>⟧.asked self.now ≡ pages_asked self.now }
         ensures starts { ⟦<MemPages as PageSource>⟧.starts self.now ≡ pages_starts self.now }
+        ensures failed { ⟦<MemPages as PageSource>⟧.last_failed self.now ≡ pages_failed self.now }
+        ensures numbers { ⟦<MemPages as PageSource>⟧.numbers self.now ≡ pages_numbers self.now }
     {}
 }
 
@@ -114,9 +119,13 @@ fn keep(asked: &mut [u8; 4096], name: &str)
 
 impl PageSource for MemPages {
     ghost use Rattle.ix_base.specs.Calls.{called};
-    ghost use Rattle.ix_base.specs.MemPages.{pages_faults, pages_page, pages_left, pages_started, pages_asked, pages_starts, start_fails, read_fails, pages_calls, pages_step};
+    ghost use Rattle.ix_base.specs.MemPages.{pages_faults, pages_page, pages_left, pages_started, pages_asked, pages_starts, start_fails, read_fails, pages_calls, pages_step, pages_failed, pages_numbers};
 
     ghost faults = { pages_faults };
+
+    ghost last_failed = { pages_failed };
+
+    ghost numbers = { pages_numbers };
 
     ghost page = { pages_page };
 
@@ -132,7 +141,10 @@ impl PageSource for MemPages {
         requires count { pages_faults self.old + 1 < 2 ^ 64 }
         requires name { length name.now ≤ 4096 }
         ensures cause { HasCause (pages_faults self.old) (pages_faults self.new) result }
+        ensures failed { pages_failed self.new ≡ is_err result }
+        ensures numbers { pages_numbers self.new ≡ pages_numbers self.old }
         ensures pages { pages_page self.new ≡ pages_page self.old }
+        ensures told { OnOk result (TellsAlso (pages_page self.old) name.now) }
         ensures started { pages_started self.new ≡ is_ok result }
         ensures asked { pages_asked self.new ≡ Some name.now }
         ensures starts { pages_starts self.new ≡ pages_starts self.old }
@@ -164,6 +176,8 @@ impl PageSource for MemPages {
         requires started { IsTrue (pages_started self.old) }
         requires room { 0 < length buf.old }
         ensures cause { HasCause (pages_faults self.old) (pages_faults self.new) result }
+        ensures failed { pages_failed self.new ≡ is_err result }
+        ensures numbers { pages_numbers self.new ≡ pages_numbers self.old }
         ensures pages { pages_page self.new ≡ pages_page self.old }
         ensures started { pages_started self.new ≡ pages_started self.old }
         ensures asked { pages_asked self.new ≡ pages_asked self.old }

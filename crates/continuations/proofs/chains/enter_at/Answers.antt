@@ -1,6 +1,6 @@
 use Rattle.std.proofs.Common.{◌∙◌, ap, sym, option_map}
 use Rattle.id_table.specs.Tables.{all_located}
-use Rattle.continuations.specs.declared.chains.Slice.{Slice}
+use Rattle.continuations.specs.declared.slice.Slice.{Slice}
 use Rattle.continuations.specs.Slices.{slice_at}
 use Rattle.continuations.proofs.SliceLaws.{same-key, slice-entered, none-of}
 use Rattle.continuations.proofs.chains.enter_at.Goals as goal

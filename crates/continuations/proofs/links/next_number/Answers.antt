@@ -13,6 +13,6 @@ returns c =
     let goes_on : continued_at (located c.args.spot.now) ≡ Some c.in_ok-id.id.now
     = sym c.continued_at.ensures ∙ ap (option_map (λ (s : Bor (List ℕ)). s.now)) c.in_ok-id.was in
     let one : continuation (asked c.args.index.now) c.in_ok-id.id.now ≡ Some (located c.in_ok-continuation.field-0.now)
-    = sym c.continuation.ensures ∙ ap (option_map (λ (s : Bor Spot). located s.now)) c.in_ok-continuation.was in
+    = sym c.continuation.ensures.element ∙ ap (option_map (λ (s : Bor Spot). located s.now)) c.in_ok-continuation.was in
     number-is c.args.numbers.now c.args.index.now.spots c.in_ok-id.id.now (located c.in_ok-continuation.field-0.now) c.copied.result c.requires one (sym c.get.ensures.value ∙ sym c.copied.ensures)
     ∙ ap (option_map Some) (sym one ∙ sym (ap (option_and_then (continuation (asked c.args.index.now))) goes_on))

@@ -2,7 +2,7 @@ use Rattle.std.proofs.Common.{inl, inr, ◌≡◌, ◌∙◌, sym, subst, List, 
 use Rattle.ixds_run.specs.Gains.{GainsAll, GainsPart}
 use Rattle.ixds_run.specs.declared.status.Status.TheVariants.{Done, Broken, WriteFault}
 use Rattle.ixds_run.specs.Commands.{dir_of}
-use Rattle.ixds_run.specs.Outcomes.{outcome_of, status_of, targets_due}
+use Rattle.ixds_run.specs.DueTables.{outcome_of, status_of, targets_due}
 use Rattle.ixds_run.proofs.DueLaws.{by_either}
 use Rattle.ixds_run.proofs.extract.answer.Goals as goal
 
@@ -39,7 +39,8 @@ returns-in-Ok-clause-part g c e rose =
         outcome_of (dir_of c.args.command.now) due,
         c.in-Ok.ensures.due bs read,
         subst (λ (d : Option (List ℕ)). GainsPart (targets_due d due) (g.S.TargetSink.targets c.args.sink.now)
-            (g.S.TargetSink.targets c.deliver.new.sink) (g.S.TargetSink.asked c.deliver.new.sink))
+            (g.S.TargetSink.targets c.deliver.new.sink)
+            (record { told = g.S.TargetSink.asked c.deliver.new.sink; len = g.S.TargetSink.asked_len c.deliver.new.sink }))
             c.dir.ensures part.1,
       ),
     )

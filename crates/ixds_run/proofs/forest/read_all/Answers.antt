@@ -1,5 +1,6 @@
 use Rattle.std.proofs.Common.{◌≡◌, ◌∙◌, ◌+◌, ◌≤◌, ◌<◌, List, Option, ℕ, length, drop, refl, subst, rules, inl, inr, arith}
 use Rattle.std.proofs.Math.ListN.{drop_of_length-le}
+use Rattle.ix_base.specs.Outside.{TellsAlso}
 use Rattle.ixds_run.specs.Reading.{HasReadSome, ReadsOn}
 use Rattle.ixds_run.proofs.ForestLaws.{asked_on, next_of, next_among, over_is_sound, names_over, next_started, none_started, one_started, read_none, read_more, some_is_sound, some_over, some_read, last_among, last_is, stops_at_end}
 use Rattle.ixds_run.proofs.forest.read_all.Goals as goal
@@ -9,6 +10,7 @@ loop-number-init g c =
     let none = c.no_pages-forest.ensures in
     record {
       faults = refl;
+      numbers = refl;
       page = refl;
       room = search rules;
       most = omega (arith, none.bytes);
@@ -31,11 +33,13 @@ loop-number-preserved g c =
     let h = subst (λ (r : List (List ℕ)). HasReadSome page names r n c.loop-number.forest) (next_of names n name within c.index-names-number.is) c.loop-number.invariant.read in
     record {
       faults = c.in_ok-read_next.ensures.ok ∙ c.loop-number.invariant.faults;
+      numbers = c.in_ok-read_next.ensures.numbers ∙ c.loop-number.invariant.numbers;
       page = c.in_ok-read_next.ensures.pages ∙ c.loop-number.invariant.page;
       room = c.loop-number.invariant.room;
       most = omega arith;
       tags = c.in_ok-read_next.ensures.tags;
-      read = read_more page names name (drop (n + 1) names) n _ _ _ (omega arith) on h;
+      read = read_more page names name (drop (n + 1) names) n _ _ _ (omega arith) on
+          (subst (λ (pg : List ℕ → Option (List ℕ)). TellsAlso pg name) c.loop-number.invariant.page c.in_ok-read_next.ensures.told) h;
       starts = one_started names n name _ _ _ within c.index-names-number.is c.loop-number.invariant.starts c.in_ok-read_next.ensures.started;
       same = λ e. absurd (let z : n + 1 ≡ 0 = e in omega arith);
       stops = inr (last_is page names name (drop (n + 1) names) n _ _ _ _ c.loop-number.invariant.most c.in_ok-read_next.ensures.most c.in_ok-read_next.ensures.named on h);

@@ -4,11 +4,11 @@ use Rattle.std.proofs.lemmas.Result.{IfOk-weaker}
 use Rattle.ix_base.specs.Sound.{IsSoundRoot}
 use Rattle.ix_base.specs.Trees.{tree_of}
 use Rattle.targets.specs.Holding.{HeldSet}
-use Rattle.targets.specs.Outcomes.{ComesTo}
+use Rattle.targets.specs.SetOutcomes.{ComesTo}
 use Rattle.targets.specs.PageSet.{PageSet}
 use Rattle.targets.specs.declared.outcome.Outcome.{Outcome}
-use Rattle.ixds_run.specs.Made.{AreSoundRoots, paged}
-use Rattle.ixds_run.proofs.MadeLaws.{paged_all, paged_more, sound_behind, sound_next, trees_of}
+use Rattle.targets.specs.Forest.{AreSoundRoots, paged, trees_of}
+use Rattle.ixds_run.proofs.MadeLaws.{paged_all, paged_more, sound_behind, sound_next}
 use Rattle.ixds_run.proofs.made.made.Goals as goal
 
 pub add_page-requires : goal.add_page-requires

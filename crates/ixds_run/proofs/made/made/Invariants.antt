@@ -1,6 +1,5 @@
 use Rattle.std.proofs.Common.{◌≡◌, ◌++◌, length, drop}
-use Rattle.ixds_run.specs.Made.{AreSoundRoots, paged}
-use Rattle.ixds_run.proofs.MadeLaws.{trees_of}
+use Rattle.targets.specs.Forest.{AreSoundRoots, paged, trees_of}
 use Rattle.ixds_run.proofs.made.made.Given as goal
 
 abbrev pub invariant-loop-name : goal.invariant-loop-name

@@ -4,7 +4,7 @@ use Rattle.ix_base.specs.LinkRules.{address_of}
 use Rattle.ix_base.specs.Located.{Located, base_in, located}
 use Rattle.id_table.specs.Tables.{all_located}
 use Rattle.std.proofs.Common.{◌∷◌, [], None, List, take}
-use Rattle.targets.specs.Redirects.{refers_to, seen_from}
+use Rattle.targets.specs.RoleAddresses.{refers_to, seen_from}
 use Rattle.targets.proofs.AmongLaws.{located-more}
 use Rattle.targets.proofs.RedirectLaws.{seen-more}
 use Rattle.targets.proofs.addresses.roles_of.Goals as goal

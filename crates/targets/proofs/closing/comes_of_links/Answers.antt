@@ -8,7 +8,7 @@ use Rattle.id_table.specs.Held.{Held}
 use Rattle.scopes.specs.Kept.{Kept}
 use Rattle.tuples.specs.Fits.{fits}
 use Rattle.targets.specs.Faults.{link_faults}
-use Rattle.targets.specs.Holding.{paged, set_of}
+use Rattle.targets.specs.Holding.{as_paged, set_of}
 use Rattle.targets.specs.PageSet.{base_at, elements}
 use Rattle.targets.proofs.BelowLaws.{broken-below, same-below}
 use Rattle.targets.proofs.ComesLaws.{faults-are, is-linked, keeps-on, none-deep, none-is, none-same, on-names, report-alike, some-is, some-same}
@@ -17,7 +17,7 @@ use Rattle.targets.proofs.closing.comes_of_links.Goals as goal
 
 pub link_all-requires-clause-fits : goal.link_all-requires-clause-fits
 link_all-requires-clause-fits c =
-    subst (λ (h : Held). All (λ e. fits e ≡ true) h.spots) (sym c.requires.keeps.index) (all-fit (map paged c.args.pages.now.pages.now) c.requires.sound)
+    subst (λ (h : Held). All (λ e. fits e ≡ true) h.spots) (sym c.requires.keeps.index) (all-fit (map as_paged c.args.pages.now.pages.now) c.requires.sound)
 
 pub link_all-requires-clause-pages : goal.link_all-requires-clause-pages
 link_all-requires-clause-pages c = keeps-on _ _ _ _ c.requires.keeps
@@ -27,7 +27,7 @@ comes_of_values-requires-clause-linked c =
     is-linked c.in_ok-linked.linked _ _ _ _ c.requires.keeps (ap (λ (b : Bor Held). b.now) c.in_ok-linked.ensures.index)
     (ap (λ (b : Bor Kept). b.now) c.in_ok-linked.ensures.bases)
     (c.in_ok-linked.ensures.chains (none-is c.link_all.new.found c.is_empty.result c.is_empty.ensures c.if-is_empty.true))
-    c.in_ok-linked.ensures.members c.in_ok-linked.ensures.relations c.in_ok-linked.ensures.redirects
+    c.in_ok-linked.ensures.members c.in_ok-linked.ensures.relations c.in_ok-linked.ensures.seen_roles
 
 pub comes_of_values-requires-clause-shallow : goal.comes_of_values-requires-clause-shallow
 comes_of_values-requires-clause-shallow c =

@@ -14,7 +14,7 @@ use Rattle.targets.proofs.contents.push_outer.Goals as goal
 pub returns-in_ok-push : goal.returns-in_ok-push
 returns-in_ok-push c =
     let e = located c.args.spot.now in
-    let same = some-same (λ (s : Bor Spot). placed s.now) (λ (o : Located). o.placed) c.owner.result (owner_in c.args.linked.now.members e) c.owner.ensures
+    let same = some-same (λ (s : Bor Spot). placed s.now) (λ (o : Located). o.placed) c.owner.result (owner_in c.args.linked.now.members e) c.owner.ensures.placed
     ∙ ap is_some (c.requires.members.owners e) in
     outer-more c.args.outer.now.items c.push.new.self.items c.args.spot (is_some (owner (asks (all_of c.args.linked.now)) e)) c.in_ok-push.ensures.items
     (sym same ∙ not-is (is_some c.owner.result) c.is_none.result c.is_none.ensures c.if-is_none.true)
@@ -22,7 +22,7 @@ returns-in_ok-push c =
 pub returns-else-is_none : goal.returns-else-is_none
 returns-else-is_none c =
     let e = located c.args.spot.now in
-    let same = some-same (λ (s : Bor Spot). placed s.now) (λ (o : Located). o.placed) c.owner.result (owner_in c.args.linked.now.members e) c.owner.ensures
+    let same = some-same (λ (s : Bor Spot). placed s.now) (λ (o : Located). o.placed) c.owner.result (owner_in c.args.linked.now.members e) c.owner.ensures.placed
     ∙ ap is_some (c.requires.members.owners e) in
     outer-same c.args.outer.now.items c.args.spot (is_some (owner (asks (all_of c.args.linked.now)) e))
     (sym same ∙ not-isnt (is_some c.owner.result) c.is_none.result c.is_none.ensures c.if-is_none.false)

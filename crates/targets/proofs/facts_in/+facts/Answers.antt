@@ -54,7 +54,7 @@ members_in-facts_at-requires t c =
     let es = all_of c.args.linked.now in
     let e = located c.args.tuple.now in
     let Both = λ (x : Located). Contains es x × (is_fact x ≡ true) in
-    let are : all_located c.of.result.now ≡ members es e = c.of.ensures ∙ c.requires.linked.members.members e in (
+    let are : all_located c.of.result.now ≡ members es e = c.of.ensures.members ∙ c.requires.linked.members.members e in (
       omega (arith, c.decreases, c.if-depth-eq0.false),
       (
         c.requires.linked,
@@ -74,4 +74,4 @@ members_in-returns t c =
     let es = all_of c.args.linked.now in
     let e = located c.args.tuple.now in
     IfOk-weaker c.facts_at.result _ _ (λ l h. read-less (SaysIn c.args.linked.now) es c.args.depth (c.args.depth - 1) e (all_located c.of.result.now) (facts_of l)
-    (omega (arith, c.if-depth-eq0.false)) (c.of.ensures ∙ c.requires.linked.members.members e) h) c.facts_at.ensures
+    (omega (arith, c.if-depth-eq0.false)) (c.of.ensures.members ∙ c.requires.linked.members.members e) h) c.facts_at.ensures

@@ -23,13 +23,13 @@ returns-clause-faults c =
     let tuples = c.in_ok-members.ensures.breaches ∙ ap (λ (x : List Found). x ++ on rule.L8 ++ on rule.L9 ++ on rule.L10 ++ on rule.L12 ++ on rule.L13) chains in
     let ends = c.in_ok-relations.ensures.breaches ∙ ap (λ (x : List Found). x ++ on rule.L11 ++ on rule.L15 ++ on rule.L16) tuples in
     let schemas = c.in_ok-add_lacking_schema.ensures ∙ ap (λ (x : List Found). x ++ on rule.L14) ends in
-    let roles = c.in_ok-redirects.ensures.faults ∙ ap (λ (x : List Found). x ++ flat_map (redirected_at bases (asks es)) es) schemas in
+    let roles = c.in_ok-seen_roles.ensures.faults ∙ ap (λ (x : List Found). x ++ flat_map (redirected_at bases (asks es)) es) schemas in
     subst (λ (xs : List Found). SameMembers xs (broken bases es)) (sym roles) (same-broken bases es)
 
 pub returns-clause-chains : goal.returns-clause-chains
 returns-clause-chains c = λ none.
     let left : (xs ys : List Found) → xs ++ ys ≡ [] → xs ≡ [] = λ xs ys h. (both-none xs ys h).0 in
-    let schemas = left _ _ (sym c.in_ok-redirects.ensures.faults ∙ none) in
+    let schemas = left _ _ (sym c.in_ok-seen_roles.ensures.faults ∙ none) in
     let ends = left _ _ (sym c.in_ok-add_lacking_schema.ensures ∙ schemas) in
     let tuples = left _ _ (left _ _ (left _ _ (sym c.in_ok-relations.ensures.breaches ∙ ends))) in
     let chains = left _ _ (left _ _ (left _ _ (left _ _ (left _ _ (sym c.in_ok-members.ensures.breaches ∙ tuples))))) in

@@ -1,6 +1,6 @@
 use Rattle.std.proofs.Common.{◌≡◌, take}
 use Rattle.std.specs.List.{filter_map}
-use Rattle.targets.specs.Redirects.{role_seen}
+use Rattle.targets.specs.RoleAddresses.{role_seen}
 use Rattle.targets.specs.Seen.{values_of}
 use Rattle.targets.proofs.notes.references_for.Given as goal
 

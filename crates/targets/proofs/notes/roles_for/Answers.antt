@@ -7,7 +7,7 @@ use Rattle.ix_base.specs.Once.{in_order}
 use Rattle.ix_base.specs.Sorted.{text_cmp}
 use Rattle.targets.specs.Contents.{roles_in, uris_in}
 use Rattle.targets.specs.Linked.{all_of, bases_of}
-use Rattle.targets.specs.Redirects.{role_seen}
+use Rattle.targets.specs.RoleAddresses.{role_seen}
 use Rattle.targets.specs.Seen.{values_of}
 use Rattle.targets.proofs.NoteLaws.{roles-are}
 use Rattle.targets.proofs.notes.roles_for.Goals as goal
@@ -15,7 +15,7 @@ use Rattle.targets.proofs.notes.roles_for.Goals as goal
 pub returns : goal.returns
 returns c =
     let l = c.args.linked.now in
-    let m = l.redirects.roles in
+    let m = l.seen_roles.roles in
     let used = ap values_of c.as_slice.ensures.value ∙ c.each_once.ensures ∙ ap (in_order text_cmp) c.in_ok-uris.ensures in
     IfOk-weaker c.references_for.result _ _ (λ refs is. is ∙ ap (filter_map (role_seen m)) used
-    ∙ roles-are (base_in (bases_of l)) (all_of l) kind.RoleRef m c.requires.redirects.roles (uris_in roles_in c.args.links.now)) c.references_for.ensures
+    ∙ roles-are (base_in (bases_of l)) (all_of l) kind.RoleRef m c.requires.seen_roles.roles (uris_in roles_in c.args.links.now)) c.references_for.ensures

@@ -3,7 +3,7 @@ use Rattle.std.proofs.Common.{None, Some}
 use Rattle.ix_base.specs.Asks.{asks}
 use Rattle.ix_base.specs.Located.{base_in, located}
 use Rattle.facts.specs.ItemValue.{IsItem}
-use Rattle.facts.specs.Said.{said}
+use Rattle.facts.specs.Verdicts.{said}
 use Rattle.targets.specs.Linked.{all_of, bases_of}
 use Rattle.targets.proofs.ValueLaws.{value-added}
 use Rattle.indexmap.proofs.MapLemmas.{OnOk-map}

@@ -27,7 +27,7 @@ returns-then-eq-clause-chain c = λ is.
     let es = all_of c.args.linked.now in
     let start : is_start e ≡ true = ap (λ b. b || is_kind kind.Footnote e) is in
     let kept = chain_at-start c.args.linked.now.chains es e c.requires.linked.chains c.requires.among start (starts-alone es c.requires.linked.apart e c.requires.among) in
-    some-inj _ _ (sym c.of.ensures ∙ kept)
+    some-inj _ _ (sym c.of.ensures.chain ∙ kept)
 
 pub returns-then-eq-clause-pages : goal.returns-then-eq-clause-pages
 returns-then-eq-clause-pages c =
@@ -37,5 +37,5 @@ returns-then-eq-clause-pages c =
     let start : is_start e ≡ true = ap (λ b. b || is_kind kind.Footnote e) is in
     let kept = chain_at-start c.args.linked.now.chains es e c.requires.linked.chains c.requires.among start (starts-alone es c.requires.linked.apart e c.requires.among) in
     let On = λ (x : Located). x.page < length (bases_of c.args.linked.now) in
-    spots-are On c.of.result.now (chain (asks es) e) (some-inj _ _ (sym c.of.ensures ∙ kept))
+    spots-are On c.of.result.now (chain (asks es) e) (some-inj _ _ (sym c.of.ensures.chain ∙ kept))
     (all-chain On es c.requires.linked.pages e (All-contains On es e c.requires.linked.pages c.requires.among))

@@ -1,4 +1,4 @@
-use Rattle.std.proofs.Common.{◌∙◌, ap, option_map, List}
+use Rattle.std.proofs.Common.{◌∙◌, ap, sym, subst, take, option_map, List}
 use Rattle.std.proofs.lemmas.List.{take_all}
 use Rattle.std.specs.Borrow.{Bor}
 use Rattle.std.specs.List.{filter}
@@ -6,12 +6,21 @@ use Rattle.ix_base.specs.declared.tree.Spot.{Spot}
 use Rattle.ix_base.specs.Asks.{asks, only}
 use Rattle.ix_base.specs.Ids.{holds_tuple_id}
 use Rattle.ix_base.specs.Located.{Located, located}
+use Rattle.std.proofs.lemmas.List.Elements.{All-filter, All-take}
+use Rattle.ix_base.specs.Spots.{IsOnOnePage}
+use Rattle.id_table.specs.Tables.{AreOnOwnPages}
 use Rattle.id_table.proofs.Asking.{one-map}
 use Rattle.tuples.proofs.members.tuples_of.Goals as goal
 
-pub returns : goal.returns
-returns c = λ q.
+pub returns-clause-tuples : goal.returns-clause-tuples
+returns-clause-tuples c = λ q.
     ap (λ (xs : List (Bor Spot)). option_map (λ (s : Bor Spot). located s.now) (only xs))
     (c.loop-spot.invariant q ∙ ap (λ (xs : List (Bor Spot)). filter (λ s. holds_tuple_id q (located s.now)) xs) (take_all c.loop-spot.spot-index c.spots-spot-items.result.now c.loop-spot-test.false))
     ∙ one-map (λ (s : Bor Spot). located s.now) (holds_tuple_id q) c.spots-spot-items.result.now
-    ∙ ap (λ (es : List Located). (asks es).one (holds_tuple_id q)) c.spots-spot-items.ensures
+    ∙ ap (λ (es : List Located). (asks es).one (holds_tuple_id q)) c.spots-spot-items.ensures.elements
+
+pub returns-clause-pages : goal.returns-clause-pages
+returns-clause-pages c = λ q.
+    let on = λ (s : Bor Spot). IsOnOnePage s.now in
+    let met = take c.loop-spot.spot-index c.spots-spot-items.result.now in
+    subst AreOnOwnPages (sym (c.loop-spot.invariant q)) (All-filter _ on met (All-take on c.loop-spot.spot-index c.spots-spot-items.result.now c.spots-spot-items.ensures.pages))

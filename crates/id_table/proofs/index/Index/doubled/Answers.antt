@@ -1,4 +1,4 @@
-use Rattle.std.proofs.Common.{◌+◌, drop, map}
+use Rattle.std.proofs.Common.{◌+◌, drop}
 use Rattle.std.specs.Borrow.{Bor}
 use Rattle.std.specs.List.{flat_map}
 use Rattle.ix_base.proofs.FrontLemmas.{grows-more, grows-front, front-none, on-err}

@@ -3,8 +3,8 @@ use Rattle.ix_base.specs.Address.{page_base}
 use Rattle.ix_base.specs.Located.{Located, marked, page_marked}
 use Rattle.ix_base.specs.Sound.{IsSoundRoot}
 use Rattle.ix_base.specs.Trees.{tree_of}
-use Rattle.targets.specs.Holding.{HeldSet, Keeps, paged}
-use Rattle.targets.specs.Standing.{AreLinks}
+use Rattle.targets.specs.Holding.{HeldSet, Keeps, as_paged}
+use Rattle.targets.specs.LinkTables.{AreLinks}
 use Rattle.targets.proofs.ClosingLaws.{elements-more, keeps-more}
 use Rattle.targets.proofs.set.Set.add_page.Goals as goal
 
@@ -24,6 +24,6 @@ invariant_of-self-2 c = λ u.
       subst (λ (es : List Located). AreLinks es c.add_all.new.self)
           (elements-more pages c.push.new.self.items c.self.inside.index c.add_page.new.self c.self.inside.bases c.add_page-2.new.self c.self.inside.base
           (page_marked c.args.root.now.place.page (tree_of c.args.root.now)) c.spots-before.result.now c.spots.result.now kept.0 keeps
-          c.in_ok-add_page.ensures.ok c.spots-before.ensures c.spots.ensures)
-          (c.in_ok-add_all.ensures (marked (map paged pages)) kept.1),
+          c.in_ok-add_page.ensures.ok c.spots-before.ensures.elements c.spots.ensures.elements)
+          (c.in_ok-add_all.ensures (marked (map as_paged pages)) kept.1),
     )

@@ -1,7 +1,7 @@
 use Rattle.std.proofs.Common.{◌∙◌, ap, length}
 use Rattle.targets.specs.Holding.{HeldSet}
 use Rattle.targets.specs.PageSet.{elements}
-use Rattle.targets.specs.Standing.{doubled_links}
+use Rattle.targets.specs.LinkStates.{doubled_links}
 use Rattle.targets.proofs.set.Set.doubled.Goals as goal
 
 pub returns : goal.returns

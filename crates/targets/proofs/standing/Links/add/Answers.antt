@@ -3,7 +3,8 @@ use Rattle.std.proofs.lemmas.List.Concat.{flat_map-append}
 use Rattle.std.proofs.lemmas.Result.{on_ok_weaker}
 use Rattle.ix_base.specs.Located.{Located, located}
 use Rattle.targets.specs.declared.standing.LinkAttribute.TheVariants as attribute
-use Rattle.targets.specs.Standing.{AreLinked, Link, links, links_from, links_of}
+use Rattle.targets.specs.LinkTables.{AreLinked}
+use Rattle.targets.specs.LinkStates.{Link, links, links_from, links_of}
 use Rattle.targets.proofs.standing.Links.add.Goals as goal
 
 pub hold-requires : goal.hold-requires

@@ -4,7 +4,7 @@ use Rattle.std.proofs.lemmas.List.{map_more, take_all}
 use Rattle.ix_base.specs.declared.tree.Spot.{Spot}
 use Rattle.ix_base.specs.Located.{Located, located}
 use Rattle.id_table.specs.Tables.{all_located}
-use Rattle.targets.specs.Standing.{AreLinks}
+use Rattle.targets.specs.LinkTables.{AreLinks}
 use Rattle.targets.proofs.standing.Links.add_all.Goals as goal
 
 pub loop-spot-init : goal.loop-spot-init

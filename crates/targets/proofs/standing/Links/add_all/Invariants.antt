@@ -1,7 +1,7 @@
 use Rattle.std.proofs.Common.{◌++◌, List, take}
 use Rattle.ix_base.specs.Located.{Located}
 use Rattle.id_table.specs.Tables.{all_located}
-use Rattle.targets.specs.Standing.{AreLinks}
+use Rattle.targets.specs.LinkTables.{AreLinks}
 use Rattle.targets.proofs.standing.Links.add_all.Given as goal
 
 -- the elements so far have come

@@ -5,7 +5,8 @@ use Rattle.ix_base.specs.Ids.{id_of}
 use Rattle.ix_base.specs.Located.{Located, located}
 use Rattle.targets.specs.declared.standing.Links.{Links}
 use Rattle.targets.specs.declared.standing.Named.{Named}
-use Rattle.targets.specs.Standing.{Known, found_in, is_pending, named_in, named_of, stands_with, with_holder, counts_of}
+use Rattle.targets.specs.LinkTables.{Known, found_in, named_in, named_of, stands_with, with_holder, counts_of}
+use Rattle.targets.specs.LinkStates.{is_pending}
 use Rattle.targets.proofs.StandingLaws.{id-none, id-waits, id-kept}
 use Rattle.targets.proofs.standing.Links.hold.Goals as goal
 

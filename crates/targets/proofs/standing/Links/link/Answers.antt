@@ -3,7 +3,8 @@ use Rattle.std.proofs.lemmas.Result.{on_ok_weaker}
 use Rattle.targets.specs.declared.standing.LinkAttribute.{LinkAttribute}
 use Rattle.targets.specs.declared.standing.LinkAttribute.TheVariants as attribute
 use Rattle.targets.specs.declared.standing.Links.{Links}
-use Rattle.targets.specs.Standing.{Link, is_tuple_ref, named_in, named_of, with_link, counts_of}
+use Rattle.targets.specs.LinkStates.{Link, is_tuple_ref}
+use Rattle.targets.specs.LinkTables.{named_in, named_of, with_link, counts_of}
 use Rattle.targets.proofs.StandingLaws.{id-linked, tuple-linked}
 use Rattle.targets.proofs.standing.Links.link.Goals as goal
 use Rattle.targets.proofs.standing.Links.link.Goals.{in-TupleRef+in_ok-before-in-TupleRef, in_default+in_ok-before-in_default}

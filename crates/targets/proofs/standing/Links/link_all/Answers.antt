@@ -3,7 +3,8 @@ use Rattle.std.specs.Borrow.{Bor}
 use Rattle.std.proofs.lemmas.List.{map_more, take_all}
 use Rattle.ix_base.specs.Located.{Located, located}
 use Rattle.id_table.proofs.Renumbered.{map-twice}
-use Rattle.targets.specs.Standing.{AreLinked, Link, ids_at, links_from}
+use Rattle.targets.specs.LinkTables.{AreLinked}
+use Rattle.targets.specs.LinkStates.{Link, ids_at, links_from}
 use Rattle.targets.proofs.standing.Links.link_all.Goals as goal
 
 pub loop-id-init : goal.loop-id-init

@@ -1,6 +1,7 @@
 use Rattle.std.proofs.Common.{◌++◌, List, map, take}
 use Rattle.ix_base.specs.Located.{Located, located}
-use Rattle.targets.specs.Standing.{AreLinked, Link}
+use Rattle.targets.specs.LinkTables.{AreLinked}
+use Rattle.targets.specs.LinkStates.{Link}
 use Rattle.targets.proofs.standing.Links.link_all.Given as goal
 
 -- the links of the ids so far have come

@@ -1,0 +1,11 @@
+//! A chain that is kept.
+ghost use Rattle.id_table.specs.Tables.{AreOnOwnPages};
+
+use ix_base::Spot;
+
+/// A chain, in the arena. What stands above each of its elements is of its page.
+#[derive(Clone, Copy)]
+pub(crate) struct Slice<'a> {
+    pub spots: &'a [&'a Spot<'a>],
+    pub ghost on_pages: { AreOnOwnPages spots.now },
+}

@@ -1,0 +1,119 @@
+-- What a run answers over objects in memory that are fit for its command.
+use Rattle.std.proofs.Common.{◌≡◌, ◌⊎◌, ◌∙◌, ap, sym, refl, subst, inl, inr, ℕ, zero, suc, ◌+◌, ◌-◌, ◌<◌, ◌≤◌, true, false, IsTrue, List, [], ◌∷◌, ◌++◌, length, take, Option, Some, None, IfSome, arith, length-append}
+use Rattle.std.specs.Prelude.{is_none}
+use Rattle.std.proofs.Math.Nat.{min-le_right}
+use Rattle.std.proofs.lemmas.Bool.{eqb-true}
+use Rattle.std.proofs.lemmas.List.{length-take}
+use Rattle.ix_base.specs.Calls.{listed}
+use Rattle.ix_base.specs.MemPages.{pages_asked, pages_calls, pages_failed, pages_faults, pages_numbers, pages_page}
+use Rattle.ix_base.specs.MemTargets.{sink_calls, sink_faults, sink_numbers, sink_targets}
+use Rattle.ix_base.specs.MemText.{text_calls, text_faults, text_numbers, text_room, text_taken}
+use Rattle.ix_base.specs.declared.memory.pages.MemPages.{MemPages}
+use Rattle.ix_base.specs.declared.memory.targets.MemTargets.{MemTargets}
+use Rattle.ix_base.specs.declared.memory.text.MemText.{MemText}
+use Rattle.ixds_run.specs.Answers.{Answers}
+use Rattle.ixds_run.specs.CommandBytes.{AreSome, bytes_told}
+use Rattle.ixds_run.specs.Commands.{number_of, pages_of}
+use Rattle.ixds_run.specs.Deliveries.{Gives, GivesFront}
+use Rattle.ixds_run.specs.InMemory.{AreFit, AreFull, memory_outside}
+use Rattle.ixds_run.specs.Reading.{IsAmong}
+use Rattle.ixds_run.specs.Sources.{told, told_both}
+use Rattle.ixds_run.specs.declared.command.Command.{Command}
+use Rattle.ixds_run.specs.declared.command.Command.TheVariants.{Extract, Check, Sample}
+use Rattle.ixds_run.specs.declared.status.Status.{Status}
+use Rattle.ixds_run.specs.declared.status.Status.TheVariants.{Done, Broken, Usage, ReadFault, WriteFault, NoMemory}
+use Rattle.ixds_run.proofs.HeldLaws.{some_is}
+
+-- each of the pages that are told is there
+told-there : (page : List ℕ → Option (List ℕ)) (front back : List (List ℕ)) (name : List ℕ) (bs : List (List ℕ))
+    → told page (front ++ name ∷ back) ≡ Some bs → is_none (page name) ≡ true → ⊥
+told-there page [] back name bs e h = by (page name) e h
+  where
+    by : (o : Option (List ℕ)) → told_both o (told page back) ≡ Some bs → is_none o ≡ true → ⊥
+    by None e h = let z : None ≡ Some bs = e in cc
+    by (Some b) e h = let z : false ≡ true = h in cc
+told-there page (n ∷ front) back name bs e h =
+    by (page n) (told page (front ++ name ∷ back)) (λ more is. told-there page front back name more is h) e
+  where
+    by : (o : Option (List ℕ)) (r : Option (List (List ℕ))) → ((more : List (List ℕ)) → r ≡ Some more → ⊥) → told_both o r ≡ Some bs → ⊥
+    by None r next e = let z : None ≡ Some bs = e in cc
+    by (Some b) None next e = let z : None ≡ Some bs = e in cc
+    by (Some b) (Some more) next e = next more refl
+
+abbrev behind : List ℕ → List ℕ
+behind [] = []
+behind (n ∷ ns) = ns
+
+abbrev first : List ℕ → ℕ
+first [] = 0
+first (n ∷ ns) = n
+
+none-or-some : (n : ℕ) → (n ≡ 0) ⊎ (0 < n)
+none-or-some zero = inl refl
+none-or-some (suc n) = inr (omega arith)
+
+some-inj : {X : Type 0} (x y : X) → Some x ≡ Some y → x ≡ y
+some-inj {X} x y e = ap (λ (o : Option X). out o) e
+  where
+    out : Option X → X
+    out None = x
+    out (Some z) = z
+
+module _ (c : Command) (bs : List (List ℕ)) (p p' : MemPages) (s s' : MemTargets) (t t' : MemText) (fit : AreFit c bs p s t) where
+  -- no page can't be read
+  absent : (names : List (List ℕ)) (name : List ℕ) → told (pages_page p) names ≡ Some bs → IsAmong (pages_page p) names (pages_asked p') name
+      → IsTrue (pages_failed p') → pages_page p' ≡ pages_page p → pages_numbers p' ≡ pages_numbers p → ⊥
+  absent names name all among failed page numbers =
+      let none : listed (pages_calls p') ≡ [] = ap behind numbers ∙ fit.page_calls in
+      let gone = sym (λ i. is_none (page i (among.asked_is i))) ∙ p'.shown failed none in
+      told-there (pages_page p) among.front among.back name bs (ap (told (pages_page p)) (sym among.splits) ∙ all) gone
+
+  no-fault : (d : Command) (name : List ℕ) → bytes_told (pages_page p) d ≡ Some bs → IsAmong (pages_page p) (pages_of d) (pages_asked p') name
+      → IsTrue (pages_failed p') → pages_page p' ≡ pages_page p → pages_numbers p' ≡ pages_numbers p
+      → IfSome (number_of d) (λ n. p' ≡ p) → pages_faults p < pages_faults p' → ⊥
+  no-fault (Extract base dir names) name all among failed page numbers same rose = absent names name all among failed page numbers
+  no-fault (Check base names) name all among failed page numbers same rose = absent names name all among failed page numbers
+  no-fault (Sample number) name all among failed page numbers same rose =
+      let level : pages_faults p' ≡ pages_faults p = ap pages_faults same in omega arith
+
+  -- the text doesn't run out of room
+  room-left : GivesFront (Some (sink_targets s)) (Some (sink_targets s')) (Some (text_taken t)) (Some (text_taken t')) c bs
+      → IsTrue t'.calls.failed → text_numbers t' ≡ text_numbers t → ⊥
+  room-left gives failed numbers =
+      let none : listed (text_calls t') ≡ [] = ap behind numbers ∙ fit.text_calls in
+      let room : text_room t' ≡ text_room t = ap first numbers in
+      let text = gives.0.text in
+      let n = gives.3.0 in
+      let full : text_room t' - length (text_taken t') ≡ 0 = eqb-true _ _ (t'.shown failed none) in
+      let taken : text_taken t' ≡ text_taken t ++ take n text = some-inj _ _ gives.3.1 in
+      let count : length (text_taken t') ≡ length (text_taken t) + length (take n text) = ap length taken ∙ length-append (text_taken t) (take n text) in
+      let front : length (take n text) ≤ length text = subst (λ k. k ≤ length text) (sym (length-take n text)) (min-le_right n (length text)) in
+      let most = fit.room gives.0 gives.1 in
+      omega arith
+
+  pub fit-completes : (status : Status) → Answers (Some c) (memory_outside p s t) (memory_outside p' s' t') (p' ≡ p) (s' ≡ s) (t' ≡ t) status
+      → Gives status (Some (sink_targets s)) (Some (sink_targets s')) (Some (text_taken t)) (Some (text_taken t')) c bs
+      ⊎ ((status ≡ NoMemory) ⊎ AreFull s')
+  fit-completes Done a = inl (some_is _ bs _ fit.pages (a.done refl))
+  fit-completes Broken a = inl (some_is _ bs _ fit.pages (a.broken refl))
+  fit-completes Usage a = absurd (let z : Some c ≡ None = (a.usage refl).0 in cc)
+  fit-completes ReadFault a =
+      let fault = a.read_fault refl in
+      let told = fault.2 in
+      absurd (no-fault c told.0 fit.pages told.1 told.2 a.same_pages a.same_numbers.0 a.sample fault.0)
+  fit-completes NoMemory a = inr (inl refl)
+  fit-completes WriteFault a = elim (none-or-some (sink_faults s')) [
+    | inl level ↦ elim (none-or-some (pages_faults p')) [
+      | inl quiet ↦
+          let same : sink_faults s' ≡ sink_faults s = level ∙ sym fit.target_faults in
+          let gives = some_is _ bs _ fit.pages (a.write_fault_text refl same (quiet ∙ sym fit.page_faults)) in
+          absurd (room-left gives (a.write_fault_last_text refl same) a.same_numbers.2)
+      | inr rose ↦
+          let fault = a.write_fault_line refl (subst (λ n. n < pages_faults p') (sym fit.page_faults) rose) in
+          let told = fault.1 in
+          absurd (no-fault c told.0 fit.pages told.1 told.2 a.same_pages a.same_numbers.0 a.sample (subst (λ n. n < pages_faults p') (sym fit.page_faults) rose))
+    ]
+    | inr rose ↦
+        let none : listed (sink_calls s') ≡ [] = ap (λ ns. behind (behind ns)) a.same_numbers.1 ∙ fit.target_calls in
+        inr (inr (s'.shown (a.write_fault_last refl (subst (λ n. n < sink_faults s') (sym fit.target_faults) rose)) none))
+  ]

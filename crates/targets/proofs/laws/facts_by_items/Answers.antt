@@ -1,0 +1,7 @@
+use Rattle.ix_base.specs.Membership.{deepest}
+use Rattle.targets.specs.Contents.{SaysItem}
+use Rattle.targets.proofs.FactsLaws.{facts-given}
+use Rattle.targets.proofs.laws.facts_by_items.Goals as goal
+
+pub returns : goal.returns
+returns c = λ bases all es items facts one h. facts-given (SaysItem bases all) items one all deepest es facts h
