@@ -57,6 +57,7 @@ memory_answer o old new A B C b d page faults numbers sample starts asked = reco
   starts = starts;
   asked_page = asked;
   same_pages = page;
+  page_count = omega arith;
   same_numbers = numbers;
   stops = λ e. absurd (elim e [ inl x ↦ cc | inr x ↦ cc ]);
   quiet_done = λ e. cc;
@@ -101,6 +102,7 @@ usage_answer o old new A B C s none a b page faults same numbers either gains qu
       starts = tt;
       asked_page = tt;
       same_pages = page;
+      page_count = omega arith;
       same_numbers = numbers;
       stops = λ e. tt;
       quiet_done = λ e. absurd (not_one s Usage WriteFault Done either (λ x. cc) (λ x. cc) e);
@@ -140,6 +142,7 @@ fault_answer c old new A B C s name b page sample rose same among failed numbers
   starts = starts;
   asked_page = inr (name, among);
   same_pages = page;
+  page_count = omega arith;
   same_numbers = numbers;
   stops = λ e. absurd (elim e [ inl x ↦ not_one s ReadFault WriteFault Done either (λ y. cc) (λ y. cc) x | inr x ↦ not_one s ReadFault WriteFault Broken either (λ y. cc) (λ y. cc) x ]);
   quiet_done = λ e. absurd (not_one s ReadFault WriteFault Done either (λ x. cc) (λ x. cc) e);

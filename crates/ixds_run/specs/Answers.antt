@@ -1,5 +1,5 @@
 -- What a run answers: each status, when it comes, and what then stands.
-use Rattle.std.specs.Prelude.{◌≡◌, ◌⊎◌, ℕ, ◌<◌, Bool, IsTrue, List, Option, None, IfSome}
+use Rattle.std.specs.Prelude.{◌≡◌, ◌⊎◌, ℕ, ◌<◌, ◌≤◌, Bool, IsTrue, List, Option, None, IfSome}
 use Rattle.ix_base.specs.Outside.{Begun, TextGainsFront}
 use Rattle.ix_base.specs.declared.outside.PageSource as source
 use Rattle.ix_base.specs.declared.outside.TargetSink as sink
@@ -107,10 +107,12 @@ pub record Answers (command : Option Command) (old new : Outside) (SamePages Sam
   pub no_memory : s ≡ NoMemory → SameTargets × SameText
   pub no_memory_pages : s ≡ NoMemory → new.page_faults ≡ old.page_faults
   -- The pages are asked for in the order of the words, each once. The one that was asked for last is one of the command's,
-  -- after pages that are within the limit; and reading stops in time.
+  -- after pages that are within the limit; and reading stops in time. What the source tells of its pages stays, and the count of
+  -- its faults doesn't fall.
   pub starts : IfSome command (λ c. GainsStarts (pages_of c) old.page_starts new.page_starts)
   pub asked_page : IfSome command (λ c. SamePages ⊎ ((name : List ℕ) × IsAmong old.page (pages_of c) new.page_asked name))
   pub same_pages : new.page ≡ old.page
+  pub page_count : old.page_faults ≤ new.page_faults
   -- The numbers by which the three objects were made stay.
   pub same_numbers : (new.page_numbers ≡ old.page_numbers) × (new.target_numbers ≡ old.target_numbers) × (new.text_numbers ≡ old.text_numbers)
   pub stops : (s ≡ Done) ⊎ (s ≡ Broken)

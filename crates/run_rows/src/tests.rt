@@ -7,8 +7,6 @@ use ixds_run::{Status, run};
 use std::alloc::Global;
 use std::test::Fail;
 
-mod memory;
-
 /// Pages that each begin with four bytes, behind which stand so many bytes of one value. It tells none of them.
 #[derive(Drop)]
 struct Made {
@@ -57,7 +55,7 @@ impl PageSource for Made {
     }
 }
 
-pub(crate) const PLAIN: [&str; 6] = [
+const PLAIN: [&str; 6] = [
     "extract",
     "--base",
     "http://example.com/r/",
@@ -75,14 +73,15 @@ fn texts_of(alloc: Global, words: &[&str]) -> Result<Vec<Text>, Fail> {
     Ok(texts)
 }
 
-/// How a run ends whose pages are made so, of four bytes and of so many more of one value, what `out` takes, and how often
-/// the pages were called.
+/// How a run ends whose pages are made so, of four bytes and of so many more of one value, what `out` takes, whose puts of these
+/// numbers fail, and how often the pages were called.
 fn run_made(
     alloc: Global,
     words: &[&str],
     front: [u8; 4],
     byte: u8,
     more: usize,
+    fails: Vec<u64>,
 ) -> Result<(Status, MemText, u64), Fail> {
     let mut pages = watched(Made {
         front,
@@ -93,7 +92,7 @@ fn run_made(
         is_begun: false,
     });
     let mut sink = MemTargets::new(alloc, 4, 4000, Vec::new(alloc))?;
-    let mut out = MemText::new(alloc, 1000, Vec::new(alloc))?;
+    let mut out = MemText::new(alloc, 1000, fails)?;
     let words = texts_of(alloc, words)?;
     let status = run(alloc, words.as_slice(), &mut pages, &mut sink, &mut out);
     Ok((status, out, pages.calls))
@@ -121,7 +120,7 @@ fn the_size_of_a_page_is_limited(rt: HostRuntime) -> Result<(), Fail> {
         (*b"<<<<", b'<', 8_388_605, S2, 131),
     ];
     for (front, byte, more, report, due) in rows {
-        let (status, out, calls) = run_made(alloc, &PLAIN, front, byte, more)?;
+        let (status, out, calls) = run_made(alloc, &PLAIN, front, byte, more, Vec::new(alloc))?;
         assert!(rt; status == Status::Broken, "{byte} {more}");
         assert!(rt; out.taken() == report, "{byte} {more}");
         assert!(rt; calls == due, "{byte} {more} {calls}");
@@ -132,9 +131,22 @@ fn the_size_of_a_page_is_limited(rt: HostRuntime) -> Result<(), Fail> {
 /// The bytes of all pages count together. Reading goes on behind the break of the first page, and stops behind the limit.
 #[test]
 fn the_size_of_two_pages_is_limited(rt: HostRuntime) -> Result<(), Fail> {
-    let (status, out, calls) = run_made(rt.alloc(), &TWO, *b"</a>", b' ', 134_217_725)?;
+    let alloc = rt.alloc();
+    let (status, out, calls) = run_made(alloc, &TWO, *b"</a>", b' ', 134_217_725, Vec::new(alloc))?;
     assert!(rt; status == Status::Broken);
     assert!(rt; out.taken() == S1);
     assert_eq!(rt; calls, 4101);
+    Ok(())
+}
+
+/// Reading stops behind the limit where the report can't be put, too.
+#[test]
+fn the_size_of_a_page_is_limited_where_the_report_cant_be_put(rt: HostRuntime) -> Result<(), Fail> {
+    let alloc = rt.alloc();
+    let fails = vec![in alloc; 1]?;
+    let (status, out, calls) = run_made(alloc, &PLAIN, *b"</a>", b' ', 268_435_453, fails)?;
+    assert!(rt; status == Status::WriteFault);
+    assert!(rt; out.taken().is_empty());
+    assert_eq!(rt; calls, 4098);
     Ok(())
 }

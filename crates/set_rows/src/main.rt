@@ -10,7 +10,9 @@
 //! | `orders`, may be missing | the names of the pages in other orders, one order a line, which are to give the same |
 //! | `faults`, may be missing | numbers of calls of the sink, one a line, each with what stands in the targets where that call fails |
 //!
-//! A row runs with reads of 1, of 7 and of 65,536 bytes. Where all rows are as due the program ends with status 0, else with 1.
+//! A row runs with reads of 1, of 7 and of 65,536 bytes. A name with a number behind a colon, as `tuple:7`, runs its row once, with
+//! reads of 65,536 bytes, behind so many allocations of a byte: where the allocation of some number is refused to the program, the
+//! number behind the colon decides which one of the run that is. Where all rows are as due the program ends with status 0, else with 1.
 #![tactic(auto)]
 
 mod compare;
@@ -18,9 +20,10 @@ mod due;
 mod faults;
 mod files;
 mod outcome;
+mod refused;
 mod row;
 
-use anyhow::Result;
+use anyhow::{Context, Result};
 use due::Due;
 use outcome::STEPS;
 use row::Row;
@@ -61,6 +64,10 @@ fn seen(alloc: Global, row: &Row) -> Result<String> {
 /// What is told of the row of a name, and whether all of it is as due.
 fn told<R: Files + AllocGlobal>(rt: &R, name: &str) -> Result<(bool, String)> {
     let alloc = rt.alloc();
+    if let Some((name, bytes)) = name.split_once(':') {
+        let bytes = bytes.parse::<u32>().context("a number of bytes")?;
+        return refused::told(alloc, &Row::read(rt, name)?, bytes as usize);
+    }
     let row = Row::read(rt, name)?;
     match difference(alloc, &row)? {
         Some(text) => Ok((false, text)),

@@ -96,7 +96,11 @@ fn targets_difference(
 }
 
 /// How what there is after a run differs from what is due, where it does.
-fn outcome_difference(alloc: Global, due: &Due, outcome: &Outcome) -> Result<Option<String>>
+pub(crate) fn outcome_difference(
+    alloc: Global,
+    due: &Due,
+    outcome: &Outcome,
+) -> Result<Option<String>>
     ensures { IfOk result (λ told. told ≡ None → IsAsDue due.now outcome.now) }
 {
     let status = outcome.status.code();

@@ -63,6 +63,7 @@ returns g c =
       starts = read.starts;
       asked_page = read.asked;
       same_pages = read.pages;
+      page_count = omega (arith, same);
       same_numbers = (read.numbers, done.numbers.0, done.numbers.1);
       stops = λ e. read.stops;
       quiet_done = λ e. (same, (done.quiet (inl e)).0, (done.quiet (inl e)).1);
