@@ -1,28 +1,46 @@
 //! The folder in which targets are written.
-ghost use Rattle.std.specs.Prelude.{◌≡◌, ◌∷◌, [], List, Option, OnOk, OnErr};
-ghost use Rattle.ixds_cli.specs.Deeds.{Deed, created, synced, renamed, removed, did};
+ghost use Rattle.std.specs.Prelude.{◌≡◌, ◌∷◌, [], List, Option, IfOk, IfSome, OnOk, OnErr};
+ghost use Rattle.std.specs.Io.KnownBytes.{Keeps};
+ghost use Rattle.ixds_cli.specs.Deeds.{Deed, looked, created, synced, entered, renamed, settled, removed, did};
 
-use std::fs::OpenFile;
+use std::io;
 use std::io::Write;
-use std::rt::Files;
-use std::{fs, io};
 
 /// The calls of a file system that a target takes. Where a folder tells what it has done, a call that answers Ok has done one
 /// thing more, and one that fails nothing.
 pub trait Folder {
+    /// A file that is written.
     type File: Write + Drop;
+
+    /// The folder itself, opened.
+    type Dir: Drop;
 
     /// What it has done so far, where it tells, the last deed last.
     ghost deeds: { Self → Option (List Deed) };
 
-    /// Makes an empty file at a path, in place of one that stands there.
-    fn create(&mut self, path: &str) -> io::Result<Self::File>
-        ensures ok { OnOk result (deeds self.new ≡ did (created path.now ∷ []) (deeds self.old)) }
+    /// The permissions of the file that stands at a path, where one does.
+    fn look(&mut self, path: &str) -> io::Result<Option<u32>>
+        ensures ok { IfOk result (λ found. deeds self.new ≡ did (looked path.now found ∷ []) (deeds self.old)) }
         ensures err { OnErr result (deeds self.new ≡ deeds self.old) };
+
+    /// Makes an empty file at a path, with these permissions where any are asked for. Where something stands, a link too, it
+    /// fails with `AlreadyExists`, and leaves that as it is.
+    fn create(&mut self, path: &str, mode: Option<u32>) -> io::Result<Self::File>
+        ensures ok { OnOk result (deeds self.new ≡ did (created path.now mode ∷ []) (deeds self.old)) }
+        ensures err { OnErr result (deeds self.new ≡ deeds self.old) }
+
+        // A folder that tells its deeds makes files that are empty.
+        ensures empty { IfSome (deeds self.new) (λ _. IfOk result (λ file. IfSome (Self.File.contents file) (λ held. held ≡ []))) };
 
     /// Waits until all that was written to a file stands on the disk.
     fn sync(&mut self, file: &mut Self::File) -> io::Result<()>
-        ensures ok { OnOk result (deeds self.new ≡ did (synced ∷ []) (deeds self.old)) }
+        ensures ok { OnOk result (deeds self.new ≡ did (synced (Self.File.contents file.old) ∷ []) (deeds self.old)) }
+        ensures err { OnErr result (deeds self.new ≡ deeds self.old) }
+        ensures kept { Keeps (Self.File.contents file.old) (Self.File.contents file.new) };
+
+    /// Opens the folder at a path.
+    fn enter(&mut self, dir: &str) -> io::Result<Self::Dir>
+        ensures ok { OnOk result (deeds self.new ≡ did (entered dir.now ∷ []) (deeds self.old)) }
         ensures err { OnErr result (deeds self.new ≡ deeds self.old) };
 
     /// Gives a file another path, in place of one that stands there.
@@ -30,48 +48,12 @@ pub trait Folder {
         ensures ok { OnOk result (deeds self.new ≡ did (renamed from.now to.now ∷ []) (deeds self.old)) }
         ensures err { OnErr result (deeds self.new ≡ deeds self.old) };
 
-    /// Removes the file at a path.
-    fn remove(&mut self, path: &str) -> io::Result<()>
-        ensures ok { OnOk result (deeds self.new ≡ did (removed path.now ∷ []) (deeds self.old)) }
+    /// Waits until the names in a folder stand on the disk.
+    fn settle(&mut self, dir: &Self::Dir) -> io::Result<()>
+        ensures ok { OnOk result (deeds self.new ≡ did (settled ∷ []) (deeds self.old)) }
         ensures err { OnErr result (deeds self.new ≡ deeds self.old) };
-}
 
-/// The folders of the system. They tell nothing.
-#[derive(Drop)]
-pub struct SystemFolder<'a, R: Files> {
-    rt: &'a R,
-}
-
-impl<'a, R: Files> SystemFolder<'a, R> {
-    /// The folders of this system.
-    pub fn new(rt: &'a R) -> SystemFolder<'a, R>
-        ensures { result.rt ≡ rt.entry }
-    {
-        SystemFolder { rt }
-    }
-}
-
-impl<'a, R: Files> Folder for SystemFolder<'a, R> {
-    ghost use Rattle.std.specs.Prelude.{None};
-
-    type File = R::File;
-
-    ghost deeds = { λ _. None };
-
-    fn create(&mut self, path: &str) -> io::Result<R::File> {
-        fs::create(self.rt, path)
-    }
-
-    fn sync(&mut self, file: &mut R::File) -> io::Result<()> {
-        file.flush()?;
-        file.sync_all()
-    }
-
-    fn rename(&mut self, from: &str, to: &str) -> io::Result<()> {
-        fs::rename(self.rt, from, to)
-    }
-
-    fn remove(&mut self, path: &str) -> io::Result<()> {
-        fs::remove_file(self.rt, path)
-    }
+    /// Removes the file at a path, where that can be done.
+    fn remove(&mut self, path: &str)
+        ensures { deeds self.new ≡ did (removed path.now ∷ []) (deeds self.old) };
 }

@@ -2,23 +2,29 @@
 //! with the status code.
 #![tactic(auto)]
 
-ghost use Rattle.std.specs.Prelude.{◌≡◌, ◌+◌, ◌^◌, ◌<◌, None};
+ghost use Rattle.std.specs.Prelude.{◌≡◌, ◌⊎◌, ◌+◌, ◌^◌, ◌<◌, IfSome, None};
 ghost use Rattle.ixds_run.specs.Answers.{Answers, outside};
+ghost use Rattle.ixds_cli.specs.Complaints.{Tells, blame, complaint};
 ghost use Rattle.ixds_cli.specs.Ending.{EndsWith};
 ghost use Rattle.ixds_cli.specs.Words.{words_in, command_in};
 
+mod blamed;
+mod cause;
 mod complaint;
 mod folder;
 mod pages;
+mod parts;
+mod system;
 mod target_files;
 #[cfg(test)]
 mod tests;
 mod text;
 mod words;
 mod writing;
+mod wrong;
 
-use complaint::{Blamed, complain};
-use folder::SystemFolder;
+use blamed::Blamed;
+use complaint::complain;
 use ix_base::{PageSource, TargetSink, TextSink};
 use ixds_run::{Status, run};
 use pages::FilePages;
@@ -27,6 +33,7 @@ use std::env::Args;
 use std::io::Write;
 use std::process::ExitCode;
 use std::{env, io};
+use system::SystemFolder;
 use target_files::FileTargets;
 use text::StdoutText;
 use words::words_of;
@@ -37,14 +44,15 @@ fn ended(status: Status) -> ExitCode
     ExitCode::from(status.code())
 }
 
-/// Runs the words that the system hands over, the program's name first. Words that aren't text give no command, as no
-/// words do.
-fn run_handed<P: PageSource, S: TargetSink, T: TextSink>(
+/// Runs the words that the system hands over, the program's name first, and says on standard error why it ended, where it wasn't
+/// done and broke no rule. Words that aren't text give no command, as no words do.
+fn run_handed<P: PageSource + Blamed, S: TargetSink + Blamed, T: TextSink + Blamed, E: Write>(
     alloc: Global,
     handed: io::Result<Args>,
     pages: &mut P,
     sink: &mut S,
     out: &mut T,
+    err: &mut E,
 ) -> Status
     requires out { T.faults out.old + 1 < 2 ^ 64 }
     requires sink { S.faults sink.old + 1 < 2 ^ 64 }
@@ -59,16 +67,28 @@ fn run_handed<P: PageSource, S: TargetSink, T: TextSink>(
     // Where the words can't be had, memory is wanting, and nothing is done.
     ensures no_words { words_in handed ≡ None → (result ≡ Status.NoMemory)
         × (pages.new ≡ pages.old) × (sink.new ≡ sink.old) × (out.new ≡ out.old) }
+
+    // Which file is blamed, and why.
+    ensures told { IfSome (complaint result (blame P.Blamed pages.new) (blame S.Blamed sink.new) (blame T.Blamed out.new))
+        (Tells (E.contents err.old) (E.contents err.new)) }
+    ensures quiet { (result ≡ Status.Done) ⊎ (result ≡ Status.Broken) → err.new ≡ err.old }
 {
     match words_of(alloc, handed) {
-        Ok(words) => run(alloc, words.as_slice(), pages, sink, out),
-        Err(_) => Status::NoMemory,
+        Ok(words) => {
+            let status = run(alloc, words.as_slice(), pages, sink, out);
+            complain(alloc, words.as_slice(), status, pages, sink, out, err);
+            status
+        }
+        Err(_) => {
+            complain(alloc, &[], Status::NoMemory, pages, sink, out, err);
+            Status::NoMemory
+        }
     }
 }
 
-/// Runs the words that the system hands over, and says on standard error what no other text says. `main` makes the objects and
-/// calls it, and can't have clauses itself.
-fn run_words<P: PageSource, S: TargetSink + Blamed, T: TextSink, E: Write>(
+/// Runs the words that the system hands over, as `run_handed` does, and ends. `main` makes the objects and calls it, and can't have
+/// clauses itself.
+fn run_words<P: PageSource + Blamed, S: TargetSink + Blamed, T: TextSink + Blamed, E: Write>(
     alloc: Global,
     handed: io::Result<Args>,
     pages: &mut P,
@@ -89,15 +109,21 @@ fn run_words<P: PageSource, S: TargetSink + Blamed, T: TextSink, E: Write>(
     // Where the words can't be had, memory is wanting, and nothing is done.
     ensures no_words { words_in handed ≡ None → EndsWith result Status.NoMemory
         × (pages.new ≡ pages.old) × (sink.new ≡ sink.old) × (out.new ≡ out.old) }
+
+    // Which file is blamed, and why; a run that is done or broke a rule tells nothing.
+    ensures told { (status : Status) × EndsWith result status
+        × IfSome (complaint status (blame P.Blamed pages.new) (blame S.Blamed sink.new) (blame T.Blamed out.new))
+        (Tells (E.contents err.old) (E.contents err.new)) }
+    ensures quiet { (status : Status) × EndsWith result status
+        × ((status ≡ Status.Done) ⊎ (status ≡ Status.Broken) → err.new ≡ err.old) }
 {
-    let status = run_handed(alloc, handed, pages, sink, out);
-    complain(err, status, sink.failed_words());
+    let status = run_handed(alloc, handed, pages, sink, out, err);
     ended(status)
 }
 
 fn main(rt: HostRuntime) -> ExitCode {
     let alloc = rt.alloc();
-    let mut pages = FilePages::new(&rt);
+    let mut pages = FilePages::new(SystemFolder::new(&rt));
     let mut sink = FileTargets::new(alloc, SystemFolder::new(&rt));
     let mut out = StdoutText::new(io::writer(&rt));
     let mut err = rt.stderr().lock();

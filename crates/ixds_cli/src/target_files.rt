@@ -1,26 +1,19 @@
 //! Targets that are files.
-ghost use Rattle.std.specs.Prelude.{◌≡◌, ◌+◌, ◌∷◌, [], IfOk, IfSome, OnOk, length};
-ghost use Rattle.ixds_cli.specs.Deeds.{created, synced, renamed, did};
-ghost use Rattle.ixds_cli.specs.TargetPath.{target_path, beside_path};
+ghost use Rattle.std.specs.Prelude.{◌≡◌, ◌+◌, [], IfOk, IfSome, IsTrue, None, OnErr, OnOk, is_some, length};
+ghost use Rattle.ixds_cli.specs.Parts.{LooksAtMost, MakesPart, cleared};
+ghost use Rattle.ixds_cli.specs.TargetPath.{IsPartPath, target_path};
 
-use crate::complaint::Blamed;
+use crate::blamed::Blamed;
+use crate::cause::Cause;
 use crate::folder::Folder;
+use crate::parts::{Part, clear, part_of, path_of, placed};
 use crate::writing::put_all;
 use ix_base::{Failed, NoMemory, TargetSink, Text};
 use std::alloc::Global;
-use std::io;
-
-/// A target that is being written: its file, where that lies until the target is whole, and its place.
-#[derive(Drop)]
-struct Part<F> {
-    file: F,
-    beside: Text,
-    place: Text,
-}
 
 /// Targets that are files: `DIR/instance.xbrl` the default one, and `DIR/instance-T.xbrl` the target T. The directory
-/// must be there. A target is written beside its place, as `DIR/instance.xbrl.part`, and takes its place when it is finished:
-/// an instance that stands there is whole, before and after. It tells nothing of content.
+/// must be there. A target is written in a part of its own beside its place, and takes its place when it is finished: an
+/// instance that stands there is whole, before and after. It tells nothing of content.
 #[derive(Drop)]
 pub struct FileTargets<F: Folder + Drop> {
     alloc: Global,
@@ -29,13 +22,14 @@ pub struct FileTargets<F: Folder + Drop> {
     asked: Option<(Text, Text)>,
     asked_len: usize,
     faults: u64,
-    failed: bool,
+    cause: Option<Cause>,
 }
 
 impl<F: Folder + Drop> FileTargets<F> {
     /// No target is begun, and no call has failed yet.
     pub fn new(alloc: Global, folder: F) -> FileTargets<F>
-        ensures { result.faults ≡ 0 }
+        ensures faults { result.faults ≡ 0 }
+        ensures cause { result.cause ≡ None }
     {
         FileTargets {
             alloc,
@@ -44,7 +38,7 @@ impl<F: Folder + Drop> FileTargets<F> {
             asked: None,
             asked_len: 0,
             faults: 0,
-            failed: false,
+            cause: None,
         }
     }
 }
@@ -58,76 +52,44 @@ fn words_kept(alloc: Global, dir: &str, target: &str) -> Result<(Text, Text), No
     Ok((dir, target))
 }
 
-/// The path of a target's file.
-#[tactic(auto, unfolding(crate::specs::TargetPath::target_path))]
-pub fn path_of(alloc: Global, dir: &str, target: &str) -> Result<Text, NoMemory>
-    ensures { IfOk result (λ path. path ≡ target_path dir.now target.now) }
-{
-    let mut path = Text::of(alloc, dir)?;
-    path.push("/instance")?;
-    if !target.is_empty() {
-        path.push("-")?;
-        path.push(target)?;
-    }
-    path.push(".xbrl")?;
-    Ok(path)
-}
-
-/// The path at which a target is written until it is whole.
-#[tactic(auto, unfolding(crate::specs::TargetPath::beside_path))]
-fn beside_of(alloc: Global, place: &Text) -> Result<Text, NoMemory>
-    ensures { IfOk result (λ path. path ≡ beside_path place.now) }
-{
-    let mut path = Text::of(alloc, place.as_str())?;
-    path.push(".part")?;
-    Ok(path)
-}
-
-/// Makes the file of a target, beside its place.
-fn part_of<F: Folder>(
-    alloc: Global,
-    folder: &mut F,
-    dir: &str,
-    target: &str,
-) -> Option<Part<F::File>>
-    ensures place { IfSome result (λ p. p.place ≡ target_path dir.now target.now) }
-    ensures beside { IfSome result (λ p. p.beside ≡ beside_path (target_path dir.now target.now)) }
-    ensures made { IfSome result (λ p. F.deeds folder.new ≡ did (created p.beside ∷ []) (F.deeds folder.old)) }
-{
-    let place = path_of(alloc, dir, target).ok()?;
-    let beside = beside_of(alloc, &place).ok()?;
-    let file = folder.create(beside.as_str()).ok()?;
-    Some(Part {
-        file,
-        beside,
-        place,
-    })
-}
-
-/// Puts a part that is written whole in its place.
-fn placed<F: Folder>(folder: &mut F, part: &mut Part<F::File>) -> io::Result<()>
-    ensures { OnOk result (F.deeds folder.new
-        ≡ did (synced ∷ renamed part.old.beside part.old.place ∷ []) (F.deeds folder.old)) }
-{
-    folder.sync(&mut part.file)?;
-    folder.rename(part.beside.as_str(), part.place.as_str())
-}
-
 impl<F: Folder + Drop> FileTargets<F> {
-    /// Makes the file of a target, and keeps the two words.
-    fn open(&mut self, dir: &str, target: &str) -> Option<Part<F::File>>
+    ghost use Rattle.ixds_cli.specs.Lying.{lying};
+
+    /// Removes the part that still lies beside its place.
+    fn clear(&mut self)
+        ensures same { self.new ≡ record self.old { folder = self.new.folder; part = self.new.part } }
+        ensures deeds { F.deeds self.new.folder ≡ cleared (lying self.old.part) (F.deeds self.old.folder) }
+        ensures gone { lying self.new.part ≡ None }
+        ensures part { is_some self.new.part ≡ is_some self.old.part }
+        ensures file { IfSome self.old.part (λ p. IfSome self.new.part (λ q. q.file ≡ p.file)) }
+    {
+        if let Some(part) = &mut self.part {
+            clear(&mut self.folder, part);
+        }
+    }
+
+    /// Makes the part of a target, and keeps the two words.
+    fn open(&mut self, dir: &str, target: &str) -> Result<Part<F::File>, Cause>
         ensures faults { self.new.faults ≡ self.old.faults }
-        ensures failed { self.new.failed ≡ self.old.failed }
-        ensures part { self.new.part ≡ self.old.part }
+        ensures cause { self.new.cause ≡ self.old.cause }
+        ensures gone { lying self.new.part ≡ None }
+        ensures part { is_some self.new.part ≡ is_some self.old.part }
         ensures asked { IfSome self.new.asked (λ words. words ≡ (dir.now, target.now)) }
         ensures asked_len { self.new.asked_len ≡ length dir.now + length target.now }
-        ensures place { IfSome result (λ p. p.place ≡ target_path dir.now target.now) }
-        ensures beside { IfSome result (λ p. p.beside ≡ beside_path (target_path dir.now target.now)) }
-        ensures made { IfSome result (λ p. F.deeds self.new.folder ≡ did (created p.beside ∷ []) (F.deeds self.old.folder)) }
+        ensures known { OnOk result (IsTrue (is_some self.new.asked)) }
+        ensures dir { IfOk result (λ p. p.dir ≡ dir.now) }
+        ensures place { IfOk result (λ p. p.place ≡ target_path dir.now target.now) }
+        ensures beside { IfOk result (λ p. IfSome p.beside (IsPartPath (target_path dir.now target.now))) }
+        ensures made { IfOk result (λ p. MakesPart (target_path dir.now target.now) p.beside
+            (cleared (lying self.old.part) (F.deeds self.old.folder)) (F.deeds self.new.folder)) }
+        ensures empty { IfSome (F.deeds self.new.folder) (λ _. IfOk result (λ p. IfSome (F.File.contents p.file) (λ held. held ≡ []))) }
+        ensures unmade { OnErr result (LooksAtMost (target_path dir.now target.now)
+            (cleared (lying self.old.part) (F.deeds self.old.folder)) (F.deeds self.new.folder)) }
     {
+        self.clear();
         self.asked = None;
         self.asked_len = dir.len() + target.len();
-        let words = words_kept(self.alloc, dir, target).ok()?;
+        let words = words_kept(self.alloc, dir, target)?;
         self.asked = Some(words);
         part_of(self.alloc, &mut self.folder, dir, target)
     }
@@ -142,14 +104,16 @@ impl<F: Folder + Drop> FileTargets<F> {
 }
 
 impl<F: Folder + Drop> TargetSink for FileTargets<F> {
-    ghost use Rattle.std.specs.Prelude.{None, [], IsTrue, is_some, is_err, OnErr, ◌^◌, ◌<◌};
+    ghost use Rattle.std.specs.Prelude.{is_err, ◌^◌, ◌<◌, ◌⊎◌};
     ghost use Rattle.std.specs.Io.KnownBytes.{Appends};
     ghost use Rattle.ix_base.specs.Outside.{HasCause};
+    ghost use Rattle.ixds_cli.specs.Lying.{lying};
+    ghost use Rattle.ixds_cli.specs.Parts.{LeavesFolder, LeavesPlace, PlacesPart};
     ghost use Rattle.ixds_cli.specs.Written.{AppendsFront};
 
     ghost faults = { λ t. t.faults };
 
-    ghost last_failed = { λ t. t.failed };
+    ghost last_failed = { λ t. is_some t.cause };
 
     ghost numbers = { λ _. [] };
 
@@ -164,25 +128,32 @@ impl<F: Folder + Drop> TargetSink for FileTargets<F> {
     fn begin(&mut self, dir: &str, target: &str) -> Result<(), Failed>
         requires { self.old.faults + 1 < 2 ^ 64 }
         ensures cause { HasCause self.old.faults self.new.faults result }
-        ensures failed { self.new.failed ≡ is_err result }
+        ensures failed { is_some self.new.cause ≡ is_err result }
         ensures opened { OnOk result (IsTrue (is_some self.new.part)) }
         ensures kept { OnErr result (is_some self.new.part ≡ is_some self.old.part) }
         ensures asked { IfSome self.new.asked (λ words. words ≡ (dir.now, target.now)) }
         ensures asked_len { self.new.asked_len ≡ length dir.now + length target.now }
+        ensures known { OnOk result (IsTrue (is_some self.new.asked)) }
+        ensures dir { OnOk result (IfSome self.new.part (λ p. p.dir ≡ dir.now)) }
         ensures place { OnOk result (IfSome self.new.part (λ p. p.place ≡ target_path dir.now target.now)) }
-        ensures beside { OnOk result (IfSome self.new.part (λ p. p.beside ≡ beside_path (target_path dir.now target.now))) }
-        ensures made { OnOk result (IfSome self.new.part (λ p. F.deeds self.new.folder
-            ≡ did (created p.beside ∷ []) (F.deeds self.old.folder))) }
+        ensures beside { OnOk result (IfSome (lying self.new.part) (IsPartPath (target_path dir.now target.now))) }
+        ensures made { OnOk result (MakesPart (target_path dir.now target.now) (lying self.new.part)
+            (cleared (lying self.old.part) (F.deeds self.old.folder)) (F.deeds self.new.folder)) }
+        ensures empty { OnOk result (IfSome (F.deeds self.new.folder)
+            (λ _. IfSome self.new.part (λ p. IfSome (F.File.contents p.file) (λ held. held ≡ [])))) }
+        ensures unmade { OnErr result (LooksAtMost (target_path dir.now target.now)
+            (cleared (lying self.old.part) (F.deeds self.old.folder)) (F.deeds self.new.folder)) }
+        ensures gone { OnErr result (lying self.new.part ≡ None) }
     {
-        self.failed = false;
+        self.cause = None;
         match self.open(dir, target) {
-            Some(part) => {
+            Ok(part) => {
                 self.part = Some(part);
                 Ok(())
             }
-            None => {
+            Err(cause) => {
                 self.faults += 1;
-                self.failed = true;
+                self.cause = Some(cause);
                 Err(Failed)
             }
         }
@@ -192,7 +163,7 @@ impl<F: Folder + Drop> TargetSink for FileTargets<F> {
         requires count { self.old.faults + 1 < 2 ^ 64 }
         requires opened { IsTrue (is_some self.old.part) }
         ensures cause { HasCause self.old.faults self.new.faults result }
-        ensures failed { self.new.failed ≡ is_err result }
+        ensures failed { is_some self.new.cause ≡ is_err result }
         ensures opened { IsTrue (is_some self.new.part) }
         ensures asked { self.new.asked ≡ self.old.asked }
         ensures asked_len { self.new.asked_len ≡ self.old.asked_len }
@@ -200,62 +171,72 @@ impl<F: Folder + Drop> TargetSink for FileTargets<F> {
             Appends (F.File.contents p.file) (F.File.contents q.file) piece.now))) }
         ensures front { IfSome self.old.part (λ p. IfSome self.new.part (λ q.
             AppendsFront (F.File.contents p.file) (F.File.contents q.file) piece.now)) }
-        ensures same { IfSome self.old.part (λ p. IfSome self.new.part (λ q. (q.place ≡ p.place) × (q.beside ≡ p.beside))) }
+        ensures quiet { OnOk result (F.deeds self.new.folder ≡ F.deeds self.old.folder) }
+        ensures same { OnOk result (IfSome self.old.part (λ p. IfSome self.new.part (λ q.
+            (q.beside ≡ p.beside) × (q.place ≡ p.place) × (q.dir ≡ p.dir)))) }
+        ensures cleared { OnErr result (F.deeds self.new.folder ≡ cleared (lying self.old.part) (F.deeds self.old.folder)) }
+        ensures gone { OnErr result (lying self.new.part ≡ None) }
     {
-        self.failed = false;
-        match self.part.take() {
-            Some(mut part) => {
-                let is_put = put_all(&mut part.file, piece);
-                if is_put {
-                    self.part = Some(part);
-                    return Ok(());
-                }
-                let _ = self.folder.remove(part.beside.as_str());
-                self.part = Some(part);
-                self.faults += 1;
-                self.failed = true;
-                Err(Failed)
-            }
+        let put = match &mut self.part {
+            Some(part) => put_all(&mut part.file, piece),
             None => unreachable!(),
+        };
+        self.cause = put.err();
+        if self.cause.is_none() {
+            return Ok(());
         }
+        self.clear();
+        self.faults += 1;
+        Err(Failed)
     }
 
     fn finish(&mut self) -> Result<(), Failed>
         requires count { self.old.faults + 1 < 2 ^ 64 }
         requires opened { IsTrue (is_some self.old.part) }
         ensures cause { HasCause self.old.faults self.new.faults result }
-        ensures failed { self.new.failed ≡ is_err result }
+        ensures failed { is_some self.new.cause ≡ is_err result }
         ensures closed { is_some self.new.part ≡ is_err result }
         ensures asked { self.new.asked ≡ self.old.asked }
         ensures asked_len { self.new.asked_len ≡ self.old.asked_len }
-        ensures placed { OnOk result (IfSome self.old.part (λ p. F.deeds self.new.folder
-            ≡ did (synced ∷ renamed p.beside p.place ∷ []) (F.deeds self.old.folder))) }
+        ensures placed { OnOk result (IfSome self.old.part (λ p. PlacesPart p.beside (F.File.contents p.file) p.dir p.place
+            (F.deeds self.old.folder) (F.deeds self.new.folder))) }
+        ensures unplaced { OnErr result (IfSome self.old.part (λ p.
+            LeavesPlace p.beside (F.File.contents p.file) p.dir (F.deeds self.old.folder) (F.deeds self.new.folder)
+            ⊎ LeavesFolder p.beside (F.File.contents p.file) p.dir p.place (F.deeds self.old.folder) (F.deeds self.new.folder))) }
+        ensures gone { lying self.new.part ≡ None }
     {
-        self.failed = false;
-        match self.part.take() {
-            Some(mut part) => match placed(&mut self.folder, &mut part) {
-                Ok(()) => Ok(()),
-                Err(_) => {
-                    let _ = self.folder.remove(part.beside.as_str());
-                    self.faults += 1;
-                    self.failed = true;
-                    self.part = Some(part);
-                    Err(Failed)
-                }
-            },
+        let placed = match &mut self.part {
+            Some(part) => placed(&mut self.folder, part),
             None => unreachable!(),
+        };
+        self.cause = placed.err();
+        if self.cause.is_none() {
+            self.part = None;
+            return Ok(());
         }
+        self.faults += 1;
+        Err(Failed)
     }
 }
 
 impl<F: Folder + Drop> Blamed for FileTargets<F> {
-    fn failed_words(&self) -> Option<(&str, &str)> {
-        if self.faults == 0 {
-            return None;
-        }
-        match &self.asked {
-            Some((dir, target)) => Some((dir.as_str(), target.as_str())),
-            None => None,
-        }
+    ghost use Rattle.std.specs.Prelude.{option_map};
+
+    ghost cause = { λ t. t.cause };
+
+    // The path of the target that was asked for last.
+    ghost name = { λ t. option_map (λ words. target_path words.0 words.1) t.asked };
+
+    fn cause(&self) -> Option<Cause> {
+        self.cause
+    }
+
+    fn name(&self, alloc: Global) -> Result<Vec<u8>, NoMemory> {
+        let Some((dir, target)) = &self.asked else {
+            return Err(NoMemory);
+        };
+        let path = path_of(alloc, dir.as_str(), target.as_str())?;
+        let name = path.as_str().as_bytes().to_vec(alloc)?;
+        Ok(name)
     }
 }

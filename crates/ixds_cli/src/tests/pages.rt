@@ -1,0 +1,85 @@
+//! Pages that are read, and the text that is printed.
+
+use super::Slow;
+use crate::blamed::Blamed;
+use crate::cause::Cause;
+use crate::pages::{FilePages, read_some};
+use crate::system::SystemFolder;
+use crate::text::StdoutText;
+use ix_base::{PageSource, TextSink};
+use std::test::Fail;
+use std::{fs, io};
+
+#[test]
+fn a_page_is_read_in_pieces(rt: HostRuntime) -> Result<(), Fail> {
+    let _ = fs::remove_dir_all(&rt, "ixds_cli_pages");
+    fs::create_dir(&rt, "ixds_cli_pages")?;
+    fs::write(&rt, "ixds_cli_pages/a.html", b"0123456789".as_slice())?;
+    let mut pages = FilePages::new(SystemFolder::new(&rt));
+    let mut buf = [0; 4];
+    pages.start("ixds_cli_pages/a.html")?;
+    let n = pages.read(&mut buf)?;
+    assert!(rt; &buf[..n] == b"0123".as_slice());
+    let n = pages.read(&mut buf)?;
+    assert!(rt; &buf[..n] == b"4567".as_slice());
+    let n = pages.read(&mut buf)?;
+    assert!(rt; &buf[..n] == b"89".as_slice());
+    let n = pages.read(&mut buf)?;
+    assert!(rt; n == 0);
+    // A second start begins at the first byte again.
+    pages.start("ixds_cli_pages/a.html")?;
+    let n = pages.read(&mut buf)?;
+    assert!(rt; &buf[..n] == b"0123".as_slice());
+    assert!(rt; pages.start("ixds_cli_pages/missing.html").is_err());
+    assert!(rt; pages.cause() == Some(Cause::Missing));
+    fs::remove_dir_all(&rt, "ixds_cli_pages")?;
+    Ok(())
+}
+
+#[test]
+fn a_piece_is_read_or_the_read_fails(rt: HostRuntime) -> Result<(), Fail> {
+    let alloc = rt.alloc();
+    let rows: [(u8, usize, usize, Result<usize, Cause>); 5] = [
+        (0, 100, 100, Ok(4)),
+        (3, 100, 100, Ok(4)),
+        (0, 3, 100, Ok(3)),
+        (0, 0, 100, Ok(0)),
+        (2, 100, 0, Err(Cause::Full)),
+    ];
+    for (interrupts, most, end, due) in rows {
+        let mut file = Slow::new(alloc, interrupts, most, end);
+        let mut buf = [0; 4];
+        assert!(rt;
+            read_some(&mut file, &mut buf) == due,
+            "{interrupts} {most} {end}"
+        );
+    }
+    Ok(())
+}
+
+#[test]
+fn a_text_is_put_whole_or_fails(rt: HostRuntime) -> Result<(), Fail> {
+    let alloc = rt.alloc();
+    let rows: [(u8, usize, usize, bool); 5] = [
+        (0, 3, 100, true),
+        (2, 100, 100, true),
+        (0, 100, 100, true),
+        (0, 0, 100, false),
+        (0, 3, 6, false),
+    ];
+    for (interrupts, most, end, is_put) in rows {
+        let mut out = StdoutText::new(Slow::new(alloc, interrupts, most, end));
+        assert!(rt; out.put(b"").is_ok());
+        assert!(rt;
+            out.put(b"ten bytes\n").is_ok() == is_put,
+            "{interrupts} {most} {end}"
+        );
+        assert!(rt;
+            out.cause().is_none() == is_put,
+            "{interrupts} {most} {end}"
+        );
+    }
+    let mut out = StdoutText::new(io::writer(&rt));
+    out.put(b"printed by the test of the text\n")?;
+    Ok(())
+}
