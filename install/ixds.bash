@@ -1,0 +1,45 @@
+# Completion for bash of ixds and ixds-lines.
+
+_ixds() {
+    local word=${COMP_WORDS[COMP_CWORD]} before=${COMP_WORDS[COMP_CWORD - 1]} command=${COMP_WORDS[1]}
+    COMPREPLY=()
+    if [ "$COMP_CWORD" -eq 1 ]; then
+        mapfile -t COMPREPLY < <(compgen -W 'extract check sample' -- "$word")
+        return
+    fi
+    case "$command" in extract | check) ;; *) return ;; esac
+    case "$before" in
+    --base)
+        mapfile -t COMPREPLY < <(compgen -W 'http:// https://' -- "$word")
+        compopt -o nospace
+        return
+        ;;
+    --out)
+        mapfile -t COMPREPLY < <(compgen -d -- "$word")
+        compopt -o filenames
+        return
+        ;;
+    esac
+    case "$word" in
+    -*)
+        local options='--base'
+        [ "$command" = check ] || options='--base --out'
+        mapfile -t COMPREPLY < <(compgen -W "$options" -- "$word")
+        ;;
+    *)
+        local IFS=$'\n' extglob
+        extglob=$(shopt -p extglob)
+        shopt -s extglob
+        mapfile -t COMPREPLY < <(compgen -d -- "$word"; compgen -f -X '!*.@(html|htm|xhtml|xml)' -- "$word")
+        $extglob
+        compopt -o filenames
+        ;;
+    esac
+}
+
+_ixds_lines() {
+    mapfile -t COMPREPLY < <(compgen -W '--caret' -- "${COMP_WORDS[COMP_CWORD]}")
+}
+
+complete -F _ixds ixds
+complete -F _ixds_lines ixds-lines
