@@ -5,7 +5,7 @@ use Rattle.std.proofs.lemmas.Bool.{and_parts, and_from, leb-true, le-leb}
 use Rattle.std.proofs.lemmas.List.Folds.{list_all-append}
 use Rattle.std.proofs.Math.Seq.{take-length, take-append_seam, drop-append_seam}
 use Rattle.std.specs.List.{list_all, slice_range}
-use Rattle.ix_base.specs.Outside.{Begun, begun, is_last_open, last_grown, last_finished}
+use Rattle.ix_base.specs.Outside.{Begun, begun, is_last_open, last_grown, last_finished, room_of}
 use Rattle.ix_base.specs.Slots.{is_within, target_at, targets_at}
 use Rattle.ix_base.specs.declared.memory.shelf.Slot.{Slot}
 
@@ -185,3 +185,47 @@ pub open_at : (held : List ℕ) (ss : List Slot) (any : Bool) (s : Slot) → (an
 open_at held ss true s none = sym (is_last_open-append (map (target_at held) ss) (target_at held s))
 open_at held [] false s none = refl
 open_at held (x ∷ ss) false s none = absurd (omega (arith, none refl))
+
+-- how many bytes targets take
+pub room-append : (a b : List Begun) → room_of (a ++ b) ≡ room_of a + room_of b
+room-append [] b = let none : room_of b ≡ 0 + room_of b = omega arith in none
+room-append (t ∷ a) b = let more = room-append a b in omega arith
+
+room-grown : (p : List ℕ) (t : Begun) (ts : List Begun) → room_of (last_grown p (ts ++ t ∷ [])) ≡ room_of (ts ++ t ∷ []) + length p
+room-grown p t ts =
+    let grown : Begun = record t { bytes = t.bytes ++ p } in
+    let a : room_of (last_grown p (ts ++ t ∷ [])) ≡ room_of ts + (length t.dir + (length t.name + length (t.bytes ++ p)) + 0)
+    = ap room_of (grown_last p t ts) ∙ room-append ts (grown ∷ []) in
+    let b : room_of (ts ++ t ∷ []) ≡ room_of ts + (length t.dir + (length t.name + length t.bytes) + 0) = room-append ts (t ∷ []) in
+    let n = length-append t.bytes p in
+    omega arith
+
+room-finished : (ts : List Begun) → room_of (last_finished ts) ≡ room_of ts
+room-finished [] = refl
+room-finished (t ∷ []) = refl
+room-finished (t ∷ u ∷ ts) = ap (λ n. length t.dir + (length t.name + length t.bytes) + n) (room-finished (u ∷ ts))
+
+pub filled-grown : (held held' p : List ℕ) (ss : List Slot) (any : Bool) (s : Slot) (end : ℕ) → held' ≡ held ++ p → end ≡ length held' → any ≡ true
+    → list_all (is_within (length held)) ss ≡ true → is_within (length held) s ≡ true → s.end ≡ length held
+    → room_of (targets_at held ss any s) ≡ length held → room_of (targets_at held' ss any (record s { end = end })) ≡ length held'
+filled-grown held held' p ss false s end is to there each last at filled = cc
+filled-grown held held' p ss true s end is to there each last at filled =
+    let a = ap room_of (grown_as held held' p ss true s end is to there each last at) ∙ room-grown p (target_at held s) (map (target_at held) ss) in
+    let b : length held' ≡ length held + length p = ap length is ∙ length-append held p in
+    a ∙ ap (λ n. n + length p) filled ∙ sym b
+
+pub filled-finished : (held : List ℕ) (ss : List Slot) (any : Bool) (s : Slot) → any ≡ true
+    → room_of (targets_at held ss any s) ≡ length held → room_of (targets_at held ss any (record s { finished = true })) ≡ length held
+filled-finished held ss any s there filled = ap room_of (finished_at held ss any s there) ∙ room-finished (targets_at held ss any s) ∙ filled
+
+pub filled-added : (held one held' dir name : List ℕ) (ss ss' : List Slot) (any : Bool) (s : Slot) (i j k : ℕ) → one ≡ held ++ dir → held' ≡ one ++ name → ss' ≡ ss ++ (if any then s ∷ [] else [])
+    → (any ≡ false → length ss ≡ 0) → list_all (is_within (length held)) ss ≡ true → is_within (length held) s ≡ true
+    → i ≡ length held → j ≡ length one → k ≡ length held' → room_of (targets_at held ss any s) ≡ length held
+    → room_of (targets_at held' ss' true (record { dir = i; name = j; bytes = k; end = k; finished = false })) ≡ length held'
+filled-added held one held' dir name ss ss' any s i j k is is' more none each last e f g filled =
+    let a : length one ≡ length held + length dir = ap length is ∙ length-append held dir in
+    let b : length held' ≡ length one + length name = ap length is' ∙ length-append one name in
+    let all : room_of (targets_at held' ss' true (record { dir = i; name = j; bytes = k; end = k; finished = false }))
+    ≡ room_of (targets_at held ss any s) + (length dir + (length name + 0) + 0)
+    = ap room_of (added_as held one held' dir name ss ss' any s i j k is is' more none each last e f g) ∙ room-append (targets_at held ss any s) (begun dir name ∷ []) in
+    omega arith

@@ -1,5 +1,5 @@
 -- What the objects of the outside tell, and what their calls do to it.
-use Rattle.std.specs.Prelude.{◌≡◌, ℕ, ◌<◌, ◌≤◌, Bool, true, false, not, List, [], ◌∷◌, ◌++◌, length, take, Result, Option, OnOk, OnErr, IsTrue, is_some, option_map, Some, None, if◌then◌else◌, bytes_eq}
+use Rattle.std.specs.Prelude.{◌≡◌, ℕ, ◌+◌, ◌<◌, ◌≤◌, Bool, true, false, not, List, [], ◌∷◌, ◌++◌, length, take, Result, Option, OnOk, OnErr, IsTrue, is_some, option_map, Some, None, if◌then◌else◌, bytes_eq}
 
 -- A failure has a cause: the count rose in this call. Ok leaves it.
 pub record HasCause {A E : Type 0} (before now : ℕ) (result : Result A E) : Type 0 where
@@ -26,6 +26,11 @@ pub record Begun : Type 0 where
 -- a target as begin leaves it
 abbrev pub begun : List ℕ → List ℕ → Begun
 begun dir name = record { dir = dir; name = name; bytes = []; finished = false }
+
+-- how many bytes targets take: of their directory words, of their names, and what they hold
+abbrev pub room_of : List Begun → ℕ
+room_of [] = 0
+room_of (t ∷ ts) = length t.dir + (length t.name + length t.bytes) + room_of ts
 
 -- the first target of this name
 abbrev pub first_named : List ℕ → List Begun → Option Begun

@@ -8,7 +8,7 @@ use Rattle.ix_base.specs.Calls.{listed}
 use Rattle.ix_base.specs.MemPages.{pages_asked, pages_calls, pages_failed, pages_faults, pages_numbers, pages_page}
 use Rattle.ix_base.specs.MemTargets.{sink_asked, sink_asked_len, sink_calls, sink_count, sink_faults, sink_most, sink_numbers, sink_room, sink_room_left, sink_targets}
 use Rattle.ix_base.specs.MemText.{text_calls, text_faults, text_numbers, text_room, text_taken}
-use Rattle.ix_base.specs.Outside.{Begun}
+use Rattle.ix_base.specs.Outside.{Begun, room_of}
 use Rattle.ix_base.specs.Slots.{target_at, targets_at}
 use Rattle.ix_base.specs.declared.memory.pages.MemPages.{MemPages}
 use Rattle.ix_base.specs.declared.memory.shelf.Slot.{Slot}
@@ -19,7 +19,7 @@ use Rattle.ixds_run.specs.CommandBytes.{AreSome, bytes_told}
 use Rattle.ixds_run.specs.Commands.{number_of, pages_of}
 use Rattle.ixds_run.specs.Deliveries.{Gives, GivesFront, GivesPart}
 use Rattle.ixds_run.specs.Gains.{IsCut, Words}
-use Rattle.ixds_run.specs.InMemory.{AreFit, IsAccounted, memory_outside, room_of}
+use Rattle.ixds_run.specs.InMemory.{AreFit, memory_outside}
 use Rattle.ixds_run.specs.Reading.{IsAmong}
 use Rattle.ixds_run.specs.Sources.{told, told_both}
 use Rattle.ixds_run.specs.declared.command.Command.{Command}
@@ -81,6 +81,14 @@ count-at held earlier false last =
 count-told : (s : MemTargets) → sink_count s ≡ length (sink_targets s)
 count-told s = count-at s.shelf.held.items s.shelf.earlier.items s.shelf.any s.shelf.last
 
+-- what is left of the targets' room and what they take are together that room
+accounted : (s : MemTargets) → sink_room_left s + room_of (sink_targets s) ≡ sink_room s
+accounted s =
+    let filled : room_of (sink_targets s) ≡ length s.shelf.held.items = s.shelf.filled in
+    let len : s.shelf.held.len ≡ length s.shelf.held.items = s.shelf.held.ok.0 in
+    let fits : s.shelf.held.len ≤ s.room = s.fits in
+    omega arith
+
 room-append : (a b : List Begun) → room_of (a ++ b) ≡ room_of a + room_of b
 room-append [] b = let none : room_of b ≡ 0 + room_of b = omega arith in none
 room-append (t ∷ a) b = let more = room-append a b in omega arith
@@ -131,9 +139,10 @@ module _ (c : Command) (bs : List (List ℕ)) (p p' : MemPages) (s s' : MemTarge
 
   -- the targets don't run out of places or of room
   places-left : GivesPart (Some (sink_targets s)) (Some (sink_targets s')) (record { told = sink_asked s'; len = sink_asked_len s' }) c bs
-      → IsTrue s'.calls.failed → sink_numbers s' ≡ sink_numbers s → IsAccounted s' → ⊥
-  places-left gives failed numbers account =
+      → IsTrue s'.calls.failed → sink_numbers s' ≡ sink_numbers s → ⊥
+  places-left gives failed numbers =
       let none : listed (sink_calls s') ≡ [] = ap (λ ns. behind (behind ns)) numbers ∙ fit.target_calls in
+      let account = accounted s' in
       let most : sink_most s' ≡ sink_most s = ap first numbers in
       let room : sink_room s' ≡ sink_room s = ap (λ ns. first (behind ns)) numbers in
       let due = gives.0.targets in
@@ -164,7 +173,7 @@ module _ (c : Command) (bs : List (List ℕ)) (p p' : MemPages) (s s' : MemTarge
 
   pub fit-completes : (status : Status) → Answers (Some c) (memory_outside p s t) (memory_outside p' s' t') (p' ≡ p) (s' ≡ s) (t' ≡ t) status
       → Gives status (Some (sink_targets s)) (Some (sink_targets s')) (Some (text_taken t)) (Some (text_taken t')) c bs
-      ⊎ ((status ≡ NoMemory) ⊎ (IsAccounted s' → ⊥))
+      ⊎ (status ≡ NoMemory)
   fit-completes Done a = inl (some_is _ bs _ fit.pages (a.done refl))
   fit-completes Broken a = inl (some_is _ bs _ fit.pages (a.broken refl))
   fit-completes Usage a = absurd (let z : Some c ≡ None = (a.usage refl).0 in cc)
@@ -172,7 +181,7 @@ module _ (c : Command) (bs : List (List ℕ)) (p p' : MemPages) (s s' : MemTarge
       let fault = a.read_fault refl in
       let told = fault.2 in
       absurd (no-fault c told.0 fit.pages told.1 told.2 a.same_pages a.same_numbers.0 a.sample fault.0)
-  fit-completes NoMemory a = inr (inl refl)
+  fit-completes NoMemory a = inr refl
   fit-completes WriteFault a = elim (none-or-some (sink_faults s')) [
     | inl level ↦
         let same : sink_faults s' ≡ sink_faults s = level ∙ sym fit.target_faults in
@@ -185,5 +194,5 @@ module _ (c : Command) (bs : List (List ℕ)) (p p' : MemPages) (s s' : MemTarge
     | inr rose ↦
         let rose' : sink_faults s < sink_faults s' = subst (λ n. n < sink_faults s') (sym fit.target_faults) rose in
         let part = some_is _ bs _ fit.pages (a.write_fault_targets refl rose').1 in
-        inr (inr (places-left part (a.write_fault_last refl rose') a.same_numbers.1))
+        absurd (places-left part (a.write_fault_last refl rose') a.same_numbers.1)
   ]

@@ -1,10 +1,10 @@
 -- A run over objects in memory.
-use Rattle.std.specs.Prelude.{◌≡◌, ℕ, ◌+◌, ◌<◌, List, [], ◌∷◌, length, Some}
+use Rattle.std.specs.Prelude.{◌≡◌, ℕ, ◌+◌, ◌<◌, List, [], length, Some}
 use Rattle.ix_base.specs.Calls.{listed}
 use Rattle.ix_base.specs.MemPages.{pages_asked, pages_calls, pages_failed, pages_faults, pages_left, pages_numbers, pages_page, pages_starts}
-use Rattle.ix_base.specs.MemTargets.{sink_asked, sink_asked_len, sink_calls, sink_failed, sink_faults, sink_most, sink_numbers, sink_room, sink_room_left, sink_targets}
+use Rattle.ix_base.specs.MemTargets.{sink_asked, sink_asked_len, sink_calls, sink_failed, sink_faults, sink_most, sink_numbers, sink_room, sink_targets}
 use Rattle.ix_base.specs.MemText.{text_calls, text_failed, text_faults, text_numbers, text_room, text_taken}
-use Rattle.ix_base.specs.Outside.{Begun}
+use Rattle.ix_base.specs.Outside.{room_of}
 use Rattle.ix_base.specs.declared.memory.pages.MemPages.{MemPages}
 use Rattle.ix_base.specs.declared.memory.targets.MemTargets.{MemTargets}
 use Rattle.ix_base.specs.declared.memory.text.MemText.{MemText}
@@ -34,11 +34,6 @@ memory_outside p s t = record {
   text_numbers = text_numbers t;
 }
 
--- how many bytes targets take: of their directory words, of their names, and what they hold
-abbrev pub room_of : List Begun → ℕ
-room_of [] = 0
-room_of (t ∷ ts) = length t.dir + (length t.name + length t.bytes) + room_of ts
-
 -- The three objects are fit for a command: its pages are there and have these bytes, no call is to fail, no call of the targets
 -- has failed, there may be more targets than those there and those that are due, with more room than for those there and twice
 -- for those that are due, and the text has more room than for what it has and what is due.
@@ -52,7 +47,3 @@ pub record AreFit (c : Command) (bs : List (List ℕ)) (p : MemPages) (s : MemTa
   pub target_room : (due : DueOutcome) → IsOutcome c bs due
       → room_of (sink_targets s) + (room_of due.targets + room_of due.targets) < sink_room s
   pub text_room : (due : DueOutcome) → IsOutcome c bs due → length (text_taken t) + length due.text < text_room t
-
--- what is left of the targets' room and what they take are together that room
-abbrev pub IsAccounted : MemTargets → Type 0
-IsAccounted s = sink_room_left s + room_of (sink_targets s) ≡ sink_room s

@@ -11,7 +11,7 @@ ghost use Rattle.ixds_run.specs.Commands.{command_of, IsGiven};
 ghost use Rattle.ixds_run.specs.DueOutcomes.{AreReadBack, DueOutcome, IsOutcome};
 ghost use Rattle.targets.specs.Breaches.{PagesComeTo};
 ghost use Rattle.ixds_run.specs.Deliveries.{Gives};
-ghost use Rattle.ixds_run.specs.InMemory.{AreFit, IsAccounted, memory_outside};
+ghost use Rattle.ixds_run.specs.InMemory.{AreFit, memory_outside};
 ghost use Rattle.ixds_run.specs.Rearrangement.{Handed, bytes_of, names_of};
 ghost use Rattle.ixds_run.specs.Texts.{breach_line};
 ghost use Rattle.ixds_run.specs.declared.command.Command.{Command};
@@ -65,12 +65,10 @@ pub fn outside_in_memory(p: &MemPages, s: &MemTargets, t: &MemText)
         ≡ memory_outside p.now s.now t.now }
 {}
 
-/// What a run answers to a command over objects in memory that are fit for it: the outcome is given, or memory is wanted. The third
-/// case comes to no targets that `MemTargets::new` and the calls of `run` make, which no clause says: what is left of their room isn't
-/// what they leave of it.
+/// What a run answers to a command over objects in memory that are fit for it: the outcome is given, or memory is wanted.
 pub fn complete_in_memory()
     ensures { (c : Command) (bs : List (List ℕ)) (p q : MemPages) (s u : MemTargets) (t v : MemText) (status : Status) → AreFit c bs p s t
         → Answers (Some c) (memory_outside p s t) (memory_outside q u v) (q ≡ p) (u ≡ s) (v ≡ t) status
         → Gives status (Some (sink_targets s)) (Some (sink_targets u)) (Some (text_taken t)) (Some (text_taken v)) c bs
-        ⊎ ((status ≡ NoMemory) ⊎ ¬ IsAccounted u) }
+        ⊎ (status ≡ NoMemory) }
 {}

@@ -1,8 +1,8 @@
 //! Targets that lie in one list of bytes.
 ghost use Rattle.std.specs.Prelude.{◌≡◌, ◌+◌, ◌<◌, ◌≤◌, ◌++◌, ◌∷◌, [], true, false, if◌then◌else◌, Some, None, MatchOption, bytes_eq, vec_len, vec_capacity, length};
 ghost use Rattle.std.specs.List.{list_all};
-ghost use Rattle.ix_base.specs.Outside.{begun, last_grown, last_finished};
-ghost use Rattle.ix_base.specs.Slots.{is_within, target_at};
+ghost use Rattle.ix_base.specs.Outside.{begun, last_grown, last_finished, room_of};
+ghost use Rattle.ix_base.specs.Slots.{is_within, target_at, targets_at};
 
 /// Where the parts of a target lie: its directory word from `dir`, its name from `name`, and its bytes from `bytes` to `end`.
 #[derive(Clone, Copy)]
@@ -25,6 +25,7 @@ pub struct Shelf {
     ghost each_within: { list_all (is_within (length held.items)) earlier.items ≡ true },
     ghost last_within: { is_within (length held.items) last ≡ true },
     ghost last_end: { last.end ≡ length held.items },
+    ghost filled: { room_of (targets_at held.items earlier.items any last) ≡ length held.items },
 }
 
 impl Shelf {

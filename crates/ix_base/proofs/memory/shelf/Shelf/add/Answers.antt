@@ -1,5 +1,5 @@
 use Rattle.std.proofs.Common.{◌≡◌, ◌∙◌, ap, length, rules, append_assoc, ◌++◌}
-use Rattle.ix_base.proofs.SlotLemmas.{added_each, added_within, added_as}
+use Rattle.ix_base.proofs.SlotLemmas.{added_each, added_within, added_as, filled-added}
 use Rattle.ix_base.proofs.memory.shelf.Shelf.add.Goals as goal
 
 pub invariant_of-self : goal.invariant_of-self
@@ -17,6 +17,8 @@ invariant_of-self c =
           both c.set_aside.ensures.items c.args.self.now.each_within c.args.self.now.last_within;
       last_within = added_within held c.append.new.held.items c.append-2.new.held.items c.args.dir.now c.args.name.now c.len-start.result c.len-end_of_dir.result c.len-end.result one two start middle end;
       last_end = end;
+      filled = filled-added held c.append.new.held.items c.append-2.new.held.items c.args.dir.now c.args.name.now c.args.self.now.earlier.items c.set_aside.new.earlier.items c.args.self.now.any c.args.self.now.last
+          c.len-start.result c.len-end_of_dir.result c.len-end.result one two c.set_aside.ensures.items c.args.self.now.none c.args.self.now.each_within c.args.self.now.last_within start middle end c.args.self.now.filled;
     }
 
 pub returns-clause-targets : goal.returns-clause-targets
