@@ -12,6 +12,12 @@ use crate::sort::once;
 use ix_base::{Linkbase, NoMemory, RoleRef, Text};
 use std::alloc::Global;
 
+/// Each reference is a simple link.
+const SIMPLE: Valued<'static> = Valued {
+    name: "xlink:type",
+    value: Some("simple"),
+};
+
 /// The line of an element without content.
 fn leaf_line(alloc: Global, name: &str, attributes: &[Valued<'_>]) -> Result<Text, NoMemory>
     ensures { IfOk result (λ t. t ≡ line (leaf name.now (attrs_of attributes.now) nothing)) }
@@ -27,10 +33,7 @@ pub fn schema_line(alloc: Global, href: &str) -> Result<Text, NoMemory>
     ensures { IfOk result (λ t. t ≡ line (schema_markup href.now)) }
 {
     let attributes = [
-        Valued {
-            name: "xlink:type",
-            value: Some("simple"),
-        },
+        SIMPLE,
         Valued {
             name: "xlink:href",
             value: Some(href),
@@ -57,10 +60,7 @@ pub fn linkbase_line(alloc: Global, linkbase: &Linkbase) -> Result<Text, NoMemor
     ensures { IfOk result (λ t. t ≡ line (linkbase_markup linkbase.now)) }
 {
     let attributes = [
-        Valued {
-            name: "xlink:type",
-            value: Some("simple"),
-        },
+        SIMPLE,
         Valued {
             name: "xlink:href",
             value: Some(linkbase.href.as_str()),
@@ -99,10 +99,7 @@ pub fn role_line(alloc: Global, name: &str, uri: &str, role: &RoleRef) -> Result
             name: uri,
             value: Some(role.uri.as_str()),
         },
-        Valued {
-            name: "xlink:type",
-            value: Some("simple"),
-        },
+        SIMPLE,
         Valued {
             name: "xlink:href",
             value: Some(role.href.as_str()),

@@ -61,16 +61,7 @@ content_of s = record {
 }
 
 pub content-back : (c : Content) → content_of (said_of c) ≡ c
-content-back c = ap (λ fs. record {
-  schemas = c.schemas;
-  linkbases = c.linkbases;
-  roles = c.roles;
-  arcroles = c.arcroles;
-  contexts = c.contexts;
-  units = c.units;
-  facts = fs;
-  notes = c.notes;
-}) (back c.facts)
+content-back c = ap (λ fs. record c { facts = fs }) (back c.facts)
 
 pub same-facts : (fs gs : List Fact) → facts_of fs ≡ facts_of gs → fs ≡ gs
 same-facts fs gs e = sym (back fs) ∙ ap facts_from e ∙ back gs

@@ -3,7 +3,7 @@ use Rattle.std.proofs.Common.{◌≡◌, ◌≢◌, ℕ, zero, suc, ◌+◌, ◌
 use Rattle.std.proofs.lemmas.Bool.{cases_lt}
 use Rattle.std.proofs.lemmas.List.{drop-append-le, length-take-le}
 use Rattle.ix_base.specs.NcName.{is_white}
-use Rattle.page_tree.specs.Constructs.{starts, after, after_tag, text_size, reference_size, starts_white, kind_of, with_front, size_by, size, settled_or, is_run, whole_size}
+use Rattle.page_tree.specs.Constructs.{starts, after, after_tag, text_size, reference_size, starts_white, kind_else, kind_of, with_front, size_by, size, settled_or, is_run, whole_size}
 use Rattle.page_tree.specs.declared.kind.Kind.{Kind}
 use Rattle.page_tree.specs.declared.kind.Kind.TheVariants.{Declaration, Instruction, Comment, Cdata, Doctype, Unknown, EndTag, StartTag, Reference, Text}
 use Rattle.page_tree.proofs.CutLaws.{starts-append, starts-length, size_by-takes}
@@ -100,18 +100,6 @@ least-cdata first r k e = least-behind 9 (after (codes "]]>") r) k e
 least-doctype : (first : Bool) (r : List ℕ) (k : ℕ) → size first (codes "<!DOCTYPE" ++ r) ≡ Some k → 9 ≤ k
 unfolding kind_of size_by
 least-doctype first r k e = least-behind 9 (after_tag None r) k e
-
--- what the first construct is, where it is neither
-abbrev kind_else : List ℕ → Kind
-kind_else cs =
-    if starts (codes "<!--") cs then Comment
-    else (if starts (codes "<![CDATA[") cs then Cdata
-    else (if starts (codes "<!DOCTYPE") cs then Doctype
-    else (if starts (codes "<!") cs then Unknown
-    else (if starts (codes "</") cs then EndTag
-    else (if starts (codes "<") cs then StartTag
-    else (if starts (codes "&") cs then Reference
-    else Text))))))
 
 -- a declaration and an instruction end alike
 alike : (a d e : Bool) (rest : Kind) (x : List ℕ) → size_by (if a then (if d then Declaration else Instruction) else rest) x ≡ size_by (if a then (if e then Declaration else Instruction) else rest) x

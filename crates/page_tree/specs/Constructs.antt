@@ -40,19 +40,24 @@ abbrev pub starts_white : List ℕ → Bool
 starts_white [] = false
 starts_white (c ∷ cs) = is_white c
 
--- what the first construct is, by its first characters, at the page's start or not
-unfoldable pub kind_of : Bool → List ℕ → Kind
-kind_of first cs =
-    if starts (codes "<?") cs
-    then (if first && starts (codes "<?xml") cs && starts_white (drop 5 cs) then Declaration else Instruction)
-    else (if starts (codes "<!--") cs then Comment
+-- what the first construct is, where it is neither a declaration nor an instruction
+abbrev pub kind_else : List ℕ → Kind
+kind_else cs =
+    if starts (codes "<!--") cs then Comment
     else (if starts (codes "<![CDATA[") cs then Cdata
     else (if starts (codes "<!DOCTYPE") cs then Doctype
     else (if starts (codes "<!") cs then Unknown
     else (if starts (codes "</") cs then EndTag
     else (if starts (codes "<") cs then StartTag
     else (if starts (codes "&") cs then Reference
-    else Text)))))))
+    else Text))))))
+
+-- what the first construct is, by its first characters, at the page's start or not
+unfoldable pub kind_of : Bool → List ℕ → Kind
+kind_of first cs =
+    if starts (codes "<?") cs
+    then (if first && starts (codes "<?xml") cs && starts_white (drop 5 cs) then Declaration else Instruction)
+    else kind_else cs
 
 -- a size, with that of a front
 abbrev pub with_front : ℕ → Option ℕ → Option ℕ
