@@ -6,7 +6,7 @@ use Rattle.std.specs.Prelude.{◌&&◌, bytes_eq, is_none}
 use Rattle.std.specs.Option.{option_to_list}
 use Rattle.std.specs.List.{cons_option, filter, filter_map, find, list_any}
 use Rattle.ix_base.specs.Asks.{Asks, if_such}
-use Rattle.ix_base.specs.Ids.{one, one_such}
+use Rattle.ix_base.specs.Ids.{one_such, sole}
 use Rattle.ix_base.specs.LinkRules.{are_any, goes_to_nothing, is_end, is_footnote, is_relationship, named_by, same_target, target_of, to_ids}
 use Rattle.ix_base.specs.Located.{Located, is_fact}
 use Rattle.id_table.specs.Tables.{all_located}
@@ -46,7 +46,7 @@ module _ (p q : Located → Bool) (h : (e : Located) → p e ≡ true → q e �
 
   pub named-wider : (a : Asks Located) (ids : List (List ℕ)) → named_by p a ids ≡ filter p (named_by q a ids)
   named-wider a [] = refl
-  named-wider a (id ∷ ids) = step (one a id) (named_by p a ids) (named_by q a ids) (named-wider a ids)
+  named-wider a (id ∷ ids) = step (sole a id) (named_by p a ids) (named_by q a ids) (named-wider a ids)
 
 -- there are any of a sort just where the test finds one
 any-step : (p : Located → Bool) (x : Located) (xs : List Located) (b : Bool) → are_any (filter p xs) ≡ list_any p xs → p x ≡ b

@@ -10,7 +10,7 @@ use Rattle.ix_base.specs.declared.kind.Kind.{Kind}
 use Rattle.ix_base.specs.declared.kind.Kind.TheVariants as kind
 use Rattle.ix_base.specs.Asks.{asks, if_such, only}
 use Rattle.ix_base.specs.Chain.{chain}
-use Rattle.ix_base.specs.Ids.{holds_id, id_of, one, one_such}
+use Rattle.ix_base.specs.Ids.{holds_id, id_of, one_such, sole}
 use Rattle.ix_base.specs.Kinds as kinds
 use Rattle.ix_base.specs.Kinds.{kind_of, same_kind}
 use Rattle.ix_base.specs.LinkRules.{from_ids, is_end, is_footnote, is_relationship, named_by, target_of, to_ids}
@@ -54,15 +54,15 @@ text-is id (Some t) h = sym ((bytes_eq-Decides id t).0 h)
 
 -- the one element with its id, among these
 pub record IsNamed (es : List Located) (e : Located) : Type 0 where
-  pub one : one (asks es) (label e) ≡ Some e
+  pub one : sole (asks es) (label e) ≡ Some e
   pub there : Contains es e
 
 pub named-is : (es : List Located) (p : Located → Bool) (id : List ℕ) (x : Located) → one_such p (asks es) id ≡ Some x → IsNamed es x × (p x ≡ true)
 named-is es p id x h =
-    let s = such-is p (one (asks es) id) x h in
+    let s = such-is p (sole (asks es) id) x h in
     let a = asked-is es (holds_id id) x s.0 in
     let called : label x ≡ id = text-is id (id_of x) a.1 in
-    (record { one = ap (one (asks es)) called ∙ s.0; there = a.0 }, s.1)
+    (record { one = ap (sole (asks es)) called ∙ s.0; there = a.0 }, s.1)
 
 -- an arc goes from a fact to a named element
 pub record Arises (es : List Located) (x : Between) : Type 0 where
@@ -181,7 +181,7 @@ module _ (bases : Located → List ℕ) (chains : List ((ℕ × ℕ) × List Loc
   found-is id xs h k =
       let l = last-there (IsNote es) id (noted xs) (notes-named es xs h) k in
       let one_is : one_such is_footnote (asks es) id ≡ Some l.0 =
-      such-one is_footnote (one (asks es) id) l.0 (ap (one (asks es)) (sym l.3) ∙ l.2.named.one) l.2.note in
+      such-one is_footnote (sole (asks es) id) l.0 (ap (sole (asks es)) (sym l.3) ∙ l.2.named.one) l.2.note in
       ap (option_map (note_in bases chains)) l.1 ∙ ap Some (note-is l.0 l.2) ∙ sym (ap (option_map (footnote_of bases (asks es))) one_is)
 
   pub link-is : (role : List ℕ) (xs : List Between) → All (Arises es) xs → link_by (note_in bases chains) role xs ≡ link_of bases (asks es) role xs

@@ -1,5 +1,8 @@
+pub mod AgreeLaws
 pub mod Asking
+pub mod HeldLaws
 pub mod OnPages
+pub mod OtherLaws
 pub mod Placing
 pub mod Rearranged
 pub mod Renumbered

@@ -4,21 +4,23 @@ use Rattle.std.proofs.lemmas.List.{length-map}
 use Rattle.std.specs.Prelude.{◌&&◌, ◌||◌, ◌==◌, not, nat_lt, is_none, is_some, option_and_then, codes}
 use Rattle.std.specs.List.{list_any, filter, cons_option}
 use Rattle.std.specs.Option.{option_map_or}
+use Rattle.ix_base.specs.declared.kind.Kind.{Kind}
 use Rattle.ix_base.specs.declared.kind.Kind.TheVariants as kind
 use Rattle.ix_base.specs.declared.rule.Rule.{Rule}
 use Rattle.ix_base.specs.declared.rule.Rule.TheVariants as rule
-use Rattle.ix_base.specs.Asks.{asks, if_such}
+use Rattle.ix_base.specs.Alike.{alike}
+use Rattle.ix_base.specs.Asks.{asks, are_many, first_of, if_such}
 use Rattle.ix_base.specs.Chain.{continued_at, next, chain_of, chain}
 use Rattle.ix_base.specs.Elements.{placed_at}
-use Rattle.ix_base.specs.Ids.{id_of, tuple_id_of, holds_id, holds_tuple_id, one_such, one_tuple}
-use Rattle.ix_base.specs.LinkRules.{stands_inside, inner_along, is_at, is_reached_from, is_inside_chain_of, misses, goes_on_at, same_target, target_of, are_siblings, same_order, ties, named_by, are_any, from_ids, to_ids, is_end, is_footnote, is_relationship, is_schema_for, breaks_link}
+use Rattle.ix_base.specs.Ids.{id_of, tuple_id_of, holds_id, holds_tuple_id, holders, agree, are_doubled, differs, foremost, foremost_of, one, one_such, one_tuple, place_cmp, speaker, stands_for}
+use Rattle.ix_base.specs.LinkRules.{lacks, stands_inside, inner_along, is_at, is_reached_from, is_inside_chain_of, misses, goes_on_at, same_target, target_of, are_siblings, same_order, ties, named_by, are_any, from_ids, to_ids, is_end, is_footnote, is_relationship, is_schema_for, breaks_link}
 use Rattle.ix_base.specs.Located.{Located, on_page, is_continuation, is_start, is_tuple, is_fact, is_item, is_kind, is_nil, same_place, offset_of, token_at}
 use Rattle.ix_base.specs.Membership.{owner, owner_by, owners, nearest_tuple, tuple_ref_of, order_of, deepest, is_owned_by, members, within, fact, fact_by, fact_name}
 use Rattle.ix_base.specs.Facts.{Facts, item, tuple, joined}
 use Rattle.ix_base.specs.Orders.{order_cmp}
-use Rattle.ix_base.specs.Sorted.{sorted}
+use Rattle.ix_base.specs.Sorted.{sorted, text_cmp}
 use Rattle.ix_base.specs.declared.content.Item.{Item}
-use Rattle.std.specs.Ordering.{on}
+use Rattle.std.specs.Ordering.{is_lt, nat_cmp, on, then_cmp}
 use Rattle.ix_base.specs.Trees.{Tree}
 use Rattle.ix_base.proofs.StableLemmas.{sorted-map}
 use Rattle.id_table.specs.Moved.{moved}
@@ -80,6 +82,71 @@ module _ (r : ℕ → ℕ) (apart : (x y : ℕ) → (r x == r y) ≡ (x == y)) w
 
   misses-moved : (es : List Located) (p : Located → Bool) → ((e : Located) → p (moved r e) ≡ p e) → (o : Option (List ℕ)) → misses p (asks (map (moved r) es)) o ≡ misses p (asks es) o
   misses-moved es p h o = map_or-same _ _ (λ id. ap is_none (such-one es p h id) ∙ none-map (moved r) (one_such p (asks es) id)) o false
+
+  -- which elements are alike doesn't depend on their pages
+  alike-moved : (x y : Located) → alike (moved r x) (moved r y) ≡ alike x y
+  unfolding alike
+  alike-moved x y = refl
+
+  many-moved : (es : List Located) (id : List ℕ) → are_many (asks (map (moved r) es)) (holds_id id) ≡ are_many (asks es) (holds_id id)
+  many-moved es id = ap (nat_lt 1) (count-moved es (holds_id id) (holds_id id) (λ x. refl))
+
+  differs-moved : (es : List Located) (id : List ℕ) (x : Located) → differs (asks (map (moved r) es)) id (moved r x) ≡ differs (asks es) id x
+  differs-moved es id x = ap (λ n. holds_id id x && nat_lt 0 n)
+      (count-moved es (λ y. holds_id id y && not (alike (moved r x) y)) (λ y. holds_id id y && not (alike x y)) (λ y. ap (λ b. holds_id id y && not b) (alike-moved x y)))
+
+  agree-moved : (es : List Located) (id : List ℕ) → agree (asks (map (moved r) es)) id ≡ agree (asks es) id
+  agree-moved es id = ap (λ n. not (nat_lt 0 n)) (count-moved es (differs (asks (map (moved r) es)) id) (differs (asks es) id) (differs-moved es id))
+
+  pub doubled-moved : (es : List Located) (id : List ℕ) → are_doubled (asks (map (moved r) es)) id ≡ are_doubled (asks es) id
+  doubled-moved es id = λ i. many-moved es id i && not (agree-moved es id i)
+
+  stands-moved : (es : List Located) (k : Kind) (id : List ℕ) → stands_for k (asks (map (moved r) es)) id ≡ stands_for k (asks es) id
+  stands-moved es k id = λ i. nat_lt 0 (count-moved es (λ x. holds_id id x && is_kind k x) (λ x. holds_id id x && is_kind k x) (λ x. refl) i) && not (doubled-moved es id i)
+
+  lacks-moved : (es : List Located) (k : Kind) (o : Option (List ℕ)) → lacks k (asks (map (moved r) es)) o ≡ lacks k (asks es) o
+  lacks-moved es k o = map_or-same _ _ (λ id. ap not (stands-moved es k id)) o false
+
+  -- the one that speaks for an id
+  pub speaker-moved : (es : List Located) (id : List ℕ) → speaker (map (moved r) es) id ≡ option_map (moved r) (speaker es id)
+  speaker-moved es id =
+      (λ i. cond (doubled-moved es id i) None (first_of (holders-moved i))) ∙ by (are_doubled (asks es) id) (holders es id)
+    where
+      holders-moved : holders (map (moved r) es) id ≡ map (moved r) (holders es id)
+      holders-moved = sym (map-filter (moved r) (holds_id id) es)
+
+      by : (b : Bool) (xs : List Located) → cond b None (first_of (map (moved r) xs)) ≡ option_map (moved r) (cond b None (first_of xs))
+      by true xs = refl
+      by false [] = refl
+      by false (x ∷ xs) = refl
+
+  -- and the one with an id, where the pages have their names under the new numbers
+  module _ (names others : ℕ → List ℕ) (named : (n : ℕ) → others (r n) ≡ names n) where
+    before-moved : (y x : Located) → place_cmp others (moved r y) (moved r x) ≡ place_cmp names y x
+    before-moved y x = λ i. then_cmp (λ (a b : Located). text_cmp (named y.page i) (named x.page i)) (on offset_of nat_cmp) y x
+
+    first-by : (b c : Bool) (x y : Located) → b ≡ c → cond b (moved r y) (moved r x) ≡ moved r (cond c y x)
+    first-by true true x y e = refl
+    first-by true false x y e = absurd (let z : true ≡ false = e in cc)
+    first-by false true x y e = absurd (let z : false ≡ true = e in cc)
+    first-by false false x y e = refl
+
+    foremost-moved : (x : Located) (xs : List Located) → foremost others (moved r x) (map (moved r) xs) ≡ moved r (foremost names x xs)
+    foremost-moved x [] = refl
+    foremost-moved x (y ∷ ys) =
+        ap (λ z. foremost others z (map (moved r) ys)) (first-by _ _ x y (ap is_lt (before-moved y x)))
+        ∙ foremost-moved (cond (is_lt (place_cmp names y x)) y x) ys
+
+    pub one-named-moved : (es : List Located) (id : List ℕ) → one others (map (moved r) es) id ≡ option_map (moved r) (one names es id)
+    one-named-moved es id =
+        (λ i. cond (doubled-moved es id i) None (foremost_of others (sym (map-filter (moved r) (holds_id id) es) i))) ∙ by (are_doubled (asks es) id) (holders es id)
+        (λ x xs. foremost-moved x xs)
+      where
+        by : (b : Bool) (hs : List Located) → ((x : Located) (xs : List Located) → foremost others (moved r x) (map (moved r) xs) ≡ moved r (foremost names x xs))
+            → cond b None (foremost_of others (map (moved r) hs)) ≡ option_map (moved r) (cond b None (foremost_of names hs))
+        by true hs h = refl
+        by false [] h = refl
+        by false (x ∷ xs) h = ap Some (h x xs)
 
   next-by : (es : List Located) (o : Option (List ℕ)) → option_and_then (one_such is_continuation (asks (map (moved r) es))) o ≡ option_map (moved r) (option_and_then (one_such is_continuation (asks es)) o)
   next-by es None = refl
@@ -175,10 +242,10 @@ module _ (r : ℕ → ℕ) (apart : (x y : ℕ) → (r x == r y) ≡ (x == y)) w
   -- each row of the table
   pub breaks-moved : (es : List Located) (e : Located) (k : Rule) → breaks_link (asks (map (moved r) es)) (moved r e) k ≡ breaks_link (asks es) e k
   breaks-moved es e rule.L1 = λ i.
-      option_map_or (λ id. nat_lt 1 (count-moved es (holds_id id) (holds_id id) (λ x. refl) i)) (id_of e) false
+      option_map_or (λ id. doubled-moved es id i) (id_of e) false
       || option_map_or (λ id. nat_lt 1 (count-moved es (holds_tuple_id id) (holds_tuple_id id) (λ x. refl) i)) (tuple_id_of e) false
-  breaks-moved es e rule.L2 = ap (λ b. is_item e && b) (misses-moved es (is_kind kind.Context) (λ x. refl) (token_at (codes "contextRef") e))
-  breaks-moved es e rule.L3 = ap (λ b. (is_kind kind.NonFraction e || is_kind kind.Fraction e) && b) (misses-moved es (is_kind kind.Unit) (λ x. refl) (token_at (codes "unitRef") e))
+  breaks-moved es e rule.L2 = ap (λ b. is_item e && b) (lacks-moved es kind.Context (token_at (codes "contextRef") e))
+  breaks-moved es e rule.L3 = ap (λ b. (is_kind kind.NonFraction e || is_kind kind.Fraction e) && b) (lacks-moved es kind.Unit (token_at (codes "unitRef") e))
   breaks-moved es e rule.L4 = misses-moved es is_continuation (λ x. refl) (continued_at e)
   breaks-moved es e rule.L5 = λ i. is_continuation e && option_map_or (λ id. nat_lt 1 (count-moved es (goes_on_at id) (goes_on_at id) (λ x. refl) i)) (id_of e) false
   breaks-moved es e rule.L6 = λ i. is_continuation e && not (nat_lt 0 (count-moved es (is_reached_from (asks (map (moved r) es)) (moved r e)) (is_reached_from (asks es) e) (reached-moved es e) i))

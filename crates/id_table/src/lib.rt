@@ -1,8 +1,14 @@
 //! The elements of a set of pages that links, facts and contents speak of, found by id.
 #![tactic(auto)]
 
+mod choices;
+mod entries;
+mod holders;
 mod index;
 pub mod laws;
+mod tables;
 mod walk;
 
-pub use index::{Entry, Holders, Index, count_in, enter, id_at};
+pub use entries::Entry;
+pub use holders::{Holders, count_in, enter, id_at};
+pub use index::Index;

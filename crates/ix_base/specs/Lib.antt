@@ -1,4 +1,5 @@
 pub mod Address
+pub mod Alike
 pub mod Asks
 pub mod Attributes
 pub mod Bindings

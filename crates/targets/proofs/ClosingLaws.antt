@@ -16,7 +16,7 @@ use Rattle.ix_base.specs.declared.tree.Spot.{Spot}
 use Rattle.ix_base.specs.Located.{Located, Paged, located, marked, marked_from, page_marked}
 use Rattle.ix_base.specs.Sound.{IsSoundRoot, IsSoundTree}
 use Rattle.ix_base.specs.Trees.{tree_of}
-use Rattle.id_table.specs.Held.{Held}
+use Rattle.id_table.specs.Held.{AreChosen, Held}
 use Rattle.id_table.specs.Tables.{all_located}
 use Rattle.scopes.specs.Kept.{Kept}
 use Rattle.targets.specs.declared.closing.Page.{Page}
@@ -83,24 +83,33 @@ marked-push n (q ∷ pages) p =
     ∙ sym (append_assoc (page_marked n q.tree) (marked_from (suc n) pages) (page_marked (suc n + length pages) p.tree))
     ∙ ap (λ k. (page_marked n q.tree ++ marked_from (suc n) pages) ++ page_marked k p.tree) (let e : suc n + length pages ≡ n + suc (length pages) = omega arith in e)
 
+-- the elements with those of one more page, whose number is that of the pages before
+pub marked-more : (name : List ℕ) (root : Bor Element) (pages more : List Page) → IsSoundRoot root.now (length (map as_paged pages)) 256
+    → more ≡ pages ++ record { name = name; root = root } ∷ []
+    → marked (map as_paged pages) ++ page_marked root.now.place.page (tree_of root.now) ≡ marked (map as_paged more)
+marked-more name root pages more sound m =
+    let p : Page = record { name = name; root = root } in
+    let all : map as_paged more ≡ map as_paged pages ++ as_paged p ∷ [] = ap (map as_paged) m ∙ map-append as_paged pages (p ∷ []) in
+    let zero : length (map as_paged pages) ≡ 0 + length (map as_paged pages) = omega arith in
+    let at : root.now.place.page ≡ 0 + length (map as_paged pages) = root-page root.now (length (map as_paged pages)) sound ∙ zero in
+    ap (λ n. marked (map as_paged pages) ++ page_marked n (tree_of root.now)) at
+    ∙ sym (marked-push 0 (map as_paged pages) (as_paged p)) ∙ ap marked (sym all)
+
 pub keeps-more : (base name : List ℕ) (root : Bor Element) (pages more : List Page) (index new_index : Held) (bases new_bases : Kept)
     → Keeps base pages index bases → IsSoundRoot root.now (length (map as_paged pages)) 256
     → more ≡ pages ++ record { name = name; root = root } ∷ []
-    → new_index ≡ record { spots = index.spots ++ page_marked root.now.place.page (tree_of root.now); is_spent = false }
+    → new_index.spots ≡ marked (map as_paged more) → new_index.is_spent ≡ false → AreChosen new_index
     → new_bases ≡ record { pages = bases.pages ++ page_base base name (tree_of root.now) ∷ []; is_spent = false }
     → Keeps base more new_index new_bases
-keeps-more base name root pages more index new_index bases new_bases k sound m i b =
+keeps-more base name root pages more index new_index bases new_bases k sound m spots unspent chosen b =
     let p : Page = record { name = name; root = root } in
     let all : map as_paged more ≡ map as_paged pages ++ as_paged p ∷ [] = ap (map as_paged) m ∙ map-append as_paged pages (p ∷ []) in
     let count : length (map as_paged pages) ≡ length pages = length-map pages as_paged in
     let none : length pages ≡ 0 + length pages = omega arith in
-    let zero : length (map as_paged pages) ≡ 0 + length (map as_paged pages) = omega arith in
-    let at : root.now.place.page ≡ 0 + length (map as_paged pages) = root-page root.now (length (map as_paged pages)) sound ∙ zero in
     record {
-      index = i ∙ ap (λ xs. record { spots = xs; is_spent = false })
-          (ap (λ (h : Held). h.spots ++ page_marked root.now.place.page (tree_of root.now)) k.index
-          ∙ ap (λ n. marked (map as_paged pages) ++ page_marked n (tree_of root.now)) at
-          ∙ sym (marked-push 0 (map as_paged pages) (as_paged p)) ∙ ap marked (sym all));
+      spots = spots;
+      unspent = unspent;
+      chosen = chosen;
       bases = b ∙ ap (λ xs. record { pages = xs; is_spent = false })
           (ap (λ (h : Kept). h.pages ++ page_base base name (tree_of root.now) ∷ []) k.bases
           ∙ sym (map-append (λ (q : Paged). page_base base q.name q.tree) (map as_paged pages) (as_paged p ∷ []))
@@ -112,7 +121,7 @@ keeps-more base name root pages more index new_index bases new_bases k sound m i
 abbrev pub part_from : ℕ → List (Bor Spot) → List (Bor Spot)
 part_from n xs = take (length xs - n) (drop n xs)
 
-part-drop : (n : ℕ) (xs : List (Bor Spot)) → part_from n xs ≡ drop n xs
+pub part-drop : (n : ℕ) (xs : List (Bor Spot)) → part_from n xs ≡ drop n xs
 part-drop n xs = ap (λ k. take k (drop n xs)) (sym (length-drop n xs)) ∙ take-length (drop n xs)
 
 -- what stands behind what was there is what came
@@ -122,13 +131,3 @@ behind before after xs ys b a =
     let to : Bor Spot → Located = λ s. located s.now in
     let count : length before ≡ length xs = sym (length-map before to) ∙ ap length b in
     ap (λ zs. xs ++ zs) (ap all_located (part-drop (length before) after) ∙ sym (drop-map to (length before) after) ∙ ap (drop (length before)) a ∙ ap (λ n. drop n (xs ++ ys)) count ∙ drop-append_seam xs ys)
-
--- the elements with those of one more page
-pub elements-more : (pages more : List Page) (index new_index : Held) (bases new_bases : Kept) (base : List ℕ) (ys : List Located) (before after : List (Bor Spot))
-    → Keeps base pages index bases → Keeps base more new_index new_bases → new_index ≡ record { spots = index.spots ++ ys; is_spent = false }
-    → all_located before ≡ index.spots → all_located after ≡ new_index.spots
-    → marked (map as_paged pages) ++ all_located (part_from (length before) after) ≡ marked (map as_paged more)
-elements-more pages more index new_index bases new_bases base ys before after k m i b a =
-    let here : index.spots ≡ marked (map as_paged pages) = ap (λ (h : Held). h.spots) k.index in
-    let all : new_index.spots ≡ marked (map as_paged pages) ++ ys = ap (λ (h : Held). h.spots) i ∙ ap (λ xs. xs ++ ys) here in
-    behind before after (marked (map as_paged pages)) ys (b ∙ here) (a ∙ all) ∙ sym all ∙ ap (λ (h : Held). h.spots) m.index

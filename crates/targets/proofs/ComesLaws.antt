@@ -20,7 +20,7 @@ use Rattle.continuations.specs.Kept.{AreChainsOf}
 use Rattle.facts.proofs.OneItem.{one_item}
 use Rattle.facts.specs.ItemValue.{IsItem, item_text}
 use Rattle.footnotes.specs.Kept.{AreRelationsOf}
-use Rattle.id_table.specs.Held.{Held}
+use Rattle.id_table.specs.Held.{AreChosen, Held}
 use Rattle.scopes.specs.Kept.{Kept}
 use Rattle.tuples.specs.Kept.{AreMembersOf}
 use Rattle.targets.specs.declared.closing.Page.{Page}
@@ -72,7 +72,7 @@ pub keeps-on : (base : List ℕ) (pages : List Page) (index : Held) (bases : Kep
 keeps-on base pages index bases k =
     let s : PageSet = record { base = base; pages = map as_paged pages } in
     let count : length bases.pages ≡ length (map as_paged pages) = ap (λ (x : Kept). length x.pages) k.bases ∙ length-map (map as_paged pages) _ in
-    subst (λ (h : Held). All (λ e. e.page < length bases.pages) h.spots) (sym k.index)
+    subst (λ (es : List Located). All (λ e. e.page < length bases.pages) es) (sym k.spots)
     (subst (λ n. All (λ (e : Located). e.page < n) (marked (map as_paged pages))) (sym count) (on_pages (map as_paged pages)))
 
 -- what was made of the links of a set
@@ -85,8 +85,9 @@ is-linked l base pages index bases k i b chains members relations seen_roles = r
   relations = subst (λ (h : Held). AreRelationsOf l.relations h.spots) (sym i) relations;
   seen_roles = subst (λ (h : Held). SeesAll (base_in (bases_of l)) h.spots l.seen_roles) (sym i)
       (subst (λ (x : Kept). SeesAll (base_in x.pages) index.spots l.seen_roles) (sym b) seen_roles);
-  apart = subst (λ (h : Held). AreApart h.spots) (sym (i ∙ k.index)) (apart (map as_paged pages) (sound-trees 0 pages k.sound));
-  owned = subst (λ (h : Held). AreOwned h.spots) (sym (i ∙ k.index)) (owner_marked (map as_paged pages));
+  apart = subst (λ (es : List Located). AreApart es) (sym (ap (λ (h : Held). h.spots) i ∙ k.spots)) (apart (map as_paged pages) (sound-trees 0 pages k.sound));
+  owned = subst (λ (es : List Located). AreOwned es) (sym (ap (λ (h : Held). h.spots) i ∙ k.spots)) (owner_marked (map as_paged pages));
+  chosen = subst AreChosen (sym i) k.chosen;
   pages = subst (λ (h : Held). All (λ e. e.page < length (bases_of l)) h.spots) (sym i)
       (subst (λ (x : Kept). All (λ e. e.page < length x.pages) index.spots) (sym b) (keeps-on base pages index bases k));
 }
@@ -95,7 +96,7 @@ is-linked l base pages index bases k i b chains members relations seen_roles = r
 pub faults-are : (base : List ℕ) (pages : List Page) (index : Held) (bases : Kept) (found : List Found) → Keeps base pages index bases
     → SameMembers found (broken (base_in bases.pages) index.spots) → SameMembers found (link_faults (record { base = base; pages = map as_paged pages }))
 faults-are base pages index bases found k same =
-    subst (λ (h : Held). SameMembers found (broken (base_in (page_bases (record { base = base; pages = map as_paged pages }))) h.spots)) k.index
+    subst (λ (es : List Located). SameMembers found (broken (base_in (page_bases (record { base = base; pages = map as_paged pages }))) es)) k.spots
     (subst (λ (x : Kept). SameMembers found (broken (base_in x.pages) index.spots)) k.bases same)
 
 pub none-same : (xs ys : List Found) → SameMembers xs ys → xs ≡ [] → ys ≡ []

@@ -1,19 +1,20 @@
 -- What stands of the contents of targets.
 use Rattle.std.proofs.Common.{◌≡◌, ◌∙◌, ap, refl, Bool, true, false, cond, not, List, [], ◌∷◌, Option, Some, None}
 use Rattle.std.specs.List.{All, Contains, cons_option, filter, filter_map}
-use Rattle.std.specs.Prelude.{ℕ, ◌&&◌, ◌||◌, bytes_eq, is_some}
+use Rattle.std.specs.Prelude.{ℕ, ◌&&◌, ◌||◌, bytes_eq, is_some, option_and_then}
 use Rattle.std.proofs.lemmas.List.Elements.{All-cons, All-contains_itself, All-filter, All-nil, All-same, filter_agree}
 use Rattle.ix_base.specs.declared.content.Content.{Content}
 use Rattle.ix_base.specs.declared.content.Context.{Context}
 use Rattle.ix_base.specs.declared.rule.Rule.TheVariants.{L9}
-use Rattle.ix_base.specs.Asks.{asks}
+use Rattle.ix_base.specs.Asks.{asks, if_such}
 use Rattle.ix_base.specs.Facts.{facts_of}
+use Rattle.ix_base.specs.Ids.{context_for, speaker}
 use Rattle.ix_base.specs.Kinds as kinds
 use Rattle.ix_base.specs.Kinds.{kind_of, same_kind}
 use Rattle.ix_base.specs.declared.kind.Kind.{Kind}
 use Rattle.ix_base.specs.declared.kind.Kind.TheVariants as kind
 use Rattle.ix_base.specs.LinkRules.{breaking, target_of}
-use Rattle.ix_base.specs.Located.{Located, is_item}
+use Rattle.ix_base.specs.Located.{Located, is_item, is_kind}
 use Rattle.ix_base.specs.Membership.{owner}
 use Rattle.instance_out.specs.Writable.{IsTimely, IsWritable}
 use Rattle.targets.specs.Contents.{IsGathered, SaysItem, context_at, is_item_of, is_outer}
@@ -22,21 +23,31 @@ use Rattle.targets.specs.Linked.{AreApart, AreOwned}
 use Rattle.targets.proofs.DepthLaws.{shallow}
 use Rattle.targets.proofs.TimelyLaws.{timely_form}
 
-timely-one : (e : Located) (o : Option Context) (rest : List Context) → context_at e ≡ o → All (λ x. IsTimely x.period) rest
-    → All (λ x. IsTimely x.period) (cons_option o rest)
-timely-one e None rest h all = all
-timely-one e (Some x) rest h all = All-cons (λ (y : Context). IsTimely y.period) x rest (timely_form e.placed.tree x h) all
+-- the form of a context holds at a time that can be written
+said-timely : (o : Option Located) (x : Context) → option_and_then context_at (if_such (is_kind kind.Context) o) ≡ Some x → IsTimely x.period
+said-timely None x h = absurd (let z : None ≡ Some x = h in cc)
+said-timely (Some e) x h = by (is_kind kind.Context e) h
+  where
+    by : (b : Bool) → option_and_then context_at (cond b (Some e) None) ≡ Some x → IsTimely x.period
+    by true g = timely_form e.placed.tree x g
+    by false g = absurd (let z : None ≡ Some x = g in cc)
 
--- contexts in normal form hold at times that can be written
-all-timely : (es : List Located) → All (λ x. IsTimely x.period) (filter_map context_at es)
-all-timely [] = All-nil (λ (x : Context). IsTimely x.period)
-all-timely (e ∷ es) = timely-one e (context_at e) (filter_map context_at es) refl (all-timely es)
+module _ (es : List Located) where
+  timely-one : (id : List ℕ) (o : Option Context) (rest : List Context) → context_for es id ≡ o → All (λ x. IsTimely x.period) rest
+      → All (λ x. IsTimely x.period) (cons_option o rest)
+  timely-one id None rest h all = all
+  timely-one id (Some x) rest h all = All-cons (λ (y : Context). IsTimely y.period) x rest (said-timely (speaker es id) x h) all
+
+  -- so do all that are said
+  all-timely : (ids : List (List ℕ)) → All (λ x. IsTimely x.period) (filter_map (context_for es) ids)
+  all-timely [] = All-nil (λ (x : Context). IsTimely x.period)
+  all-timely (id ∷ ids) = timely-one id (context_for es id) (filter_map (context_for es) ids) refl (all-timely ids)
 
 -- what is gathered can be written
 pub gathered-writable : (bases : Located → List ℕ) (es : List Located) (target : List ℕ) (c : Content) → AreApart es → AreOwned es → breaking L9 es ≡ []
     → IsGathered bases es target c → IsWritable c
 gathered-writable bases es target c apart owned sound g = record {
-  times = All-same (λ (x : Context). IsTimely x.period) c.contexts _ g.contexts (all-timely _);
+  times = All-same (λ (x : Context). IsTimely x.period) c.contexts _ g.contexts (all-timely es _);
   tuples = shallow (SaysItem bases es) es apart owned sound (filter (is_outer (asks es) target) es)
       (All-filter (is_outer (asks es) target) (Contains es) es (All-contains_itself es)) (facts_of c.facts) g.facts;
 }

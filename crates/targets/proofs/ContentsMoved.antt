@@ -6,8 +6,9 @@ use Rattle.ix_base.specs.declared.content.Content.{Content}
 use Rattle.ix_base.specs.declared.content.Item.{Item}
 use Rattle.ix_base.specs.declared.kind.Kind.{Kind}
 use Rattle.ix_base.specs.declared.kind.Kind.TheVariants as kind
-use Rattle.ix_base.specs.Asks.{asks}
+use Rattle.ix_base.specs.Asks.{asks, first_of}
 use Rattle.ix_base.specs.Facts.{facts_of}
+use Rattle.ix_base.specs.Ids.{context_for, unit_for}
 use Rattle.ix_base.specs.LinkRules.{address_of, is_schema_for, target_of}
 use Rattle.ix_base.specs.Located.{Located, is_fact, is_kind, is_text}
 use Rattle.ix_base.specs.Membership.{deepest, owner}
@@ -17,12 +18,13 @@ use Rattle.footnotes.proofs.NotesMoved.{notes-moved}
 use Rattle.facts.proofs.Renumbered.{item-moved}
 use Rattle.id_table.specs.Moved.{moved}
 use Rattle.id_table.proofs.Asking.{map-filter}
-use Rattle.id_table.proofs.Renumbered.{filter-same, map-same, map-twice, named-moved, owner-moved}
-use Rattle.targets.specs.Contents.{IsGathered, SaysItem, context_at, context_named, contexts_of, first_of, ids_named, is_item_of, is_linkbase_for, is_outer, linkbase_at, of_ids, role_at, role_to, roles_for, unit_at, unit_named, units_of, uris_in, roles_in, arcroles_in}
+use Rattle.id_table.proofs.Renumbered.{filter-same, map-same, map-twice, owner-moved}
+use Rattle.targets.specs.Contents.{IsGathered, SaysItem, context_named, contexts_of, ids_named, is_item_of, is_linkbase_for, is_outer, linkbase_at, role_at, role_to, roles_for, unit_named, units_of, uris_in, roles_in, arcroles_in}
 use Rattle.targets.specs.RoleAddresses.{refers_to}
 use Rattle.targets.specs.TargetFacts.{AreFacts}
 use Rattle.targets.proofs.FactsMoved.{facts-moved}
 use Rattle.targets.proofs.FaultsMoved.{address-moved, uri-moved}
+use Rattle.targets.proofs.SaidLaws.{context-moved, unit-moved}
 
 given-map : {X Y Z : Type 0} (g : Y → Option Z) (f : X → Y) (xs : List X) → filter_map g (map f xs) ≡ filter_map (λ x. g (f x)) xs
 given-map g f [] = refl
@@ -63,18 +65,15 @@ module _ (r : ℕ → ℕ) (apart : (x y : ℕ) → (r x == r y) ≡ (x == y)) (
       → ids_named ref target (map (moved r) es) ≡ ids_named ref target es
   ids-moved ref h target es = ap (in_order text_cmp) (given r (is_item_of target) (is_item_of target) ref ref (λ e. refl) h es)
 
-  parts-moved : {Y : Type 0} (at : Located → Option Y) → ((e : Located) → at (moved r e) ≡ at e) → (k : Kind) (es : List Located) (ids others' : List (List ℕ)) → others' ≡ ids
-      → filter_map at (of_ids (asks (map (moved r) es)) k others') ≡ filter_map at (of_ids (asks es) k ids)
-  parts-moved at h k es ids others' e =
-      ap (λ l. filter_map at (of_ids (asks (map (moved r) es)) k l)) e
-      ∙ ap (filter_map at) (named-moved r apart es (is_kind k) (λ x. refl) ids)
-      ∙ given-map at (moved r) (of_ids (asks es) k ids) ∙ given-same (λ x. at (moved r x)) at h (of_ids (asks es) k ids)
-
   contexts-moved : (es : List Located) (target : List ℕ) → contexts_of (map (moved r) es) target ≡ contexts_of es target
-  contexts-moved es target = parts-moved context_at (λ e. refl) kind.Context es (ids_named context_named target es) _ (ids-moved context_named (λ e. refl) target es)
+  contexts-moved es target =
+      ap (filter_map (context_for (map (moved r) es))) (ids-moved context_named (λ e. refl) target es)
+      ∙ given-same (context_for (map (moved r) es)) (context_for es) (context-moved r apart es) (ids_named context_named target es)
 
   units-moved : (es : List Located) (target : List ℕ) → units_of (map (moved r) es) target ≡ units_of es target
-  units-moved es target = parts-moved unit_at (λ e. refl) kind.Unit es (ids_named unit_named target es) _ (ids-moved unit_named (unit-by r) target es)
+  units-moved es target =
+      ap (filter_map (unit_for (map (moved r) es))) (ids-moved unit_named (unit-by r) target es)
+      ∙ given-same (unit_for (map (moved r) es)) (unit_for es) (unit-moved r apart es) (ids_named unit_named target es)
 
   role-moved : (es : List Located) (k : Kind) (uri : List ℕ) → role_at others (map (moved r) es) k uri ≡ role_at bases es k uri
   role-moved es k uri = ap (λ xs. option_map (role_to uri) (first_of xs)) (said r (refers_to k uri) (refers_to k uri) (address_of others) (address_of bases) (refers-moved r k uri) address es)

@@ -8,8 +8,9 @@ use Rattle.ix_base.specs.declared.content.Content.{Content}
 use Rattle.ix_base.specs.declared.content.Item.{Item}
 use Rattle.ix_base.specs.declared.kind.Kind.{Kind}
 use Rattle.ix_base.specs.declared.kind.Kind.TheVariants as kind
-use Rattle.ix_base.specs.Asks.{Asks, asks}
+use Rattle.ix_base.specs.Asks.{asks, Asks, first_of}
 use Rattle.ix_base.specs.Facts.{facts_of}
+use Rattle.ix_base.specs.Ids.{context_for, unit_for}
 use Rattle.ix_base.specs.LinkRules.{address_of, is_schema_for}
 use Rattle.ix_base.specs.Located.{Located}
 use Rattle.ix_base.specs.Membership.{deepest, members}
@@ -17,12 +18,13 @@ use Rattle.ix_base.proofs.OnceLemmas.{Contains-first, Contains-nil}
 use Rattle.facts.specs.ItemValue.{IsItem}
 use Rattle.footnotes.proofs.NotesSame.{IsPermutation-flat_map, filter-moved, notes-same, texts-same}
 use Rattle.id_table.proofs.Rearranged.{asks-same}
-use Rattle.targets.specs.Contents.{IsGathered, context_at, context_named, contexts_of, first_of, ids_named, is_item_of, is_linkbase_for, is_outer, linkbase_at, of_ids, role_at, role_to, roles_for, unit_at, unit_named, units_of, uris_in, roles_in, arcroles_in}
+use Rattle.targets.specs.Contents.{IsGathered, context_named, contexts_of, ids_named, is_item_of, is_linkbase_for, is_outer, linkbase_at, role_at, role_to, roles_for, unit_named, units_of, uris_in, roles_in, arcroles_in}
 use Rattle.targets.specs.RoleAddresses.{refers_to}
 use Rattle.targets.specs.TargetFacts.{AreFacts}
 use Rattle.targets.proofs.ContentsMoved.{given-same}
 use Rattle.targets.proofs.FactsMoved.{facts-same}
 use Rattle.targets.proofs.FactsShuffled.{facts-shuffled}
+use Rattle.targets.proofs.SaidLaws.{context-shuffled, unit-shuffled}
 use Rattle.targets.proofs.Shuffled.{IsShuffled}
 
 abbrev of_some : {Y : Type 0} → Option Y → List Y
@@ -57,10 +59,14 @@ module _ (bases : Located → List ℕ) (xs ys : List Located) (m : IsPermutatio
       (given-permuted ref (filter (is_item_of target) xs) (filter (is_item_of target) ys) (filter-moved (is_item_of target) xs ys m))
 
   contexts-same : contexts_of xs target ≡ contexts_of ys target
-  contexts-same = λ i. filter_map context_at (of_ids (asks-same xs ys m i) kind.Context (ids-same context_named i))
+  contexts-same =
+      ap (filter_map (context_for xs)) (ids-same context_named)
+      ∙ given-same (context_for xs) (context_for ys) (context-shuffled xs ys m) (ids_named context_named target ys)
 
   units-same : units_of xs target ≡ units_of ys target
-  units-same = λ i. filter_map unit_at (of_ids (asks-same xs ys m i) kind.Unit (ids-same unit_named i))
+  units-same =
+      ap (filter_map (unit_for xs)) (ids-same unit_named)
+      ∙ given-same (unit_for xs) (unit_for ys) (unit-shuffled xs ys m) (ids_named unit_named target ys)
 
   -- all references of a kind for a URI have one address
   abbrev pub HasOne : Kind → Type 0

@@ -11,14 +11,14 @@ use Rattle.ix_base.specs.declared.content.Unit.{Unit as UnitContent}
 use Rattle.ix_base.specs.declared.kind.Kind.{Kind}
 use Rattle.ix_base.specs.declared.kind.Kind.TheVariants as kind
 use Rattle.ix_base.specs.declared.rule.Rule.TheVariants as rule
-use Rattle.ix_base.specs.Asks.{Asks, asks, if_such}
+use Rattle.ix_base.specs.Asks.{asks, if_such}
 use Rattle.ix_base.specs.ContextForm.{context, dims_of, id_of as form_id, period_of, whom_of}
 use Rattle.ix_base.specs.ElementRules.{breaks_context, breaks_unit, lacks, misses as lacks_attr, name_tokens, required}
 use Rattle.ix_base.specs.Forms.{is_name_token}
 use Rattle.ix_base.specs.Holding.{holds_only, named_in}
-use Rattle.ix_base.specs.Ids.{holds_id, id_of, one, one_such}
+use Rattle.ix_base.specs.Ids.{holds_id, id_of, one_such, sole as sole_id, stands_for}
 use Rattle.ix_base.specs.Kinds.{is_inline, kind_of, same_kind}
-use Rattle.ix_base.specs.LinkRules.{misses}
+use Rattle.ix_base.specs.LinkRules.{lacks as lacks_part}
 use Rattle.ix_base.specs.Located.{Located, is_item, is_kind, is_text}
 use Rattle.ix_base.specs.Namespaces.{xbrli_namespace}
 use Rattle.ix_base.specs.NcName.{is_ncname}
@@ -35,6 +35,7 @@ use Rattle.targets.specs.Contents.{context_at, context_named, unit_at, unit_name
 use Rattle.targets.specs.PageSet.{PageSet, elements}
 use Rattle.targets.proofs.CleanLaws.{element-keeps, link-keeps}
 use Rattle.targets.proofs.FitLaws.{not-not, with-test}
+use Rattle.targets.proofs.HolderLaws.{speaker_such, stands-speaker}
 use Rattle.targets.proofs.HeardLaws.{only-one}
 use Rattle.targets.proofs.MemberLaws.{any-passes}
 
@@ -73,7 +74,7 @@ such-by p (Some y) x h = by (p y) refl h
 pub such-parts : (p : Located → Bool) (es : List Located) (id : List ℕ) (x : Located) → one_such p (asks es) id ≡ Some x
     → Contains es x × (id_of x ≡ Some id) × (p x ≡ true)
 such-parts p es id x h =
-    let such = such-by p (one (asks es) id) x h in
+    let such = such-by p (sole_id (asks es) id) x h in
     let kept = filter (holds_id id) es in
     let there : Contains kept x = subst (λ l. Contains l x) (sym (only-one kept x such.0)) (Contains-first x []) in
     let from = Contains-from_filter (holds_id id) es x there in
@@ -133,10 +134,10 @@ number-unit kind.NonFraction t id e = (refl, e)
 number-unit kind.Fraction t id e = (refl, e)
 number-unit k t id e = absurd (cc)
 
-there-by : (p : Located → Bool) (a : Asks Located) (ref : Option (List ℕ)) (id : List ℕ) → ref ≡ Some id → misses p a ref ≡ false
-    → (x : Located) × (one_such p a id ≡ Some x)
-there-by p a ref id e h =
-    some-from (one_such p a id) (sym (ap (λ (o : Option (List ℕ)). option_map_or (λ q. is_none (one_such p a q)) o false) e) ∙ h)
+there-by : (k : Kind) (es : List Located) (ref : Option (List ℕ)) (id : List ℕ) → ref ≡ Some id → lacks_part k (asks es) ref ≡ false
+    → (x : Located) × (speaker_such k es id ≡ Some x)
+there-by k es ref id e h =
+    stands-speaker es id k (not-not (stands_for k (asks es) id) (sym (ap (λ (o : Option (List ℕ)). option_map_or (λ q. not (stands_for k (asks es) q)) o false) e) ∙ h))
 
 name-by : (value : Option (List ℕ)) (id : List ℕ) → option_map token_of value ≡ Some id → option_map_or (λ v. not (is_name_token v)) value false ≡ false
     → is_ncname id ≡ true
@@ -165,16 +166,16 @@ module _ (s : PageSet) (clean : IsClean s) where
 
   -- the context and the unit that an item names are there
   pub context-there : (e : Located) (id : List ℕ) → Contains (elements s) e → is_item e ≡ true → context_named e ≡ Some id
-      → (x : Located) × (one_such (is_kind kind.Context) (asks (elements s)) id ≡ Some x)
+      → (x : Located) × (speaker_such kind.Context (elements s) id ≡ Some x)
   context-there e id at item named =
-      there-by (is_kind kind.Context) (asks (elements s)) (context_named e) id named
+      there-by kind.Context (elements s) (context_named e) id named
       (with-test (is_item e) _ item (link-keeps s clean rule.L2 (1, omega arith, refl) e at))
 
   pub unit-there : (e : Located) (id : List ℕ) → Contains (elements s) e → is_item e ≡ true → unit_named e ≡ Some id
-      → (x : Located) × (one_such (is_kind kind.Unit) (asks (elements s)) id ≡ Some x)
+      → (x : Located) × (speaker_such kind.Unit (elements s) id ≡ Some x)
   unit-there e id at item named =
       let number = number-unit (kind_of e.placed) e.placed.tree id named in
-      there-by (is_kind kind.Unit) (asks (elements s)) (token_at (codes "unitRef") e.placed.tree) id number.1
+      there-by kind.Unit (elements s) (token_at (codes "unitRef") e.placed.tree) id number.1
       (with-test (is_kind kind.NonFraction e || is_kind kind.Fraction e) _ number.0 (link-keeps s clean rule.L3 (2, omega arith, refl) e at))
 
   -- the id of one of the fourteen elements is a name

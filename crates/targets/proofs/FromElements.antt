@@ -2,7 +2,7 @@
 use Rattle.std.proofs.Common.{◌≡◌, ◌∙◌, ap, sym, subst, refl, ℕ, zero, suc, Bool, true, false, cond, List, [], ◌∷◌, ◌++◌, Option, None, Some, rules}
 use Rattle.std.specs.List.{All, Contains, cons_option, filter, filter_map, list_all}
 use Rattle.std.specs.Ordering.{on}
-use Rattle.std.specs.Prelude.{◌&&◌, ◌||◌, bytes_eq, is_some, not}
+use Rattle.std.specs.Prelude.{◌&&◌, ◌||◌, bytes_eq, is_some, not, option_and_then}
 use Rattle.std.specs.declared.cmp.Ordering.{Ordering}
 use Rattle.std.proofs.lemmas.Bool.{and_from, and_parts}
 use Rattle.std.proofs.lemmas.List.Elements.{All-append, All-cons, All-contains_itself, All-head, All-nil, All-tail, All-weaker}
@@ -21,7 +21,7 @@ use Rattle.ix_base.specs.declared.kind.Kind.{Kind}
 use Rattle.ix_base.specs.declared.kind.Kind.TheVariants as kind
 use Rattle.ix_base.specs.Asks.{asks, if_such, only}
 use Rattle.ix_base.specs.Facts.{Facts, none, item, tuple, before, facts_of}
-use Rattle.ix_base.specs.Ids.{holds_id, id_of, one_such}
+use Rattle.ix_base.specs.Ids.{id_of, speaker}
 use Rattle.ix_base.specs.Kinds as kinds
 use Rattle.ix_base.specs.Kinds.{kind_of, same_kind}
 use Rattle.ix_base.specs.LinkRules.{target_of}
@@ -33,10 +33,12 @@ use Rattle.instance_out.specs.Canonical.{content_spaces, fact_names}
 use Rattle.instance_out.specs.Elements.{fact_markup}
 use Rattle.instance_out.specs.Holds.{fact_ids, items_in}
 use Rattle.instance_out.specs.Lists.{of_option}
-use Rattle.targets.specs.Contents.{IsContent, IsGathered, SaysItem, context_at, contexts_of, is_outer, of_ids, unit_at, units_of}
+use Rattle.targets.specs.Contents.{IsContent, IsGathered, SaysItem, context_at, contexts_of, is_outer, unit_at, units_of}
 use Rattle.targets.specs.TargetFacts.{AreFacts, members_read, one_less}
 use Rattle.targets.proofs.AboveLaws.{only-there}
 use Rattle.targets.proofs.AmongLaws.{all-sorted, members-among}
+use Rattle.targets.proofs.HolderLaws.{speaker-parts, speaker_such}
+use Rattle.targets.proofs.SaidLaws.{said}
 
 -- Each of some facts, and of those within tuples.
 
@@ -217,25 +219,21 @@ module _ (bases : Located → List ℕ) (es : List Located) where
   abbrev IsOf : Kind → Located → Type 0
   IsOf k e = Contains es e × (is_kind k e ≡ true)
 
-  ids-one : (k : Kind) (id : List ℕ) (rest : List Located) (o : Option Located) → one_such (is_kind k) (asks es) id ≡ o → All (IsOf k) rest
-      → All (IsOf k) (cons_option o rest)
-  ids-one k id rest None h all = all
-  ids-one k id rest (Some e) h all =
-      All-cons (IsOf k) e rest (such-there k e (holds_id id) (only (filter (holds_id id) es)) refl h) all
-
-  ids-there : (k : Kind) (ids : List (List ℕ)) → All (IsOf k) (of_ids (asks es) k ids)
-  ids-there k [] = All-nil (IsOf k)
-  ids-there k (id ∷ ids) = ids-one k id (of_ids (asks es) k ids) (one_such (is_kind k) (asks es) id) refl (ids-there k ids)
-
-  part-one : {X : Type 0} (k : Kind) (f : Located → Option X) (e : Located) (rest : List X) (o : Option X) → f e ≡ o → IsOf k e
+  part-said : {X : Type 0} (k : Kind) (f : Located → Option X) (e : Located) (rest : List X) (o : Option X) → f e ≡ o → IsOf k e
       → All (FromPart k f) rest → All (FromPart k f) (cons_option o rest)
-  part-one k f e rest None h at all = all
-  part-one k f e rest (Some x) h at all = All-cons (FromPart k f) x rest (e, at.0, at.1, h) all
+  part-said k f e rest None h at all = all
+  part-said k f e rest (Some x) h at all = All-cons (FromPart k f) x rest (e, at.0, at.1, h) all
 
-  parts-there : {X : Type 0} (k : Kind) (f : Located → Option X) (xs : List Located) → All (IsOf k) xs → All (FromPart k f) (filter_map f xs)
-  parts-there k f [] all = All-nil (FromPart k f)
-  parts-there k f (e ∷ xs) all =
-      part-one k f e (filter_map f xs) (f e) refl (All-head (IsOf k) e xs all) (parts-there k f xs (All-tail (IsOf k) e xs all))
+  part-one : {X : Type 0} (k : Kind) (f : Located → Option X) (id : List ℕ) (rest : List X) (o : Option Located) → speaker_such k es id ≡ o
+      → All (FromPart k f) rest → All (FromPart k f) (cons_option (option_and_then f o) rest)
+  part-one k f id rest None h all = all
+  part-one k f id rest (Some e) h all = let at = speaker-parts es id k e h in part-said k f e rest (f e) refl (at.0, at.2) all
+
+  -- what is said of some ids
+  parts-there : {X : Type 0} (k : Kind) (f : Located → Option X) (ids : List (List ℕ)) → All (FromPart k f) (filter_map (λ id. said k f (speaker es id)) ids)
+  parts-there k f [] = All-nil (FromPart k f)
+  parts-there k f (id ∷ ids) =
+      part-one k f id (filter_map (λ i. said k f (speaker es i)) ids) (speaker_such k es id) refl (parts-there k f ids)
 
   abbrev pub FromContext : Context → Type 0
   FromContext = FromPart kind.Context context_at
@@ -247,13 +245,13 @@ module _ (bases : Located → List ℕ) (es : List Located) where
   unfolding arranged
   contexts-arranged target c e =
       all-sorted FromContext (on (λ x. x.id) text_cmp) c.contexts
-      (subst (All FromContext) (sym e) (parts-there kind.Context context_at _ (ids-there kind.Context _)))
+      (subst (All FromContext) (sym e) (parts-there kind.Context context_at _))
 
   units-arranged : (target : List ℕ) (c : Content) → c.units ≡ units_of es target → All FromUnit (arranged c).units
   unfolding arranged
   units-arranged target c e =
       all-sorted FromUnit (on (λ u. u.id) text_cmp) c.units
-      (subst (All FromUnit) (sym e) (parts-there kind.Unit unit_at _ (ids-there kind.Unit _)))
+      (subst (All FromUnit) (sym e) (parts-there kind.Unit unit_at _))
 
   -- the contexts and the units of a content are said by elements of the set
   pub contexts-from : (target : List ℕ) (c : Content) → IsContent bases es target c → All FromContext c.contexts

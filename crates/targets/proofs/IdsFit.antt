@@ -1,6 +1,6 @@
 -- The ids of a content are names, and each stands once.
-use Rattle.std.proofs.Common.{◌≡◌, ◌∙◌, ap, sym, subst, refl, ℕ, ◌+◌, ◌≤◌, nat_lt, Bool, true, false, List, [], ◌∷◌, ◌++◌, map, length, Option, Some, None, arith, ⊎_elim, zero, suc, cond}
-use Rattle.std.specs.Prelude.{bytes_eq, not}
+use Rattle.std.proofs.Common.{◌≡◌, ◌∙◌, ap, sym, subst, refl, ℕ, ◌+◌, ◌≤◌, nat_lt, Bool, true, false, List, [], ◌∷◌, ◌++◌, map, length, Option, Some, None, arith, ⊎_elim, zero, cond}
+use Rattle.std.specs.Prelude.{◌&&◌, bytes_eq, not}
 use Rattle.std.specs.List.{Contains, filter, list_all, list_any}
 use Rattle.std.specs.Option.{option_map_or}
 use Rattle.std.specs.Ordering.{on}
@@ -15,9 +15,9 @@ use Rattle.ix_base.specs.declared.content.Unit.{Unit as UnitContent}
 use Rattle.ix_base.specs.declared.kind.Kind.{Kind}
 use Rattle.ix_base.specs.declared.kind.Kind.TheVariants as kind
 use Rattle.ix_base.specs.declared.rule.Rule.TheVariants as rule
-use Rattle.ix_base.specs.Asks.{asks}
+use Rattle.ix_base.specs.Asks.{asks, if_such}
 use Rattle.ix_base.specs.Facts.{facts_of}
-use Rattle.ix_base.specs.Ids.{holds_id, holds_tuple_id, id_of, tuple_id_of}
+use Rattle.ix_base.specs.Ids.{agree, are_doubled, holders, holds_id, holds_tuple_id, id_of, speaker, tuple_id_of}
 use Rattle.ix_base.specs.Kinds as kinds
 use Rattle.ix_base.specs.Kinds.{is_inline, kind_of, same_kind}
 use Rattle.ix_base.specs.LinkRules.{are_many, is_footnote}
@@ -25,7 +25,9 @@ use Rattle.ix_base.specs.Located.{Located, is_fact, is_kind, is_text}
 use Rattle.ix_base.specs.NcName.{is_ncname}
 use Rattle.ix_base.specs.Said.{said_of}
 use Rattle.ix_base.specs.Sorted.{sorted, text_cmp}
+use Rattle.ix_base.proofs.OnceLemmas.{Contains-filter, Contains-first, Contains-from_filter}
 use Rattle.footnotes.specs.FootnoteLinks.{notes}
+use Rattle.id_table.proofs.OtherLaws.{by-kind}
 use Rattle.instance_out.specs.Arranged.{arranged, arranged_link}
 use Rattle.instance_out.specs.Holds.{all_notes, fact_ids}
 use Rattle.instance_out.specs.Lists.{are_apart}
@@ -36,11 +38,12 @@ use Rattle.targets.specs.PageSet.{PageSet, base_at, elements}
 use Rattle.targets.proofs.CleanLaws.{link-keeps}
 use Rattle.targets.proofs.FitLaws.{fact-inline}
 use Rattle.targets.proofs.FormLaws.{id-name, or-left, such-parts, text-of}
+use Rattle.targets.proofs.HolderLaws.{kinds-one, several-parts, speaker-is, speaker-none, speaker_such}
 use Rattle.targets.proofs.MemberLaws.{all-pass, from-map, passes-any}
 use Rattle.targets.proofs.NoteSums.{IsOfNote, arranged-notes, from-counted, notes-once}
 use Rattle.targets.proofs.PartsFit.{context-names, contexts-once, unit-names, units-once}
 use Rattle.targets.proofs.SumLaws.{ids-most}
-use Rattle.targets.proofs.TotalLaws.{total, total-append, total-has, total-less, total-map, total-plus, total-some, when, when-has}
+use Rattle.targets.proofs.TotalLaws.{total, total-append, total-has, total-less, total-map, total-same, total-some, total-zero, when, when-has, when-most}
 
 abbrev is_this : List ℕ → List ℕ → ℕ
 is_this t id = when (bytes_eq t id) 1
@@ -94,28 +97,67 @@ option-this : (t : List ℕ) (o : Option (List ℕ)) → option_map_or (is_this 
 option-this t None = refl
 option-this t (Some x) = refl
 
-none-or-some : (n m : ℕ) → (1 ≤ n → n ≤ m) → n ≤ m
-none-or-some zero m h = omega arith
-none-or-some (suc n) m h = h (omega arith)
-
 module _ (s : PageSet) (clean : IsClean s) where
-  held-by : (t : List ℕ) (e : Located) → Contains (elements s) e → holds_id t e ≡ true → length (filter (holds_id t) (elements s)) ≤ 1
-  held-by t e at h =
+  -- no id is doubled
+  single : (t : List ℕ) (e : Located) → Contains (elements s) e → holds_id t e ≡ true → are_doubled (asks (elements s)) t ≡ false
+  single t e at h =
       let a = asks (elements s) in
-      let kept : option_map_or (λ id. are_many a (holds_id id)) (id_of e) false ≡ false =
-      or-left _ (option_map_or (λ id. are_many a (holds_tuple_id id)) (tuple_id_of e) false) (link-keeps s clean rule.L1 (0, omega arith, refl) e at) in
-      let few : nat_lt 1 (length (filter (holds_id t) (elements s))) ≡ false =
-      sym (ap (λ o. option_map_or (λ id. are_many a (holds_id id)) o false) (text-of t (id_of e) h)) ∙ kept in
-      ltb-false 1 (length (filter (holds_id t) (elements s))) few
+      sym (ap (λ o. option_map_or (are_doubled a) o false) (text-of t (id_of e) h))
+      ∙ or-left _ (option_map_or (λ id. are_many a (holds_tuple_id id)) (tuple_id_of e) false) (link-keeps s clean rule.L1 (0, omega arith, refl) e at)
 
-  -- one element holds an id
-  held-once : (t : List ℕ) → total (λ e. when (holds_id t e) 1) (elements s) ≤ 1
-  held-once t =
-      none-or-some (total (λ e. when (holds_id t e) 1) (elements s)) 1
-      (λ k. let e = total-has (λ e. when (holds_id t e) 1) (elements s) k in
-      let few : length (filter (holds_id t) (elements s)) ≤ 1 = held-by t e.0 e.1 (when-has (holds_id t e.0) 1 e.2).0 in
-      let same : total (λ e. when (holds_id t e) 1) (elements s) ≡ length (filter (holds_id t) (elements s)) = counted (holds_id t) (elements s) in
-      omega arith)
+  never-doubled : (t : List ℕ) → are_doubled (asks (elements s)) t ≡ false
+  never-doubled t = by (holders (elements s) t) refl
+    where
+      by : (hs : List Located) → holders (elements s) t ≡ hs → are_doubled (asks (elements s)) t ≡ false
+      by [] e = ap (λ l. nat_lt 1 (length l) && not (agree (asks (elements s)) t)) e
+      by (x ∷ hs) e =
+          let from = Contains-from_filter (holds_id t) (elements s) x (subst (λ l. Contains l x) (sym e) (Contains-first x hs)) in
+          single t x from.0 from.1
+
+  -- those that hold an id
+  held : (t : List ℕ) → total (λ e. when (holds_id t e) 1) (elements s) ≡ length (holders (elements s) t)
+  held t = counted (holds_id t) (elements s)
+
+  -- of a sort that no context and no unit is: one that holds the id at most, and none where the one that speaks for it is of another
+  module _ (P : Kind → Bool) (context : P kind.Context ≡ false) (unit : P kind.Unit ≡ false) where
+    abbrev sorted_by : List ℕ → Located → ℕ
+    sorted_by t e = when (P (kind_of e.placed)) (when (holds_id t e) 1)
+
+    within : (t : List ℕ) → total (sorted_by t) (elements s) ≤ length (holders (elements s) t)
+    within t =
+        let less : total (sorted_by t) (elements s) ≤ total (λ e. when (holds_id t e) 1) (elements s) =
+        total-less (sorted_by t) (λ e. when (holds_id t e) 1) (elements s) (λ e at. when-most (P (kind_of e.placed)) (when (holds_id t e) 1)) in
+        let all = held t in
+        omega arith
+
+    sort-by : (t : List ℕ) (y : Located) → Contains (holders (elements s) t) y → total (sorted_by t) (elements s) ≤ when (P (kind_of y.placed)) 1
+    sort-by t y c = by (P (kind_of y.placed)) refl
+      where
+        few : P (kind_of y.placed) ≡ true → (b : Bool) → nat_lt 1 (length (holders (elements s) t)) ≡ b → length (holders (elements s) t) ≤ 1
+        few e false m = ltb-false 1 (length (holders (elements s) t)) m
+        few e true m =
+            let no : P (kind_of y.placed) ≡ false = by-kind P context unit (kind_of y.placed) (several-parts (elements s) t (never-doubled t) m y c) in
+            absurd (let z : true ≡ false = sym e ∙ no in cc)
+
+        none : P (kind_of y.placed) ≡ false → (e : Located) → Contains (elements s) e → (b : Bool) → holds_id t e ≡ b → when (P (kind_of e.placed)) (when b 1) ≡ 0
+        none e x at true h =
+            let same : kind_of x.placed ≡ kind_of y.placed = kinds-one (elements s) t (never-doubled t) x y (Contains-filter (holds_id t) (elements s) x at h) c in
+            ap (λ b. when b 1) (ap P same ∙ e)
+        none e x at false h = when-none (P (kind_of x.placed))
+          where
+            when-none : (b : Bool) → when b 0 ≡ 0
+            when-none true = refl
+            when-none false = refl
+
+        by : (b : Bool) → P (kind_of y.placed) ≡ b → total (sorted_by t) (elements s) ≤ when b 1
+        by true e =
+            let one = few e (nat_lt 1 (length (holders (elements s) t))) refl in
+            let all = within t in
+            omega arith
+        by false e =
+            let zero : total (sorted_by t) (elements s) ≡ 0 =
+            total-same (sorted_by t) (λ x. 0) (elements s) (λ x at. none e x at (holds_id t x) refl) ∙ total-zero (elements s) in
+            omega arith
 
   module _ (target : List ℕ) (c : Content) (is : IsContent (base_at s) (elements s) target c) where
     notes-are : c.notes ≡ map arranged_link (sorted (on (λ l. l.role) text_cmp) (notes (base_at s) (elements s) target))
@@ -156,26 +198,39 @@ module _ (s : PageSet) (clean : IsClean s) where
         (Contains-append_cases units (facts ++ noted) id k))
         (Contains-append_cases contexts (units ++ (facts ++ noted)) id h)
 
-    -- the elements of the four sorts that hold an id
+    -- what stands for an id: a context, a unit, a fact or a footnote
     sorts : (t : List ℕ)
-        → total (λ e. when (is_kind kind.Context e) (when (holds_id t e) 1)) (elements s)
-        + (total (λ e. when (is_kind kind.Unit e) (when (holds_id t e) 1)) (elements s)
+        → option_map_or (λ x. 1) (speaker_such kind.Context (elements s) t) 0
+        + (option_map_or (λ x. 1) (speaker_such kind.Unit (elements s) t) 0
         + (total (λ e. when (is_fact e) (when (holds_id t e) 1)) (elements s)
         + total (λ e. when (is_footnote e) (when (holds_id t e) 1)) (elements s))) ≤ 1
-    sorts t =
-        let es = elements s in
-        let h : Located → ℕ = λ e. when (holds_id t e) 1 in
-        let a : Located → ℕ = λ e. when (is_kind kind.Context e) (h e) in
-        let b : Located → ℕ = λ e. when (is_kind kind.Unit e) (h e) in
-        let d : Located → ℕ = λ e. when (is_fact e) (h e) in
-        let g : Located → ℕ = λ e. when (is_footnote e) (h e) in
-        let first : total (λ e. a e + (b e + (d e + g e))) es ≡ total a es + total (λ e. b e + (d e + g e)) es = total-plus a (λ e. b e + (d e + g e)) es in
-        let second : total (λ e. b e + (d e + g e)) es ≡ total b es + total (λ e. d e + g e) es = total-plus b (λ e. d e + g e) es in
-        let third : total (λ e. d e + g e) es ≡ total d es + total g es = total-plus d g es in
-        let most : total (λ e. a e + (b e + (d e + g e))) es ≤ total h es =
-        total-less (λ e. a e + (b e + (d e + g e))) h es (λ e at. one-kind (kind_of e.placed) (h e)) in
-        let once : total h es ≤ 1 = held-once t in
-        omega arith
+    sorts t = by (speaker (elements s) t) refl
+      where
+        such : (k : Kind) (y : Located) → option_map_or (λ x. 1) (if_such (is_kind k) (Some y)) 0 ≡ when (is_kind k y) 1
+        such k y = by (is_kind k y)
+          where
+            by : (b : Bool) → option_map_or (λ (x : Located). 1) (cond b (Some y) None) 0 ≡ when b 1
+            by true = refl
+            by false = refl
+
+        by : (o : Option Located) → speaker (elements s) t ≡ o
+            → option_map_or (λ x. 1) (if_such (is_kind kind.Context) o) 0
+            + (option_map_or (λ x. 1) (if_such (is_kind kind.Unit) o) 0
+            + (total (λ e. when (is_fact e) (when (holds_id t e) 1)) (elements s)
+            + total (λ e. when (is_footnote e) (when (holds_id t e) 1)) (elements s))) ≤ 1
+        by None e =
+            let none : length (holders (elements s) t) ≡ 0 = ap length (speaker-none (elements s) t e (never-doubled t)) in
+            let d = within kinds.is_fact refl refl t in
+            let g = within (λ k. same_kind k kind.Footnote) refl refl t in
+            omega arith
+        by (Some y) e =
+            let c = (speaker-is (elements s) t y e).1 in
+            let a = such kind.Context y in
+            let b = such kind.Unit y in
+            let d = sort-by kinds.is_fact refl refl t y c in
+            let g = sort-by (λ k. same_kind k kind.Footnote) refl refl t y c in
+            let four = one-kind (kind_of y.placed) 1 in
+            omega arith
 
     facts-once : (t : List ℕ) → total (is_this t) (fact_ids (facts_of c.facts)) ≤ total (λ e. when (is_fact e) (when (holds_id t e) 1)) (elements s)
     facts-once t =
@@ -198,11 +253,11 @@ module _ (s : PageSet) (clean : IsClean s) where
         total-append w contexts (units ++ (facts ++ noted)) in
         let behind : total w (units ++ (facts ++ noted)) ≡ total w units + total w (facts ++ noted) = total-append w units (facts ++ noted) in
         let last : total w (facts ++ noted) ≡ total w facts + total w noted = total-append w facts noted in
-        let a : total w contexts ≤ total (λ e. when (is_kind kind.Context e) (when (holds_id t e) 1)) es =
-        subst (λ n. n ≤ total (λ e. when (is_kind kind.Context e) (when (holds_id t e) 1)) es)
+        let a : total w contexts ≤ option_map_or (λ (x : Located). 1) (speaker_such kind.Context es t) 0 =
+        subst (λ n. n ≤ option_map_or (λ (x : Located). 1) (speaker_such kind.Context es t) 0)
         (sym (total-map w (λ (x : Context). x.id) c.contexts)) (contexts-once s clean target c is t) in
-        let b : total w units ≤ total (λ e. when (is_kind kind.Unit e) (when (holds_id t e) 1)) es =
-        subst (λ n. n ≤ total (λ e. when (is_kind kind.Unit e) (when (holds_id t e) 1)) es)
+        let b : total w units ≤ option_map_or (λ (x : Located). 1) (speaker_such kind.Unit es t) 0 =
+        subst (λ n. n ≤ option_map_or (λ (x : Located). 1) (speaker_such kind.Unit es t) 0)
         (sym (total-map w (λ (u : UnitContent). u.id) c.units)) (units-once s clean target c is t) in
         let d : total w facts ≤ total (λ e. when (is_fact e) (when (holds_id t e) 1)) es = facts-once t in
         let g : total w noted ≤ total (λ e. when (is_footnote e) (when (holds_id t e) 1)) es =

@@ -1,4 +1,5 @@
 mod AboveLaws
+mod AlikeForms
 pub mod AllowedLaws
 mod AmongLaws
 pub mod ArcLaws
@@ -8,12 +9,15 @@ pub mod BodiesFit
 pub mod BodyLaws
 pub mod CanonicalLaws
 mod ChainLaws
+pub mod ChoiceLaws
+mod ChoosingLaws
 pub mod CleanLaws
 mod ClosingLaws
 mod ComesLaws
 mod ContentLaws
 mod ContentsMoved
 mod ContentsShuffled
+mod CountLaws
 mod DepthLaws
 pub mod Exchanged
 mod FactsLaws
@@ -29,8 +33,11 @@ mod GroupLaws
 pub mod HasLaws
 pub mod HeardLaws
 pub mod HoldLaws
+pub mod HolderLaws
 pub mod IdsFit
+mod KeptLaws
 mod LinkLaws
+mod LinkStandLaws
 pub mod LinksFit
 mod LinksKept
 pub mod ListsFit
@@ -52,8 +59,11 @@ pub mod ProperLaws
 pub mod Rearranged
 mod RedirectLaws
 pub mod RefLaws
+mod RenamedLaws
 pub mod ReportsMoved
 pub mod RolesFit
+pub mod SaidLaws
+pub mod SetLaws
 mod Shuffled
 pub mod SoundLaws
 pub mod SpelledLaws

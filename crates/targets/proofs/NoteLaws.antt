@@ -8,7 +8,8 @@ use Rattle.ix_base.specs.declared.kind.Kind.{Kind}
 use Rattle.ix_base.specs.LinkRules.{address_of}
 use Rattle.ix_base.specs.Located.{Located}
 use Rattle.targets.specs.declared.addresses.Seen.{Seen}
-use Rattle.targets.specs.Contents.{first_of, role_at, role_to, roles_for}
+use Rattle.ix_base.specs.Asks.{first_of}
+use Rattle.targets.specs.Contents.{role_at, role_to, roles_for}
 use Rattle.targets.specs.RoleAddresses.{AreSeen, refers_to, role_seen, seen_from}
 use Rattle.targets.proofs.RedirectLaws.{seen-some}
 

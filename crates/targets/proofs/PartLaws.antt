@@ -1,6 +1,6 @@
 -- The contexts and the units of a content: those that its items name, each once.
 use Rattle.std.proofs.Common.{◌≡◌, ◌∙◌, ap, sym, subst, refl, ℕ, ◌+◌, ◌≤◌, Bool, true, false, List, [], ◌∷◌, map, Option, Some, None, arith, ⊎_elim}
-use Rattle.std.specs.Prelude.{bytes_eq}
+use Rattle.std.specs.Prelude.{bytes_eq, option_and_then}
 use Rattle.std.specs.List.{AllByRecursion, Contains, filter, filter_map, flat_map}
 use Rattle.std.specs.List.Sorted.{IsStrictlySortedBy}
 use Rattle.std.specs.Option.{option_map_or}
@@ -15,7 +15,7 @@ use Rattle.ix_base.specs.declared.content.Item.{Item}
 use Rattle.ix_base.specs.declared.kind.Kind.{Kind}
 use Rattle.ix_base.specs.Asks.{asks}
 use Rattle.ix_base.specs.Facts.{facts_of}
-use Rattle.ix_base.specs.Ids.{holds_id, id_of, one_such}
+use Rattle.ix_base.specs.Ids.{holds_id, id_of, one_such, speaker}
 use Rattle.ix_base.specs.LinkRules.{target_of}
 use Rattle.ix_base.specs.Located.{Located, is_item, is_kind, is_text}
 use Rattle.ix_base.specs.NcName.{is_ncname}
@@ -25,10 +25,12 @@ use Rattle.ix_base.proofs.OnceOrdered.{same_text}
 use Rattle.instance_out.specs.Holds.{items_in}
 use Rattle.instance_out.specs.Lists.{of_option}
 use Rattle.targets.specs.Clean.{IsClean}
-use Rattle.targets.specs.Contents.{IsContent, SaysItem, ids_named, is_item_of, of_ids}
+use Rattle.targets.specs.Contents.{IsContent, SaysItem, ids_named, is_item_of}
 use Rattle.targets.specs.PageSet.{PageSet, base_at, elements}
 use Rattle.targets.proofs.FormLaws.{of-text, such-parts, text-of}
+use Rattle.targets.proofs.HolderLaws.{speaker-parts, speaker_such}
 use Rattle.targets.proofs.MemberLaws.{from-flat, from-given, from-map, in-flat, in-given, in-map-as}
+use Rattle.targets.proofs.SaidLaws.{said as said_by}
 use Rattle.targets.proofs.SumLaws.{item-back, item-there}
 use Rattle.targets.proofs.TotalLaws.{total, total-given, total-has, total-less, total-some, when, when-has, when-most}
 
@@ -86,26 +88,34 @@ module _ (s : PageSet) (clean : IsClean s) (target : List ℕ) (c : Content) (is
     (said : (e : Located) (i : Item) → SaysItem (base_at s) (elements s) e i → item_ref i ≡ said_ref e)
     (refers : (e : Located) → Contains (elements s) e → is_item e ≡ true → said_ref e ≡ ref e)
     (named : (e : Located) (id : List ℕ) → Contains (elements s) e → is_item e ≡ true → ref e ≡ Some id
-    → (x : Located) × (one_such (is_kind k) (asks (elements s)) id ≡ Some x))
+    → (x : Located) × (speaker_such k (elements s) id ≡ Some x))
     (formed : (x : Located) → Contains (elements s) x → is_kind k x ≡ true → (y : Y) × (form x ≡ Some y))
     (keyed : (x : Located) (y : Y) → form x ≡ Some y → (id_of x ≡ Some (key y)) × (is_ncname (key y) ≡ true)) where
+  -- what is said of an id
+  abbrev part_for : List ℕ → Option Y
+  part_for id = said_by k form (speaker (elements s) id)
+
   -- the parts that the items of the target name
   abbrev parts : List Y
-  parts = filter_map form (of_ids (asks (elements s)) k (ids_named ref target (elements s)))
+  parts = filter_map part_for (ids_named ref target (elements s))
 
   abbrev items : List Item
   items = items_in (facts_of c.facts)
 
-  part-of : (y : Y) → Contains parts y → (id : List ℕ) × (x : Located) × Contains (ids_named ref target (elements s)) id × (one_such (is_kind k) (asks (elements s)) id ≡ Some x) × (form x ≡ Some y)
+  said-of : (o : Option Located) (y : Y) → option_and_then form o ≡ Some y → (x : Located) × (o ≡ Some x) × (form x ≡ Some y)
+  said-of None y h = absurd (let z : None ≡ Some y = h in cc)
+  said-of (Some x) y h = (x, refl, h)
+
+  part-of : (y : Y) → Contains parts y → (id : List ℕ) × (x : Located) × Contains (ids_named ref target (elements s)) id × (speaker_such k (elements s) id ≡ Some x) × (form x ≡ Some y)
   part-of y h =
       let es = elements s in
-      let x = from-given form (of_ids (asks es) k (ids_named ref target es)) y h in
-      let n = from-given (one_such (is_kind k) (asks es)) (ids_named ref target es) x.0 x.1 in
-      (n.0, x.0, n.1, n.2, x.2)
+      let n = from-given part_for (ids_named ref target es) y h in
+      let x = said-of (speaker_such k es n.0) y n.2 in
+      (n.0, x.0, n.1, x.1, x.2)
 
-  key-is : (id : List ℕ) (x : Located) (y : Y) → one_such (is_kind k) (asks (elements s)) id ≡ Some x → form x ≡ Some y → key y ≡ id
+  key-is : (id : List ℕ) (x : Located) (y : Y) → speaker_such k (elements s) id ≡ Some x → form x ≡ Some y → key y ≡ id
   key-is id x y such made =
-      some-inj (key y) id (sym (keyed x y made).0 ∙ (such-parts (is_kind k) (elements s) id x such).1)
+      some-inj (key y) id (sym (keyed x y made).0 ∙ (speaker-parts (elements s) id k x such).1)
 
   -- an item names each
   part-named : (y : Y) → Contains parts y → (f : Located) × Contains (elements s) f × (is_item_of target f ≡ true) × (ref f ≡ Some (key y))
@@ -122,12 +132,11 @@ module _ (s : PageSet) (clean : IsClean s) (target : List ℕ) (c : Content) (is
   named-part f id at item e =
       let es = elements s in
       let x = named f id at (and_parts (is_item f) (bytes_eq target (target_of f)) item).0 e in
-      let such = such-parts (is_kind k) es id x.0 x.1 in
+      let such = speaker-parts es id k x.0 x.1 in
       let y = formed x.0 such.0 such.2 in
       let listed = in-given ref (filter (is_item_of target) es) f id (Contains-filter (is_item_of target) es f at item) e in
       let ordered = (in_order-members same_text (filter_map ref (filter (is_item_of target) es))).there id listed in
-      let there = in-given (one_such (is_kind k) (asks es)) (ids_named ref target es) id x.0 ordered x.1 in
-      (y.0, in-given form (of_ids (asks es) k (ids_named ref target es)) x.0 y.0 there y.1, key-is id x.0 y.0 x.1 y.1)
+      (y.0, in-given part_for (ids_named ref target es) id y.0 ordered (ap (option_and_then form) x.1 ∙ y.1), key-is id x.0 y.0 x.1 y.1)
 
   abbrev weight_of : List ℕ → Item → ℕ
   weight_of id i = when (is_text id (item_ref i)) 1
@@ -165,12 +174,12 @@ module _ (s : PageSet) (clean : IsClean s) (target : List ℕ) (c : Content) (is
   pub key-name : (y : Y) → Contains parts y → is_ncname (key y) ≡ true
   key-name y h = let p = part-of y h in (keyed p.1 y p.4).1
 
-  -- and that of an element of the kind, which has it once
-  abbrev has_one : List ℕ → ℕ
-  has_one t = option_map_or (λ x. 1) (one_such (is_kind k) (asks (elements s)) t) 0
+  -- and stands once, where an element of the kind speaks for it
+  abbrev pub has_one : List ℕ → ℕ
+  has_one t = option_map_or (λ x. 1) (speaker_such k (elements s) t) 0
 
-  one-part : (t id : List ℕ) (o : Option Located) → one_such (is_kind k) (asks (elements s)) id ≡ o
-      → option_map_or (λ x. option_map_or (λ y. when (bytes_eq t (key y)) 1) (form x) 0) o 0 ≤ when (bytes_eq t id) (has_one t)
+  one-part : (t id : List ℕ) (o : Option Located) → speaker_such k (elements s) id ≡ o
+      → option_map_or (λ y. when (bytes_eq t (key y)) 1) (option_and_then form o) 0 ≤ when (bytes_eq t id) (has_one t)
   one-part t id None e = omega arith
   one-part t id (Some x) e = by (form x) refl
     where
@@ -188,22 +197,15 @@ module _ (s : PageSet) (clean : IsClean s) (target : List ℕ) (c : Content) (is
               let none : when (bytes_eq t (key y)) 1 ≡ 0 = ap (λ b. when b 1) (ap (bytes_eq t) (key-is id x y e f) ∙ g) in
               omega arith
 
-  one-there : (t : List ℕ) (o : Option Located) → one_such (is_kind k) (asks (elements s)) t ≡ o
-      → option_map_or (λ x. 1) o 0 ≤ total (λ e. when (is_kind k e) (when (holds_id t e) 1)) (elements s)
-  one-there t None e = omega arith
-  one-there t (Some x) e = one-holds (is_kind k) (elements s) t x e
-
-  pub keys-once : (t : List ℕ) → total (λ y. when (bytes_eq t (key y)) 1) parts ≤ total (λ e. when (is_kind k e) (when (holds_id t e) 1)) (elements s)
+  pub keys-once : (t : List ℕ) → total (λ y. when (bytes_eq t (key y)) 1) parts ≤ has_one t
   keys-once t =
       let es = elements s in
       let ids = ids_named ref target es in
       let v : Y → ℕ = λ y. when (bytes_eq t (key y)) 1 in
-      let F : List ℕ → ℕ = λ id. option_map_or (λ x. option_map_or v (form x) 0) (one_such (is_kind k) (asks es) id) 0 in
-      let sums : total v parts ≡ total F ids =
-      total-given v form (of_ids (asks es) k ids) ∙ total-given (λ x. option_map_or v (form x) 0) (one_such (is_kind k) (asks es)) ids in
+      let F : List ℕ → ℕ = λ id. option_map_or v (part_for id) 0 in
+      let sums : total v parts ≡ total F ids = total-given v part_for ids in
       let each : total F ids ≤ total (λ id. when (bytes_eq t id) (has_one t)) ids =
-      total-less F (λ id. when (bytes_eq t id) (has_one t)) ids (λ id h. one-part t id (one_such (is_kind k) (asks es) id) refl) in
+      total-less F (λ id. when (bytes_eq t id) (has_one t)) ids (λ id h. one-part t id (speaker_such k es id) refl) in
       let once : total (λ id. when (bytes_eq t id) (has_one t)) ids ≤ has_one t =
       strict-once t (has_one t) ids (in_order-sorted nat_list_cmp_total (filter_map ref (filter (is_item_of target) es))) in
-      let one : has_one t ≤ total (λ e. when (is_kind k e) (when (holds_id t e) 1)) es = one-there t (one_such (is_kind k) (asks es) t) refl in
       omega arith

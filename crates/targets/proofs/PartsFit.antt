@@ -2,6 +2,7 @@
 use Rattle.std.proofs.Common.{◌≡◌, ◌∙◌, ap, sym, subst, refl, ℕ, ◌≤◌, true, List, [], map, Option, Some}
 use Rattle.std.specs.Prelude.{◌&&◌, bytes_eq, unwrap_or}
 use Rattle.std.specs.List.{Contains, flat_map}
+use Rattle.std.specs.Option.{option_map_or}
 use Rattle.std.specs.Ordering.{on}
 use Rattle.std.specs.declared.cmp.Ordering.{Ordering}
 use Rattle.std.proofs.lemmas.List.Concat.{flat_map_single}
@@ -11,8 +12,7 @@ use Rattle.ix_base.specs.declared.content.Item.{Item}
 use Rattle.ix_base.specs.declared.content.Unit.{Unit as UnitContent}
 use Rattle.ix_base.specs.declared.kind.Kind.TheVariants as kind
 use Rattle.ix_base.specs.Facts.{facts_of}
-use Rattle.ix_base.specs.Ids.{holds_id}
-use Rattle.ix_base.specs.Located.{Located, is_kind}
+use Rattle.ix_base.specs.Located.{Located}
 use Rattle.ix_base.specs.NcName.{is_ncname}
 use Rattle.ix_base.specs.Said.{said_of}
 use Rattle.ix_base.specs.Sorted.{sorted, text_cmp}
@@ -25,6 +25,7 @@ use Rattle.targets.specs.Contents.{IsContent, SaysItem, context_at, context_name
 use Rattle.targets.specs.PageSet.{PageSet, base_at, elements}
 use Rattle.targets.proofs.DepthLaws.{sorted-from}
 use Rattle.targets.proofs.FormLaws.{context-id, context-there, has-context, has-unit, names-context, unit-id, unit-there}
+use Rattle.targets.proofs.HolderLaws.{speaker_such}
 use Rattle.targets.proofs.MemberLaws.{from-map, in-map-as, in-sorted, within-from}
 use Rattle.targets.proofs.PartLaws.{key-name, keys-once, there, used}
 use Rattle.targets.proofs.TotalLaws.{total, total-sorted, when}
@@ -110,17 +111,17 @@ module _ (s : PageSet) (clean : IsClean s) (target : List ℕ) (c : Content) (is
       (key-name s clean target c is kind.Unit unit_named unit_named (λ i. i.unit) unit_at (λ u. u.id)
       unit-says (λ e at item. refl) (unit-there s clean) (has-unit s clean) unit-id x.0 x.1)
 
-  pub contexts-once : (t : List ℕ) → total (λ x. when (bytes_eq t x.id) 1) c.contexts ≤ total (λ e. when (is_kind kind.Context e) (when (holds_id t e) 1)) (elements s)
+  pub contexts-once : (t : List ℕ) → total (λ x. when (bytes_eq t x.id) 1) c.contexts ≤ option_map_or (λ x. 1) (speaker_such kind.Context (elements s) t) 0
   contexts-once t =
-      subst (λ n. n ≤ total (λ e. when (is_kind kind.Context e) (when (holds_id t e) 1)) (elements s))
+      subst (λ n. n ≤ option_map_or (λ (x : Located). 1) (speaker_such kind.Context (elements s) t) 0)
       (sym (ap (total (λ (x : Context). when (bytes_eq t x.id) 1)) contexts-are
       ∙ total-sorted (λ (x : Context). when (bytes_eq t x.id) 1) by_id (contexts_of (elements s) target)))
       (keys-once s clean target c is kind.Context context_named context_said (λ i. Some i.context) context_at (λ x. x.id)
       context-says (names-context s clean) (context-there s clean) (has-context s clean) context-id t)
 
-  pub units-once : (t : List ℕ) → total (λ u. when (bytes_eq t u.id) 1) c.units ≤ total (λ e. when (is_kind kind.Unit e) (when (holds_id t e) 1)) (elements s)
+  pub units-once : (t : List ℕ) → total (λ u. when (bytes_eq t u.id) 1) c.units ≤ option_map_or (λ x. 1) (speaker_such kind.Unit (elements s) t) 0
   units-once t =
-      subst (λ n. n ≤ total (λ e. when (is_kind kind.Unit e) (when (holds_id t e) 1)) (elements s))
+      subst (λ n. n ≤ option_map_or (λ (x : Located). 1) (speaker_such kind.Unit (elements s) t) 0)
       (sym (ap (total (λ (u : UnitContent). when (bytes_eq t u.id) 1)) units-are
       ∙ total-sorted (λ (u : UnitContent). when (bytes_eq t u.id) 1) by_unit (units_of (elements s) target)))
       (keys-once s clean target c is kind.Unit unit_named unit_named (λ i. i.unit) unit_at (λ u. u.id)

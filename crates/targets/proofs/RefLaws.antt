@@ -33,7 +33,8 @@ use Rattle.instance_out.specs.Arranged.{arranged, by_line}
 use Rattle.instance_out.specs.Canonical.{arcrole_markup, linkbase_markup, role_markup, schema_markup}
 use Rattle.instance_out.specs.Lists.{of_option}
 use Rattle.targets.specs.Clean.{IsClean}
-use Rattle.targets.specs.Contents.{IsContent, first_of, if_any, is_linkbase_for, linkbase_at, role_at, role_to}
+use Rattle.ix_base.specs.Asks.{first_of}
+use Rattle.targets.specs.Contents.{IsContent, if_any, is_linkbase_for, linkbase_at, role_at, role_to}
 use Rattle.targets.specs.PageSet.{PageSet, base_at, elements}
 use Rattle.targets.specs.RoleAddresses.{refers_to}
 use Rattle.targets.proofs.AllowedLaws.{allowed-nil}

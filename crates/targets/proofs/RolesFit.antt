@@ -29,7 +29,8 @@ use Rattle.instance_out.specs.Lists.{are_apart}
 use Rattle.instance_out.specs.Proper.{roles_fit}
 use Rattle.ix_base.specs.Said.{said_of}
 use Rattle.targets.specs.Clean.{IsClean}
-use Rattle.targets.specs.Contents.{IsContent, IsGathered, arcroles_in, first_of, role_at, role_to, roles_for, roles_in, uris_in}
+use Rattle.ix_base.specs.Asks.{first_of}
+use Rattle.targets.specs.Contents.{IsContent, IsGathered, arcroles_in, role_at, role_to, roles_for, roles_in, uris_in}
 use Rattle.targets.specs.PageSet.{PageSet, base_at, elements}
 use Rattle.targets.specs.RoleAddresses.{refers_to}
 use Rattle.targets.proofs.ArcLaws.{all-links, arc-kept, arranged-role, in-links, link-notes}

@@ -5,7 +5,7 @@ use Rattle.std.specs.Option.{option_map_or}
 use Rattle.std.proofs.lemmas.Slice.Eq.{bytes_eq-Decides}
 use Rattle.ix_base.specs.Asks.{asks, if_such, only}
 use Rattle.ix_base.specs.Chain.{chain_of, continuation, continued_at, next}
-use Rattle.ix_base.specs.Ids.{holds_id, id_of, one, one_such}
+use Rattle.ix_base.specs.Ids.{holds_id, id_of, one_such, sole}
 use Rattle.ix_base.specs.Located.{Located, is_continuation, is_text}
 use Rattle.ix_base.proofs.OnceLemmas.{Contains-cases, Contains-first, Contains-from_filter, Contains-nil}
 
@@ -31,11 +31,11 @@ pub record IsSuch (es : List Located) (p : Located → Bool) (id : List ℕ) (x 
   pub there : Contains es x
   pub such : p x ≡ true
   pub called : id_of x ≡ Some id
-  pub one : one (asks es) id ≡ Some x
+  pub one : sole (asks es) id ≡ Some x
 
 pub such-is : (es : List Located) (p : Located → Bool) (id : List ℕ) (x : Located) → one_such p (asks es) id ≡ Some x → IsSuch es p id x
 such-is es p id x h =
-    let s = if-such p (one (asks es) id) x h in
+    let s = if-such p (sole (asks es) id) x h in
     let a = Contains-from_filter (holds_id id) es x (only-is (filter (holds_id id) es) x s.0) in
     record { there = a.0; such = s.1; called = text-is id (id_of x) a.1; one = s.0 }
 

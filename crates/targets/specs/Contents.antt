@@ -10,12 +10,12 @@ use Rattle.ix_base.specs.declared.content.RoleRef.{RoleRef}
 use Rattle.ix_base.specs.declared.content.Unit.{Unit as UnitContent}
 use Rattle.ix_base.specs.declared.kind.Kind.{Kind}
 use Rattle.ix_base.specs.declared.kind.Kind.TheVariants as kind
-use Rattle.ix_base.specs.Asks.{Asks, asks}
+use Rattle.ix_base.specs.Asks.{Asks, asks, first_of}
 use Rattle.ix_base.specs.Attributes.{value_of}
 use Rattle.ix_base.specs.ContextForm.{context}
 use Rattle.ix_base.specs.Facts.{facts_of}
 use Rattle.ix_base.specs.Forms.{is_empty}
-use Rattle.ix_base.specs.Ids.{one_such}
+use Rattle.ix_base.specs.Ids.{context_for, unit_for}
 use Rattle.ix_base.specs.Kinds.{kind_of}
 use Rattle.ix_base.specs.LinkRules.{address_of, is_schema_for, target_above, target_of}
 use Rattle.ix_base.specs.Located.{Located, head_of, is_fact, is_item, is_kind, token_at}
@@ -75,21 +75,18 @@ unit_named e = unit_of (kind_of e.placed) e.placed.tree
 abbrev pub ids_named : (Located → Option (List ℕ)) → List ℕ → List Located → List (List ℕ)
 ids_named ref target es = in_order text_cmp (filter_map ref (filter (is_item_of target) es))
 
--- the elements of a kind with these ids
-abbrev pub of_ids : Asks Located → Kind → List (List ℕ) → List Located
-of_ids a k ids = filter_map (one_such (is_kind k) a) ids
-
 abbrev pub context_at : Located → Option Context
 context_at e = context e.placed.tree
 
 abbrev pub unit_at : Located → Option UnitContent
 unit_at e = unit e.placed.tree
 
+-- what the one element with each id says
 abbrev pub contexts_of : List Located → List ℕ → List Context
-contexts_of es target = filter_map context_at (of_ids (asks es) kind.Context (ids_named context_named target es))
+contexts_of es target = filter_map (context_for es) (ids_named context_named target es)
 
 abbrev pub units_of : List Located → List ℕ → List UnitContent
-units_of es target = filter_map unit_at (of_ids (asks es) kind.Unit (ids_named unit_named target es))
+units_of es target = filter_map (unit_for es) (ids_named unit_named target es)
 
 -- Roles and arcroles: those that the footnote links of a target use.
 
@@ -104,10 +101,6 @@ arcroles_in link = map (λ a. a.arcrole) link.arcs
 -- what links use, in order, each once
 abbrev pub uris_in : (NoteLink → List (List ℕ)) → List NoteLink → List (List ℕ)
 uris_in uris links = in_order text_cmp (flat_map uris links)
-
-abbrev pub first_of : {X : Type 0} → List X → Option X
-first_of [] = None
-first_of (x ∷ xs) = Some x
 
 abbrev pub role_to : List ℕ → List ℕ → RoleRef
 role_to uri href = record { uri = uri; href = href }

@@ -6,8 +6,8 @@ use Rattle.ix_base.specs.LinkRules.{is_schema_for, target_above, target_of}
 use Rattle.id_table.specs.Tables.{all_located, spots_at}
 use Rattle.targets.specs.Contents.{context_named, is_linkbase_for, unit_named}
 use Rattle.targets.specs.declared.contents.Groups.{Groups}
-use Rattle.targets.specs.declared.contents.Ref.{Ref}
-use Rattle.targets.specs.declared.contents.Ref.TheVariants.{Context, Unit}
+use Rattle.targets.specs.declared.parts.Ref.{Ref}
+use Rattle.targets.specs.declared.parts.Ref.TheVariants.{Context, Unit}
 use Rattle.targets.specs.declared.groups.Group.{Group}
 use Rattle.targets.specs.declared.groups.Group.TheVariants.{Facts, Schemas, Linkbases}
 

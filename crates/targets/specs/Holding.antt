@@ -1,12 +1,15 @@
 -- What is to be known of a set that takes pages.
 use Rattle.std.specs.Coded.{Coded, code_by, coded×, coded_ℕ, coded_list, coded_bool}
+use Rattle.std.specs.List.{slice_get}
+use Rattle.std.specs.Option.{option_map_or}
 use Rattle.std.specs.Prelude.{refl, ◌≡◌, ℕ, suc, Bool, false, List, [], ◌∷◌, map}
 use Rattle.ix_base.specs.Located.{Paged, marked}
 use Rattle.ix_base.specs.Sound.{IsSoundRoot}
 use Rattle.ix_base.specs.TreeCodes.{tree_code}
 use Rattle.ix_base.specs.Trees.{Tree, tree_of}
-use Rattle.id_table.specs.Held.{Held}
+use Rattle.id_table.specs.Held.{AreChosen, Held}
 use Rattle.scopes.specs.Kept.{Kept}
+use Rattle.targets.specs.declared.agreeing.PageNames.{PageNames}
 use Rattle.targets.specs.declared.closing.Page.{Page}
 use Rattle.targets.specs.declared.closing.Pages.{Pages}
 use Rattle.targets.specs.PageSet.{PageSet, page_bases}
@@ -19,14 +22,23 @@ pub record HeldSet : Type 0 where
 abbrev pub as_paged : Page → Paged
 as_paged p = record { name = p.name; tree = tree_of p.root.now }
 
+-- the name of the page of this number, and where there is none, that of the page that comes next
+abbrev pub names_with : List Page → List ℕ → ℕ → List ℕ
+names_with pages next n = option_map_or (λ p. p.name) (slice_get pages n) next
+
+abbrev pub names_of : PageNames → ℕ → List ℕ
+names_of names = names_with names.pages.now names.next.now
+
 -- the roots are sound, and of pages numbered on from this number
 abbrev pub AreSoundFrom : ℕ → List Page → Type 0
 AreSoundFrom n [] = Unit {0}
 AreSoundFrom n (p ∷ ps) = IsSoundRoot p.root.now n 256 × AreSoundFrom (suc n) ps
 
--- the set has an index of its pages and their bases, and their roots are sound
+-- the set has an index of its pages, with the choices that they ask for, and their bases, and their roots are sound
 pub record Keeps (base : List ℕ) (pages : List Page) (i : Held) (b : Kept) : Type 0 where
-  pub index : i ≡ record { spots = marked (map as_paged pages); is_spent = false }
+  pub spots : i.spots ≡ marked (map as_paged pages)
+  pub unspent : i.is_spent ≡ false
+  pub chosen : AreChosen i
   pub bases : b ≡ record { pages = page_bases (record { base = base; pages = map as_paged pages }); is_spent = false }
   pub sound : AreSoundFrom 0 pages
 

@@ -1,4 +1,5 @@
 pub mod Breaches
+pub mod Choices
 pub mod Clean
 pub mod Contents
 pub mod Faults

@@ -1,22 +1,22 @@
 -- Links between elements, and how they stand while pages come (Inline XBRL 1.1: continuation, contexts and units of facts, tuples,
 -- relationships).
-use Rattle.std.specs.Prelude.{◌≡◌, ℕ, Bool, true, false, List, [], ◌∷◌, ◌++◌, ◌⊎◌, map, filter, Option, Some, None, if◌then◌else◌, codes}
+use Rattle.std.specs.Prelude.{◌≡◌, ℕ, Bool, true, false, not, List, [], ◌∷◌, ◌++◌, ◌⊎◌, map, filter, Option, Some, None, if◌then◌else◌, codes}
 use Rattle.std.specs.List.{flat_map}
 use Rattle.std.specs.Option.{option_map_or}
-use Rattle.ix_base.specs.Asks.{asks}
+use Rattle.ix_base.specs.Asks.{are_many, are_some, asks}
 use Rattle.ix_base.specs.Chain.{continued_at}
 use Rattle.ix_base.specs.Forms.{words_of}
-use Rattle.ix_base.specs.Ids.{id_of, one, one_tuple, tuple_id_of}
+use Rattle.ix_base.specs.Ids.{are_doubled, holds_id, holds_tuple_id, one, one_tuple}
 use Rattle.ix_base.specs.LinkRules.{is_relationship}
-use Rattle.ix_base.specs.Located.{Located, is_fact, is_item, is_text}
+use Rattle.ix_base.specs.Located.{Located, is_fact, is_item}
 use Rattle.ix_base.specs.Membership.{tuple_ref_of}
 use Rattle.ix_base.specs.NcName.{is_ncname}
 use Rattle.ix_base.specs.Once.{in_order}
 use Rattle.ix_base.specs.Readers.{attr}
 use Rattle.ix_base.specs.Sorted.{text_cmp}
 use Rattle.targets.specs.Contents.{context_named, unit_named}
-use Rattle.targets.specs.declared.standing.LinkAttribute.{LinkAttribute}
-use Rattle.targets.specs.declared.standing.LinkAttribute.TheVariants as attribute
+use Rattle.targets.specs.declared.link_ids.LinkAttribute.{LinkAttribute}
+use Rattle.targets.specs.declared.link_ids.LinkAttribute.TheVariants as attribute
 
 -- Links.
 
@@ -66,49 +66,51 @@ pub data Stands : Type 0 where
   resolved : (to : Located) → Stands
   doubled : Stands
 
-abbrev pub is_pending : Stands → Bool
-is_pending pending = true
-is_pending s = false
+-- an id among elements: doubled where several have it that don't agree, resolved where one is the one with it, and else pending; the
+-- pages have these names
+abbrev pub id_stands : (ℕ → List ℕ) → List Located → List ℕ → Stands
+id_stands names es id = if are_doubled (asks es) id then doubled else option_map_or (λ e. resolved e) (one names es id) pending
 
-abbrev pub is_doubled : Stands → Bool
-is_doubled doubled = true
-is_doubled s = false
-
--- by the elements that have the id: with none it is pending, with one resolved, with more doubled
+-- by the tuples that have a tuple id: with none it is pending, with one resolved, with more doubled
 abbrev pub stands_by : List Located → Stands
 stands_by [] = pending
 stands_by (e ∷ []) = resolved e
 stands_by (e ∷ f ∷ es) = doubled
 
--- how an id stands, of those that elements say to be theirs
-abbrev pub standing : (Located → Option (List ℕ)) → List Located → List ℕ → Stands
-standing own es id = stands_by (filter (λ e. is_text id (own e)) es)
+abbrev pub tuple_stands : List Located → List ℕ → Stands
+tuple_stands es id = stands_by (filter (holds_tuple_id id) es)
 
 -- a tupleRef names the tuple id of a tuple, every other attribute the id of an element
 abbrev pub is_tuple_ref : LinkAttribute → Bool
 is_tuple_ref attribute.TupleRef = true
 is_tuple_ref a = false
 
--- how a link stands among elements with ids and tuples with tuple ids
-abbrev pub stands_among : List Located → List Located → Link → Stands
-stands_among es ts l = if is_tuple_ref l.attribute then standing tuple_id_of ts l.id else standing id_of es l.id
+-- how a link stands among some elements
+abbrev pub link_stands : (ℕ → List ℕ) → List Located → Link → Stands
+link_stands names es l = if is_tuple_ref l.attribute then tuple_stands es l.id else id_stands names es l.id
 
-abbrev pub link_stands : List Located → Link → Stands
-link_stands es l = stands_among es es l
+-- no element has the id that a link names, or no tuple the tuple id
+abbrev pub is_pending : List Located → Link → Bool
+is_pending es l = if is_tuple_ref l.attribute then not (are_some (asks es) (holds_tuple_id l.id)) else not (are_some (asks es) (holds_id l.id))
+
+-- several elements have the id and don't agree, or several tuples have the tuple id
+abbrev pub is_doubled : List Located → Link → Bool
+is_doubled es l = if is_tuple_ref l.attribute then are_many (asks es) (holds_tuple_id l.id) else are_doubled (asks es) l.id
 
 -- the links of some elements that are pending, and those that are doubled
 abbrev pub pending_links : List Located → List Link
-pending_links es = filter (λ l. is_pending (link_stands es l)) (links es)
+pending_links es = filter (is_pending es) (links es)
 
 abbrev pub doubled_links : List Located → List Link
-doubled_links es = filter (λ l. is_doubled (link_stands es l)) (links es)
+doubled_links es = filter (is_doubled es) (links es)
 
--- As elements come a pending link is resolved or doubled, and a resolved one doubled. None goes back.
+-- As elements come a pending link may come to stand in any way. A resolved one stays resolved, perhaps with another element that agrees
+-- and comes first, or is doubled. None goes back.
 abbrev pub GoesOn : Stands → Stands → Type 0
 GoesOn pending s = Unit {0}
-GoesOn (resolved e) s = (s ≡ resolved e) ⊎ (s ≡ doubled)
+GoesOn (resolved e) s = ((x : Located) × (s ≡ resolved x)) ⊎ (s ≡ doubled)
 GoesOn doubled s = s ≡ doubled
 
--- the one element that a link's id is that of, where exactly one has it
-abbrev pub holder : List Located → Link → Option Located
-holder es l = if is_tuple_ref l.attribute then one_tuple (asks es) l.id else one (asks es) l.id
+-- the one element that a link's id is that of, where there is one
+abbrev pub holder : (ℕ → List ℕ) → List Located → Link → Option Located
+holder names es l = if is_tuple_ref l.attribute then one_tuple (asks es) l.id else one names es l.id

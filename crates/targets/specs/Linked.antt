@@ -10,6 +10,7 @@ use Rattle.ix_base.specs.Membership.{owner}
 use Rattle.continuations.specs.Kept.{AreChainsOf}
 use Rattle.facts.specs.ItemValue.{IsItem}
 use Rattle.footnotes.specs.Kept.{AreRelationsOf}
+use Rattle.id_table.specs.Held.{AreChosen}
 use Rattle.tuples.specs.Kept.{AreMembersOf}
 use Rattle.targets.specs.Contents.{SaysItem}
 use Rattle.targets.specs.declared.links.Linked.{Linked}
@@ -29,7 +30,8 @@ AreApart es = (x y : Located) → Contains es x → Contains es y → same_place
 abbrev pub AreOwned : List Located → Type 0
 AreOwned es = (e o : Located) → Contains es e → owner (asks es) e ≡ Some o → Contains es o
 
--- the chains, the members and the relations are those of the elements, which are apart, and of pages that have bases
+-- the chains, the members and the relations are those of the elements, which are apart, and of pages that have bases, and what was chosen
+-- for ids is what the elements ask for
 pub record IsLinked (l : Linked) : Type 0 where
   pub chains : AreChainsOf l.chains (all_of l)
   pub members : AreMembersOf l.members (all_of l)
@@ -37,6 +39,7 @@ pub record IsLinked (l : Linked) : Type 0 where
   pub seen_roles : SeesAll (base_in (bases_of l)) (all_of l) l.seen_roles
   pub apart : AreApart (all_of l)
   pub owned : AreOwned (all_of l)
+  pub chosen : AreChosen l.index.now
   pub pages : All (λ e. e.page < length (bases_of l)) (all_of l)
 
 -- an item says this

@@ -1,43 +1,36 @@
 //! The contents of the targets of a set.
-ghost use Rattle.std.specs.Prelude.{◌≡◌, ◌<◌, ◌++◌, ◌∷◌, [], All, length, map, filter, not, is_some, option_map, IfOk, OnOk};
-ghost use Rattle.std.specs.List.{filter_map, flat_map};
+ghost use Rattle.std.specs.Prelude.{◌≡◌, ◌++◌, ◌∷◌, [], All, map, filter, not, is_some, IfOk, OnOk};
+ghost use Rattle.std.specs.List.{flat_map};
 ghost use Rattle.ix_base.specs.Asks.{asks};
-ghost use Rattle.ix_base.specs.Located as kinds;
 ghost use Rattle.ix_base.specs.Located.{base_in, located};
 ghost use Rattle.ix_base.specs.LinkRules as rules;
 ghost use Rattle.ix_base.specs.Facts.{facts_of};
 ghost use Rattle.ix_base.specs.Membership.{deepest, owner};
-ghost use Rattle.ix_base.specs.Once.{in_order};
-ghost use Rattle.ix_base.specs.Sorted.{text_cmp};
-ghost use Rattle.ix_base.specs.declared.kind.Kind.TheVariants as kind;
-ghost use Rattle.id_table.specs.Held.{asked};
 ghost use Rattle.id_table.specs.Tables.{all_located};
 ghost use Rattle.instance_out.specs.Writable.{IsWritable};
 ghost use Rattle.targets.specs.Contents as spec;
 ghost use Rattle.targets.specs.Contents.{IsContent, IsGathered, target_names};
-ghost use Rattle.targets.specs.Groups.{AreGroups, ref_by};
+ghost use Rattle.targets.specs.Groups.{AreGroups};
 ghost use Rattle.targets.specs.Linked.{IsLinked, IsShallow, IsValued, SaysIn, all_of, bases_of};
 ghost use Rattle.targets.specs.SetOutcomes.{AreTargets};
-ghost use Rattle.targets.specs.Seen.{AreOnPages, values_of};
+ghost use Rattle.targets.specs.Seen.{values_of};
 ghost use Rattle.targets.specs.TargetFacts.{AreFacts};
 
-use crate::addresses::{address_of, link_token};
 use crate::facts_in::facts_at;
 use crate::groups::{Group, at, grouped, is_fact};
 use crate::links::Linked;
 use crate::notes::{arcroles_for, notes_for, roles_for};
 use crate::outcome::Target;
-use crate::values::is_item;
+use crate::parts::{Ref, contexts_of, ids_named, units_of};
+use crate::references::{addresses_at, linkbases_at};
 use fact_view::target_of;
 use id_table::{Holders, Index};
 use instance_out::arrange;
 use ix_base::{
     Content, Context, Fact, Kind, Linkbase, List, NoMemory, Spot, Text, Unit, each_once, kind_of,
-    token_at,
 };
 use scopes::Bases;
 use std::alloc::Global;
-use xbrl_parts::{PartFault, context_of, unit_of};
 
 /// How deep tuples stand within tuples at most.
 const DEEPEST: u32 = 100;
@@ -48,13 +41,6 @@ struct Groups<'a> {
     facts: Holders<'a>,
     schemas: Holders<'a>,
     linkbases: Holders<'a>,
-}
-
-/// What an item names: a context or a unit.
-#[derive(Clone, Copy)]
-enum Ref {
-    Context,
-    Unit,
 }
 
 fn groups_of<'a>(alloc: Global, index: &Index<'a>) -> Result<Groups<'a>, NoMemory>
@@ -69,168 +55,6 @@ fn groups_of<'a>(alloc: Global, index: &Index<'a>) -> Result<Groups<'a>, NoMemor
         schemas,
         linkbases,
     })
-}
-
-/// The addresses of references.
-fn addresses_at(alloc: Global, bases: &Bases, spots: &[&Spot<'_>]) -> Result<List<Text>, NoMemory>
-    requires { AreOnPages bases.now.pages spots.now }
-    ensures { IfOk result (λ l. l ≡ map (rules.address_of (base_in bases.now.pages)) (all_located spots.now)) }
-{
-    let mut addresses = List::new(alloc);
-    for spot in spots {
-        addresses.push(address_of(alloc, bases, spot)?)?;
-    }
-    Ok(addresses)
-}
-
-/// A text that is owned, unless it is empty.
-fn own_unless_empty(alloc: Global, text: &str) -> Result<Option<Text>, NoMemory>
-    ensures { IfOk result (λ o. o ≡ spec.if_any text.now) }
-{
-    if text.is_empty() {
-        return Ok(None);
-    }
-    Ok(Some(Text::of(alloc, text)?))
-}
-
-/// What a linkbaseRef refers to.
-fn linkbase_of(alloc: Global, bases: &Bases, spot: &Spot<'_>) -> Result<Linkbase, NoMemory>
-    requires { (located spot.now).page < length bases.now.pages }
-    ensures { IfOk result (λ l. l ≡ spec.linkbase_at (base_in bases.now.pages) (located spot.now)) }
-{
-    Ok(Linkbase {
-        href: address_of(alloc, bases, spot)?,
-        role: own_unless_empty(alloc, link_token(spot.element, "role"))?,
-    })
-}
-
-/// What linkbaseRefs refer to.
-fn linkbases_at(
-    alloc: Global,
-    bases: &Bases,
-    spots: &[&Spot<'_>],
-) -> Result<List<Linkbase>, NoMemory>
-    requires { AreOnPages bases.now.pages spots.now }
-    ensures { IfOk result (λ l. l ≡ map (spec.linkbase_at (base_in bases.now.pages)) (all_located spots.now)) }
-{
-    let mut linkbases = List::new(alloc);
-    for spot in spots {
-        linkbases.push(linkbase_of(alloc, bases, spot)?)?;
-    }
-    Ok(linkbases)
-}
-
-/// The id of the context, or of the unit, that an item names.
-fn id_named<'a>(by: Ref, spot: &Spot<'a>) -> Option<&'a str>
-    ensures { option_map (λ s. s.now) result ≡ ref_by by (located spot.now) }
-{
-    match (by, kind_of(spot)) {
-        (Ref::Context, _) => token_at(spot.element, "contextRef"),
-        (Ref::Unit, Kind::NonFraction | Kind::Fraction) => token_at(spot.element, "unitRef"),
-        _ => None,
-    }
-}
-
-/// Adds the id that an element names, where it is an item.
-fn push_named<'a>(by: Ref, spot: &Spot<'a>, ids: &mut Vec<&'a str>) -> Result<(), NoMemory>
-    ensures { OnOk result (values_of ids.new.items
-        ≡ values_of ids.old.items ++ filter_map (ref_by by) (filter kinds.is_item (located spot.now ∷ []))) }
-{
-    if !is_item(spot) {
-        return Ok(());
-    }
-    if let Some(id) = id_named(by, spot) {
-        ids.push(id)?;
-    }
-    Ok(())
-}
-
-/// The ids that the items among these elements name, as often as they do.
-fn each_named<'a>(alloc: Global, by: Ref, spots: &[&'a Spot<'a>]) -> Result<Vec<&'a str>, NoMemory>
-    ensures { IfOk result (λ v. values_of v.items ≡ filter_map (ref_by by) (filter kinds.is_item (all_located spots.now))) }
-{
-    let mut ids = Vec::new(alloc);
-    for spot in spots {
-        push_named(by, spot, &mut ids)?;
-    }
-    Ok(ids)
-}
-
-/// The ids that the items among these elements name, in order, each once.
-fn ids_named<'a>(alloc: Global, by: Ref, spots: &[&'a Spot<'a>]) -> Result<Vec<&'a str>, NoMemory>
-    ensures { IfOk result (λ v. values_of v.items
-        ≡ in_order text_cmp (filter_map (ref_by by) (filter kinds.is_item (all_located spots.now)))) }
-{
-    let mut ids = each_named(alloc, by, spots)?;
-    each_once(&mut ids);
-    Ok(ids)
-}
-
-/// Adds the context of an id, where there is one.
-fn push_context(
-    alloc: Global,
-    index: &Index<'_>,
-    id: &str,
-    contexts: &mut List<Context>,
-) -> Result<(), NoMemory>
-    ensures { OnOk result (contexts.new
-        ≡ contexts.old ++ filter_map spec.context_at (spec.of_ids (asked index.now) kind.Context (id.now ∷ []))) }
-{
-    let Some(entry) = index.one(id) else {
-        return Ok(());
-    };
-    if entry.kind != Kind::Context {
-        return Ok(());
-    }
-    match context_of(alloc, entry.spot.element) {
-        Ok(context) => contexts.push(context),
-        Err(PartFault::Breach(_)) => Ok(()),
-        Err(PartFault::NoMemory) => Err(NoMemory),
-    }
-}
-
-/// The contexts of these ids.
-fn contexts_of(alloc: Global, index: &Index<'_>, ids: &[&str]) -> Result<List<Context>, NoMemory>
-    ensures { IfOk result (λ l. l ≡ filter_map spec.context_at (spec.of_ids (asked index.now) kind.Context (values_of ids.now))) }
-{
-    let mut contexts = List::new(alloc);
-    for id in ids {
-        push_context(alloc, index, *id, &mut contexts)?;
-    }
-    Ok(contexts)
-}
-
-/// Adds the unit of an id, where there is one.
-fn push_unit(
-    alloc: Global,
-    index: &Index<'_>,
-    id: &str,
-    units: &mut List<Unit>,
-) -> Result<(), NoMemory>
-    ensures { OnOk result (units.new ≡ units.old ++ filter_map spec.unit_at (spec.of_ids (asked index.now) kind.Unit (id.now ∷ []))) }
-{
-    let Some(entry) = index.one(id) else {
-        return Ok(());
-    };
-    if entry.kind != Kind::Unit {
-        return Ok(());
-    }
-    match unit_of(alloc, entry.spot.element) {
-        Ok(unit) => units.push(unit),
-        Err(PartFault::Breach(_)) => Ok(()),
-        Err(PartFault::NoMemory) => Err(NoMemory),
-    }
-}
-
-/// The units of these ids.
-fn units_of(alloc: Global, index: &Index<'_>, ids: &[&str]) -> Result<List<Unit>, NoMemory>
-    ensures { IfOk result (λ l. l ≡ filter_map spec.unit_at (spec.of_ids (asked index.now) kind.Unit (values_of ids.now))) }
-{
-    let mut units = List::new(alloc);
-    for id in ids {
-        push_unit(alloc, index, *id, &mut units)?;
-    }
-    Ok(units)
 }
 
 /// Adds an element that has no owner.

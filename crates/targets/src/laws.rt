@@ -1,17 +1,20 @@
 //! Laws of what pages come to.
-ghost use Rattle.std.specs.Prelude.{◌≡◌, ◌++◌, ℕ, false, All, List, Some, map};
+ghost use Rattle.std.specs.Prelude.{◌≡◌, ◌↔◌, ◌++◌, ℕ, true, false, All, List, Some, map, option_and_then};
 ghost use Rattle.std.specs.List.Sorted.{IsPermutation};
 ghost use Rattle.ix_base.specs.declared.content.Item.{Item};
+ghost use Rattle.ix_base.specs.declared.kind.Kind.TheVariants as kind;
+ghost use Rattle.ix_base.specs.Asks.{if_such};
 ghost use Rattle.ix_base.specs.Facts.{Facts, joined};
-ghost use Rattle.ix_base.specs.Located.{Located, Paged, is_tuple};
+ghost use Rattle.ix_base.specs.Ids.{context_for, one, unit_for};
+ghost use Rattle.ix_base.specs.Located.{Located, Paged, is_kind, is_tuple};
 ghost use Rattle.ix_base.specs.Membership.{deepest, fact};
 ghost use Rattle.ix_base.specs.Sound.{IsSoundTree};
 ghost use Rattle.targets.specs.Clean.{AreProper};
-ghost use Rattle.targets.specs.Contents.{SaysItem};
+ghost use Rattle.targets.specs.Contents.{SaysItem, context_at, unit_at};
 ghost use Rattle.targets.specs.SetOutcomes.{ComesTo, ComesToAlways};
 ghost use Rattle.targets.specs.PageSet.{PageSet};
 ghost use Rattle.targets.specs.TargetFacts.{AreFacts};
-ghost use Rattle.targets.specs.LinkStates.{GoesOn, Link, holder, link_stands, links, resolved};
+ghost use Rattle.targets.specs.LinkStates.{GoesOn, Link, doubled, holder, is_doubled, is_pending, link_stands, links, pending, resolved};
 ghost use Rattle.targets.specs.declared.outcome.Outcome.{Outcome};
 
 /// Sound pages come to the same in every order, and each content that they come to is proper.
@@ -20,16 +23,28 @@ pub fn sound_pages()
     ensures proper { (s : PageSet) → All (λ p. IsSoundTree p.tree 256) s.pages → (o : Outcome) → ComesTo s o → AreProper o }
 {}
 
-/// With more elements each link stays, and how it stands never goes back.
+/// With more elements each link stays, and how it stands never goes back. The pages have these names, those that are still to come
+/// too.
 pub fn links_go_on()
     ensures stay { (es more : List Located) → links (es ++ more) ≡ links es ++ links more }
-    ensures go_on { (es more : List Located) (l : Link) → GoesOn (link_stands es l) (link_stands (es ++ more) l) }
+    ensures go_on { (names : ℕ → List ℕ) (es more : List Located) (l : Link) → GoesOn (link_stands names es l) (link_stands names (es ++ more) l) }
 {}
 
-/// A link is resolved with the one element that has its id, and with no other.
-pub fn resolved_with_the_one()
-    ensures one { (es : List Located) (l : Link) (e : Located) → link_stands es l ≡ resolved e → holder es l ≡ Some e }
-    ensures stands { (es : List Located) (l : Link) (e : Located) → holder es l ≡ Some e → link_stands es l ≡ resolved e }
+/// A link is resolved with the one element that has its id, and with no other; it is pending where no element has the id, and doubled
+/// where several have it that don't agree.
+pub fn links_stand()
+    ensures resolved { (names : ℕ → List ℕ) (es : List Located) (l : Link) (e : Located) → link_stands names es l ≡ resolved e ↔ holder names es l ≡ Some e }
+    ensures pending { (names : ℕ → List ℕ) (es : List Located) (l : Link) → link_stands names es l ≡ pending ↔ is_pending es l ≡ true }
+    ensures doubled { (names : ℕ → List ℕ) (es : List Located) (l : Link) → link_stands names es l ≡ doubled ↔ is_doubled es l ≡ true }
+{}
+
+/// What contents have of an id is what the one element with it says: the first of those that agree by the names of their pages, whatever
+/// these are.
+pub fn contents_of_the_one()
+    ensures context { (names : ℕ → List ℕ) (es : List Located) (id : List ℕ)
+        → option_and_then context_at (if_such (is_kind kind.Context) (one names es id)) ≡ context_for es id }
+    ensures unit { (names : ℕ → List ℕ) (es : List Located) (id : List ℕ)
+        → option_and_then unit_at (if_such (is_kind kind.Unit) (one names es id)) ≡ unit_for es id }
 {}
 
 /// Where a function tells what items say, the facts of elements are those that it gives.

@@ -9,14 +9,19 @@
 #![tactic(auto)]
 
 mod addresses;
+mod agreeing;
+mod choosing;
 mod closing;
 mod contents;
 mod facts_in;
 mod groups;
 pub mod laws;
+mod link_ids;
 mod links;
 mod notes;
 mod outcome;
+mod parts;
+mod references;
 mod set;
 mod standing;
 mod values;

@@ -8,7 +8,7 @@ ghost use Rattle.ix_base.specs.LinkRules.{breaking, broken};
 ghost use Rattle.ix_base.specs.Once.{SameMembers};
 ghost use Rattle.continuations.specs.Kept.{AreChainsOf};
 ghost use Rattle.footnotes.specs.Kept.{AreRelationsOf};
-ghost use Rattle.id_table.specs.Held.{asked};
+ghost use Rattle.id_table.specs.Held.{AreChosen, asked};
 ghost use Rattle.id_table.specs.Tables.{all_located, spots_at};
 ghost use Rattle.tuples.specs.Fits.{fits};
 ghost use Rattle.tuples.specs.Kept.{AreMembersOf};
@@ -41,6 +41,7 @@ pub(crate) struct Linked<'s, 'a> {
 
 /// Adds the items whose context isn't there, and the numbers whose unit isn't there.
 fn add_refs(index: &Index<'_>, found: &mut Breaches) -> Result<(), NoMemory>
+    requires { AreChosen index.now }
     ensures { OnOk result (found.new ≡ found.old ++ flat_map (refs_at (asked index.now)) index.now.spots) }
 {
     for spot in index.spots() {
@@ -92,6 +93,7 @@ pub(crate) fn link_all<'s, 'a>(
     found: &mut Breaches,
 ) -> Result<Linked<'s, 'a>, NoMemory>
     requires none { found.old ≡ [] }
+    requires chosen { AreChosen index.now }
     requires fits { All (λ e. fits e ≡ true) index.now.spots }
     requires pages { All (λ e. e.page < length bases.now.pages) index.now.spots }
     ensures faults { OnOk result (SameMembers found.new (broken (base_in bases.now.pages) index.now.spots)) }

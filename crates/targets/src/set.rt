@@ -7,6 +7,8 @@ ghost use Rattle.targets.specs.SetOutcomes.{CanBeWritten, ComesTo, ComesToAlways
 ghost use Rattle.targets.specs.PageSet.{elements};
 ghost use Rattle.targets.specs.LinkStates.{doubled_links, pending_links};
 
+use crate::agreeing::PageNames;
+use crate::choosing::choose_from;
 use crate::closing::{Page, Pages, closed};
 use crate::outcome::Outcome;
 use crate::standing::Links;
@@ -34,9 +36,10 @@ pub struct Set<'a> {
 }
 
 impl<'a> Model for Set<'a> {
-    ghost use Rattle.std.specs.Prelude.{◌≡◌, false, map};
+    ghost use Rattle.std.specs.Prelude.{◌≡◌, [], false, map};
     ghost use Rattle.ix_base.specs.Located.{marked};
-    ghost use Rattle.targets.specs.Holding.{HeldSet, Keeps, held_code, as_paged};
+    ghost use Rattle.targets.specs.Choices.{HasChoices};
+    ghost use Rattle.targets.specs.Holding.{HeldSet, Keeps, held_code, as_paged, names_with};
     ghost use Rattle.targets.specs.LinkTables.{AreLinks};
 
     ghost Value = { HeldSet };
@@ -46,7 +49,8 @@ impl<'a> Model for Set<'a> {
     ghost view = { λ s. record { held = record { base = s.base; pages = map as_paged s.pages.items }; is_spent = s.is_spent } };
 
     ghost invariant = { λ s. s.is_spent ≡ false
-        → Keeps s.base s.pages.items s.index s.bases × AreLinks (marked (map as_paged s.pages.items)) s.links };
+        → Keeps s.base s.pages.items s.index s.bases × AreLinks (names_with s.pages.items []) (marked (map as_paged s.pages.items)) s.links
+        × HasChoices (names_with s.pages.items []) (marked (map as_paged s.pages.items)) s.index };
 }
 
 impl<'a> Set<'a> {
@@ -68,6 +72,7 @@ impl<'a> Set<'a> {
 
     /// Adds a page, whose number is the number of pages before it. Where memory is wanting, the set is spent: each call
     /// answers so from then on.
+    #[tactic(auto, using(crate::proofs::SetLaws::spots_less))]
     pub fn add_page(&mut self, name: &str, root: &'a Element<'a>) -> Result<(), NoMemory>
         requires { IsSoundRoot root.now (length self.old.held.pages) 256 }
         ensures ok { OnOk result (self.new ≡ record {
@@ -84,8 +89,13 @@ impl<'a> Set<'a> {
         let own = Text::of(self.alloc, name)?;
         let before = self.index.spots().len();
         self.index.add_page(self.arena, root)?;
-        self.links
-            .add_all(self.alloc, &self.index.spots()[before..])?;
+        let names = PageNames {
+            pages: self.pages.as_slice(),
+            next: name,
+        };
+        let came = &self.index.spots()[before..];
+        self.links.add_all(self.alloc, &names, came)?;
+        choose_from(&mut self.index, &self.links, before)?;
         self.bases.add_page(self.base.as_str(), name, root)?;
         self.pages.push(Page { name: own, root })?;
         self.is_spent = false;
@@ -100,8 +110,8 @@ impl<'a> Set<'a> {
         self.links.pending()
     }
 
-    /// How many links between the elements so far are doubled: the id that they name is that of more than one element. It takes
-    /// no memory.
+    /// How many links between the elements so far are doubled: more than one element has the id that they name, and they don't
+    /// agree, or more than one tuple the tuple id. It takes no memory.
     pub fn doubled(&self) -> u64
         ensures { self.now.is_spent ≡ false → result ≡ length (doubled_links (elements self.now.held)) }
     {

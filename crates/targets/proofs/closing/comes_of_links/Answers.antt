@@ -1,9 +1,9 @@
-use Rattle.std.proofs.Common.{◌≡◌, ◌<◌, All, [], ap, inl, inr, length, map, subst, sym, true}
+use Rattle.std.proofs.Common.{◌≡◌, ◌<◌, All, List, [], ap, inl, inr, length, map, subst, sym, true}
 use Rattle.std.specs.Borrow.{Bor}
 use Rattle.std.proofs.lemmas.Result.{IfOk-weaker}
 use Rattle.ix_base.specs.declared.rule.Rule.TheVariants as rule
 use Rattle.ix_base.specs.LinkRules.{breaking}
-use Rattle.ix_base.specs.Located.{base_in}
+use Rattle.ix_base.specs.Located.{Located, base_in}
 use Rattle.id_table.specs.Held.{Held}
 use Rattle.scopes.specs.Kept.{Kept}
 use Rattle.tuples.specs.Fits.{fits}
@@ -17,7 +17,10 @@ use Rattle.targets.proofs.closing.comes_of_links.Goals as goal
 
 pub link_all-requires-clause-fits : goal.link_all-requires-clause-fits
 link_all-requires-clause-fits c =
-    subst (λ (h : Held). All (λ e. fits e ≡ true) h.spots) (sym c.requires.keeps.index) (all-fit (map as_paged c.args.pages.now.pages.now) c.requires.sound)
+    subst (λ (es : List Located). All (λ e. fits e ≡ true) es) (sym c.requires.keeps.spots) (all-fit (map as_paged c.args.pages.now.pages.now) c.requires.sound)
+
+pub link_all-requires-clause-chosen : goal.link_all-requires-clause-chosen
+link_all-requires-clause-chosen c = c.requires.keeps.chosen
 
 pub link_all-requires-clause-pages : goal.link_all-requires-clause-pages
 link_all-requires-clause-pages c = keeps-on _ _ _ _ c.requires.keeps
@@ -48,7 +51,7 @@ reported-requires c =
     let m = length c.args.names.now in
     same-below m c.link_all.new.found (link_faults s) (faults-are _ _ _ _ c.link_all.new.found c.requires.keeps c.in_ok-linked.ensures.faults)
     (broken-below m (base_at s) (elements s)
-    (subst (λ (h : Held). All (λ e. e.page < m) h.spots) c.requires.keeps.index
+    (subst (λ (es : List Located). All (λ e. e.page < m) es) c.requires.keeps.spots
     (on-names s c.args.pages.now.index.now.spots c.args.names.now c.args.pages.now.bases.now.pages c.requires.names
     (ap (λ (k : Kept). k.pages) c.requires.keeps.bases) (keeps-on _ _ _ _ c.requires.keeps))))
 

@@ -1,13 +1,12 @@
 use Rattle.std.proofs.Common.{◌∙◌, List, ap}
 use Rattle.std.specs.List.{filter, filter_map}
 use Rattle.std.proofs.lemmas.Result.{IfOk-weaker}
-use Rattle.ix_base.specs.declared.kind.Kind.TheVariants as kind
-use Rattle.ix_base.specs.Asks.{asks}
+use Rattle.ix_base.specs.Ids.{context_for}
 use Rattle.ix_base.specs.Located.{Located, is_item}
 use Rattle.ix_base.specs.Once.{in_order}
 use Rattle.ix_base.specs.Sorted.{text_cmp}
 use Rattle.id_table.specs.Tables.{all_located}
-use Rattle.targets.specs.Contents.{context_at, context_named, of_ids}
+use Rattle.targets.specs.Contents.{context_named}
 use Rattle.targets.specs.Linked.{all_of}
 use Rattle.targets.specs.Seen.{values_of}
 use Rattle.targets.proofs.ContentLaws.{items-are}
@@ -20,4 +19,4 @@ returns c =
     let ids = ap values_of c.as_slice-2.ensures.value ∙ c.in_ok-ids.ensures
     ∙ ap (λ (xs : List Located). in_order text_cmp (filter_map context_named (filter is_item xs))) facts
     ∙ ap (λ (xs : List Located). in_order text_cmp (filter_map context_named xs)) (items-are es c.args.target.now) in
-    IfOk-weaker c.contexts_of.result _ _ (λ l h. h ∙ ap (λ xs. filter_map context_at (of_ids (asks es) kind.Context xs)) ids) c.contexts_of.ensures
+    IfOk-weaker c.contexts_of.result _ _ (λ l h. h ∙ ap (λ xs. filter_map (context_for es) xs) ids) c.contexts_of.ensures

@@ -17,7 +17,8 @@ returns-clause-faults c =
     let es = c.args.index.now.spots in
     let bases = base_in c.args.bases.now.pages in
     let on : Rule → List Found = λ r. breaking r es in
-    let ids = c.in_ok-doubled.ensures.ok ∙ ap (λ (x : List Found). x ++ on rule.L1) c.requires.none in
+    let ids = c.in_ok-doubled.ensures.ok ∙ ap (λ (x : List Found). c.args.found.now ++ x) (c.in_ok-doubled.ensures.chosen c.requires.chosen)
+    ∙ ap (λ (x : List Found). x ++ on rule.L1) c.requires.none in
     let refs = c.in_ok-add_refs.ensures ∙ ap (λ (x : List Found). x ++ flat_map (refs_at (asks es)) es) ids in
     let chains = c.in_ok-chains.ensures.breaches ∙ ap (λ (x : List Found). x ++ on rule.L4 ++ on rule.L5 ++ on rule.L6 ++ on rule.L7) refs in
     let tuples = c.in_ok-members.ensures.breaches ∙ ap (λ (x : List Found). x ++ on rule.L8 ++ on rule.L9 ++ on rule.L10 ++ on rule.L12 ++ on rule.L13) chains in

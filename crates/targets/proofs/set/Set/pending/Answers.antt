@@ -1,10 +1,13 @@
-use Rattle.std.proofs.Common.{◌∙◌, ap, length}
-use Rattle.targets.specs.Holding.{HeldSet}
+use Rattle.std.proofs.Common.{◌∙◌, [], ap, length, map}
+use Rattle.ix_base.specs.Located.{marked}
+use Rattle.targets.specs.Holding.{HeldSet, as_paged, names_with}
 use Rattle.targets.specs.PageSet.{elements}
 use Rattle.targets.specs.LinkStates.{pending_links}
+use Rattle.targets.proofs.LinkStandLaws.{pending-count}
 use Rattle.targets.proofs.set.Set.pending.Goals as goal
 
 pub returns : goal.returns
 returns c unspent =
     c.pending.ensures ∙ (c.self.invariant (ap (λ (h : HeldSet). h.is_spent) c.self.view_is ∙ unspent)).1.pending
+    ∙ pending-count (names_with c.self.inside.pages.items []) (marked (map as_paged c.self.inside.pages.items))
     ∙ ap (λ (h : HeldSet). length (pending_links (elements h.held))) c.self.view_is

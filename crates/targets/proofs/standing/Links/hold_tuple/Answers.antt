@@ -5,39 +5,40 @@ use Rattle.ix_base.specs.Ids.{tuple_id_of}
 use Rattle.ix_base.specs.Located.{Located, located}
 use Rattle.targets.specs.declared.standing.Links.{Links}
 use Rattle.targets.specs.declared.standing.Named.{Named}
-use Rattle.targets.specs.LinkTables.{Known, found_in, named_in, named_of, stands_with, with_holder, counts_of}
-use Rattle.targets.specs.LinkStates.{is_pending}
+use Rattle.targets.specs.LinkTables.{Known, found_in, is_none, kept_in, kept_with, named_in, named_of, never, with_holder, counts_of}
 use Rattle.targets.proofs.StandingLaws.{tuple-none, tuple-waits, tuple-kept}
 use Rattle.targets.proofs.standing.Links.hold_tuple.Goals as goal
 
 pub returns-in_default : goal.returns-in_default
-returns-in_default c es ts ls are =
-    tuple-none es ts ls c.args.self.now are (located c.args.spot.now) (sym c.tuple_id_at.ensures ∙ ap (option_map (λ s. s.now)) c.in_default.is)
+returns-in_default c names es ts ls are =
+    tuple-none names es ts ls c.args.self.now are (located c.args.spot.now) (sym c.tuple_id_at.ensures ∙ ap (option_map (λ s. s.now)) c.in_default.is)
 
 pub count_holder-requires : goal.count_holder-requires
 count_holder-requires c p =
     let r = c.requires in
-    let same : named_of c.known-named.result ≡ named_in c.args.self.now.tuple_ids c.in-Some.id.now = c.known-named.ensures in
+    let same : named_of c.known-named.result ≡ named_in c.args.self.now.tuple_ids c.in-Some.id.now = c.known-named.ensures.named in
     let own : tuple_id_of (located c.args.spot.now) ≡ Some c.in-Some.id.now = sym c.tuple_id_at.ensures ∙ ap (option_map (λ s. s.now)) c.in-Some.is in
     subst (λ (k : Known). k.links ≤ c.args.self.now.pending) (sym same)
-    (tuple-waits r.0 r.1 r.2 c.args.self.now r.3 (located c.args.spot.now) c.in-Some.id.now own (subst (λ (k : Known). is_pending k.stands ≡ true) same p))
+    (tuple-waits r.0 r.1 r.2 r.3 c.args.self.now r.4 (located c.args.spot.now) c.in-Some.id.now own (subst (λ (k : Known). is_none k.kept ≡ true) same p))
 
 pub returns : goal.returns
-returns c es ts ls are =
+returns c names es ts ls are =
     let kept = c.args.self.now in
     let e : Located = located c.args.spot.now in
     let id = c.in-Some.id.now in
     let named = c.known-named.result in
     let counted = c.count_holder.new.self in
     let new : Links = record { ids = counted.ids; tuple_ids = c.keep.new.names; pending = counted.pending; doubled = counted.doubled } in
-    let now : Named = record { standing = c.with_holder-standing.result; links = named.links } in
-    let same : named_of named ≡ named_in kept.tuple_ids id = c.known-named.ensures in
+    let now : Named = record { standing = c.with_tuple-standing.result; links = named.links } in
+    let same : named_of named ≡ named_in kept.tuple_ids id = c.known-named.ensures.named in
     let own : tuple_id_of e ≡ Some id = sym c.tuple_id_at.ensures ∙ ap (option_map (λ s. s.now)) c.in-Some.is in
-    let known : named_of now ≡ record { stands = stands_with (named_in kept.tuple_ids id).stands e; links = (named_in kept.tuple_ids id).links } =
-    (λ i. record { stands = c.with_holder-standing.ensures i; links = named.links }) ∙ (λ i. record { stands = stands_with (same i).stands e; links = (same i).links }) in
-    let counts : counts_of new ≡ with_holder (named_in kept.tuple_ids id) (counts_of kept) =
-    c.in_ok-count_holder.ensures.counts ∙ ap (λ n. with_holder n (counts_of kept)) same in
+    let after : kept_in now.standing ≡ kept_with never names (named_in kept.tuple_ids id).kept e =
+    c.with_tuple-standing.ensures names ∙ ap (λ (k : Known). kept_with never names k.kept e) same in
+    let known : named_of now ≡ record { kept = kept_with never names (named_in kept.tuple_ids id).kept e; links = (named_in kept.tuple_ids id).links } =
+    (λ i. record { kept = after i; links = (same i).links }) in
+    let counts : counts_of new ≡ with_holder (named_in kept.tuple_ids id) (kept_with never names (named_in kept.tuple_ids id).kept e) (counts_of kept) =
+    c.in_ok-count_holder.ensures.counts ∙ (λ i. with_holder (same i) (after i) (counts_of kept)) in
     on_ok_weaker c.keep.result
-    (λ h. tuple-kept es ts ls kept are e id new now own c.in_ok-count_holder.ensures.same.0
+    (λ h. tuple-kept names es ts ls kept are e id new now own c.in_ok-count_holder.ensures.same.0
     (λ q. h q ∙ ap (λ m. if bytes_eq q id then Some now else found_in m q) c.in_ok-count_holder.ensures.same.1) known counts)
     c.keep.ensures

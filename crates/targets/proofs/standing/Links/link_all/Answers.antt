@@ -8,22 +8,22 @@ use Rattle.targets.specs.LinkStates.{Link, ids_at, links_from}
 use Rattle.targets.proofs.standing.Links.link_all.Goals as goal
 
 pub loop-id-init : goal.loop-id-init
-loop-id-init c es ts ls are = subst (λ (l : List Link). AreLinked es ts l c.args.self.now) (sym (append-nil ls)) are
+loop-id-init c names es ts ls are = subst (λ (l : List Link). AreLinked names es ts l c.args.self.now) (sym (append-nil ls)) are
 
 pub loop-id-preserved : goal.loop-id-preserved
-loop-id-preserved c es ts ls are =
+loop-id-preserved c names es ts ls are =
     let e : Located = located c.args.spot.now in
     let ids = c.as_slice-id-items.result.now in
     let i = c.loop-id.id-index in
     let to : Bor (List ℕ) → Link = λ s. record { attribute = c.args.attribute; id = s.now; element = e } in
     let below : i < length ids = omega arith in
     let d : Bor (List ℕ) = record { ref_ptr = (0, 0); now = [] } in
-    let next = c.in_ok-link.ensures es ts (ls ++ map to (take i ids)) e (c.loop-id.invariant es ts ls are) in
-    subst (λ (l : List Link). AreLinked es ts l c.link.new.self)
+    let next = c.in_ok-link.ensures names es ts (ls ++ map to (take i ids)) e (c.loop-id.invariant names es ts ls are) in
+    subst (λ (l : List Link). AreLinked names es ts l c.link.new.self)
     (append_assoc ls (map to (take i ids)) (to (get_or ids i d) ∷ []) ∙ ap (λ l. ls ++ l) (sym (map_more to ids i d below))) next
 
 pub returns : goal.returns
-returns c es ts ls are =
+returns c names es ts ls are =
     let e : Located = located c.args.spot.now in
     let ids = c.as_slice-id-items.result.now in
     let to : Bor (List ℕ) → Link = λ s. record { attribute = c.args.attribute; id = s.now; element = e } in
@@ -31,4 +31,4 @@ returns c es ts ls are =
     let one : map (λ s. s.now) ids ≡ ids_at c.args.attribute e = ap (map (λ s. s.now)) c.as_slice-id-items.ensures.value ∙ c.in_ok-ids.ensures in
     let is : map to (take c.loop-id.id-index ids) ≡ links_from c.args.attribute e =
     ap (map to) whole ∙ sym (map-twice (λ id. record { attribute = c.args.attribute; id = id; element = e }) (λ s. s.now) ids) ∙ ap (map (λ id. record { attribute = c.args.attribute; id = id; element = e })) one in
-    subst (λ (l : List Link). AreLinked es ts (ls ++ l) c.loop-id.self) is (c.loop-id.invariant es ts ls are)
+    subst (λ (l : List Link). AreLinked names es ts (ls ++ l) c.loop-id.self) is (c.loop-id.invariant names es ts ls are)

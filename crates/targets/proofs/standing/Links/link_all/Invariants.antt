@@ -1,4 +1,4 @@
-use Rattle.std.proofs.Common.{◌++◌, List, map, take}
+use Rattle.std.proofs.Common.{◌++◌, ℕ, List, map, take}
 use Rattle.ix_base.specs.Located.{Located, located}
 use Rattle.targets.specs.LinkTables.{AreLinked}
 use Rattle.targets.specs.LinkStates.{Link}
@@ -6,5 +6,5 @@ use Rattle.targets.proofs.standing.Links.link_all.Given as goal
 
 -- the links of the ids so far have come
 abbrev pub invariant-loop-id : goal.invariant-loop-id
-invariant-loop-id l = (es ts : List Located) (ls : List Link) → AreLinked es ts ls l.initial.self
-    → AreLinked es ts (ls ++ map (λ s. record { attribute = l.attribute; id = s.now; element = located l.spot }) (take l.id-index l.id-items)) l.self
+invariant-loop-id l = (names : ℕ → List ℕ) (es ts : List Located) (ls : List Link) → AreLinked names es ts ls l.initial.self
+    → AreLinked names es ts (ls ++ map (λ s. record { attribute = l.attribute; id = s.now; element = located l.spot }) (take l.id-index l.id-items)) l.self

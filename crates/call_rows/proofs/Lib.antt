@@ -1,2 +1,0 @@
-pub mod FoundRows
-pub mod PageRows

@@ -1,0 +1,86 @@
+//! What nodes hold.
+use crate::pages::{PAGE, root_of};
+use anyhow::{Result, bail};
+use bumpalo::Bump;
+use holding::{
+    are_blank, element_alone, first_element, first_named, has_no_elements, holds_only, is_blank,
+    is_blank_beside, is_of, sole_named, text_alone,
+};
+use ix_base::{Element, Node};
+use row_tables::{Cell, owned, quoted, words_of, yes_or_no};
+use std::alloc::Global;
+
+/// The local name of an element, where there is one.
+fn local_of<'a>(element: Option<&'a Element<'a>>) -> &'a str {
+    match element {
+        Some(element) => element.name.local,
+        None => "none",
+    }
+}
+
+/// What a call tells that finds an element by its name.
+fn named<'a>(call: &str, nodes: &'a [Node<'a>], ns: &str, local: &str) -> Result<&'a str> {
+    match call {
+        "first_named" => match first_named(nodes, ns, local) {
+            Some((element, _)) => Ok(element.name.local),
+            None => Ok("none"),
+        },
+        "sole_named" => Ok(local_of(sole_named(nodes, ns, local))),
+        _ => bail!("no such call"),
+    }
+}
+
+/// What a call tells that is given nodes and no name.
+fn unnamed<'a>(call: &str, nodes: &'a [Node<'a>]) -> Result<&'a str> {
+    match call {
+        "are_blank" => Ok(yes_or_no(are_blank(nodes))),
+        "is_blank_beside" => Ok(yes_or_no(is_blank_beside(nodes))),
+        "has_no_elements" => Ok(yes_or_no(has_no_elements(nodes))),
+        "element_alone" => Ok(local_of(element_alone(nodes))),
+        "first_element" => match first_element(nodes) {
+            Some((element, _)) => Ok(element.name.local),
+            None => Ok("none"),
+        },
+        _ => bail!("no such call"),
+    }
+}
+
+/// What a call tells of the nodes of a page's root, by a namespace and a local name, or several.
+pub(crate) fn by_name(alloc: Global, cells: &[Cell]) -> Result<String> {
+    let [call, page, ns, local] = cells else {
+        bail!("a call, a page, a namespace and a local name are wanted");
+    };
+    let (call, ns, local) = (call.text()?, ns.text()?, local.text()?);
+    let arena = Bump::new(alloc);
+    let root = root_of(alloc, &arena, page.bytes(), PAGE)?;
+    if call == "is_of" {
+        return owned(alloc, yes_or_no(is_of(&root.name, ns, local)));
+    }
+    if call == "holds_only" {
+        let locals = words_of(alloc, local)?;
+        return owned(alloc, yes_or_no(holds_only(root.children, ns, &locals)));
+    }
+    owned(alloc, named(call, root.children, ns, local)?)
+}
+
+/// What a call tells of the nodes of a page's root.
+pub(crate) fn told(alloc: Global, cells: &[Cell]) -> Result<String> {
+    let [call, page] = cells else {
+        bail!("a call and a page are wanted");
+    };
+    let call = call.text()?;
+    let arena = Bump::new(alloc);
+    let root = root_of(alloc, &arena, page.bytes(), PAGE)?;
+    if call == "text_alone" {
+        return quoted(alloc, text_alone(root.children));
+    }
+    owned(alloc, unnamed(call, root.children)?)
+}
+
+/// Whether a text is blank.
+pub(crate) fn blank(alloc: Global, cells: &[Cell]) -> Result<String> {
+    let [text] = cells else {
+        bail!("a text is wanted");
+    };
+    owned(alloc, yes_or_no(is_blank(text.text()?)))
+}

@@ -1,0 +1,117 @@
+//! Pages, their trees, and what they break.
+ghost use Rattle.std.specs.Prelude.{◌≡◌, ◌≤◌, ◌<◌, length};
+ghost use Rattle.page_tree.specs.Standing.{fed_bytes};
+
+use anyhow::{Context, Result, bail};
+use bumpalo::Bump;
+use ix_base::{Element, NoMemory};
+use page_tree::{PageFault, TreeBuilder};
+use row_tables::{Cell, owned};
+use std::alloc::Global;
+
+/// How deep an element may be where a row doesn't say it.
+const DEPTH: u32 = 256;
+
+/// The number of the page of a row.
+pub(crate) const PAGE: u32 = 7;
+
+/// Where the piece ends that begins at a place.
+fn piece_end(len: usize, at: usize, step: usize) -> usize
+    requires { at ≤ len }
+    ensures from { at ≤ result }
+    ensures to { result ≤ len }
+{
+    if len - at < step { len } else { at + step }
+}
+
+/// Hands a page over in pieces of so many bytes.
+fn feed_all(builder: &mut TreeBuilder<'_>, page: &[u8], step: usize) -> Result<(), NoMemory>
+    requires { fed_bytes builder.old ≡ 0 }
+{
+    let mut at = 0;
+    'pieces: while at < page.len() {
+        let end = piece_end(page.len(), at, step);
+        builder.feed(&page[at..end])?;
+        if end <= at {
+            return Ok(());
+        }
+        at = end;
+    }
+    Ok(())
+}
+
+/// The root of a page of this number that comes in pieces of so many bytes, or why it has none.
+pub(crate) fn root_in_pieces<'a>(
+    alloc: Global,
+    arena: &'a Bump,
+    page: &[u8],
+    number: u32,
+    depth: u32,
+    step: usize,
+) -> Result<Result<&'a Element<'a>, PageFault>, NoMemory> {
+    let mut builder = TreeBuilder::new(alloc, arena, number, depth);
+    feed_all(&mut builder, page, step)?;
+    Ok(builder.finish())
+}
+
+/// The root of a page that has one.
+pub(crate) fn root_of<'a>(
+    alloc: Global,
+    arena: &'a Bump,
+    page: &[u8],
+    number: u32,
+) -> Result<&'a Element<'a>> {
+    match root_in_pieces(alloc, arena, page, number, DEPTH, page.len())? {
+        Ok(root) => Ok(root),
+        Err(_) => bail!("the page has no tree"),
+    }
+}
+
+/// What is told of a page that has no tree.
+pub(crate) fn told_fault(alloc: Global, fault: PageFault) -> Result<String> {
+    match fault {
+        PageFault::Broken { offset, rule } => {
+            Ok(format!(in alloc; "{} at {offset}", rule.code())?)
+        }
+        PageFault::NoMemory => bail!("no memory"),
+    }
+}
+
+/// What a page breaks that comes in pieces of so many bytes.
+fn fault_in_pieces(alloc: Global, page: &[u8], step: usize) -> Result<String> {
+    let arena = Bump::new(alloc);
+    match root_in_pieces(alloc, &arena, page, PAGE, DEPTH, step)? {
+        Ok(_) => owned(alloc, "none"),
+        Err(fault) => told_fault(alloc, fault),
+    }
+}
+
+/// What a page breaks, which is the same in pieces of 1, of 3 and of 65,536 bytes.
+pub(crate) fn fault(alloc: Global, cells: &[Cell]) -> Result<String> {
+    let [page] = cells else {
+        bail!("a page is wanted");
+    };
+    let whole = fault_in_pieces(alloc, page.bytes(), 65_536)?;
+    for step in [1, 3] {
+        let fault = fault_in_pieces(alloc, page.bytes(), step)?;
+        if fault.as_str() != whole.as_str() {
+            return Ok(format!(in alloc; "{fault} in pieces of {step}, else {whole}")?);
+        }
+    }
+    Ok(whole)
+}
+
+/// How many characters wait behind each of the pieces of a page.
+pub(crate) fn waiting(alloc: Global, cells: &[Cell]) -> Result<String> {
+    let arena = Bump::new(alloc);
+    let mut builder = TreeBuilder::new(alloc, &arena, PAGE, DEPTH);
+    let mut counts = String::new(alloc);
+    let mut fed = 0u64;
+    for cell in cells {
+        let piece = cell.bytes();
+        fed = fed.checked_add(piece.len() as u64).context("too long")?;
+        builder.feed(piece)?;
+        write!(counts, " {}", builder.pending())?;
+    }
+    Ok(counts)
+}

@@ -1,0 +1,74 @@
+//! What was chosen for ids that several elements have.
+ghost use Rattle.std.specs.Prelude.{◌≡◌, ℕ, List, OnOk, IfSome, Some, None, true, if◌then◌else◌, bytes_eq};
+ghost use Rattle.ix_base.specs.Asks.{only};
+ghost use Rattle.ix_base.specs.Ids as ids;
+ghost use Rattle.ix_base.specs.Located.{located};
+ghost use Rattle.id_table.specs.Tables.{choice_at, entry_for};
+
+use crate::entries::{Entry, entry_of, only_in};
+use crate::holders::id_at;
+use indexmap::IndexMap;
+use ix_base::{NoMemory, Spot};
+
+/// What was chosen for ids.
+pub type Choices<'a> = IndexMap<&'a str, &'a Spot<'a>>;
+
+/// What was chosen for an id.
+pub fn choice_in<'a>(choices: &Choices<'a>, id: &str) -> Option<&'a Spot<'a>>
+    ensures { result ≡ choice_at choices.now id.now }
+{
+    match choices.get(id) {
+        Some(spot) => Some(*spot),
+        None => None,
+    }
+}
+
+/// Keeps a choice for an id.
+pub fn keep_choice<'a>(
+    choices: &mut Choices<'a>,
+    id: &'a str,
+    spot: &'a Spot<'a>,
+) -> Result<(), NoMemory>
+    ensures { OnOk result ((q : List ℕ) → choice_at choices.new q
+        ≡ (if bytes_eq q id.entry.now then Some spot.entry else choice_at choices.old q)) }
+{
+    choices.insert(id, spot)?;
+    Ok(())
+}
+
+/// Takes the choice for an id away.
+pub fn drop_choice(choices: &mut Choices<'_>, id: &str)
+    ensures { (q : List ℕ) → choice_at choices.new q ≡ (if bytes_eq q id.now then None else choice_at choices.old q) }
+{
+    choices.swap_remove(id);
+}
+
+/// Lets a choice stand for an id that it has, or takes it away.
+pub fn set_choice<'a>(
+    choices: &mut Choices<'a>,
+    id: &str,
+    choice: Option<&'a Spot<'a>>,
+) -> Result<(), NoMemory>
+    requires { IfSome choice (λ s. ids.holds_id id.now (located s.now) ≡ true) }
+    ensures { OnOk result ((q : List ℕ) → choice_at choices.new q ≡ (if bytes_eq q id.now then choice.entry else choice_at choices.old q)) }
+{
+    let Some(spot) = choice else {
+        drop_choice(choices, id);
+        return Ok(());
+    };
+    match id_at(spot) {
+        Some(own) => keep_choice(choices, own, spot),
+        None => unreachable!(),
+    }
+}
+
+/// What was chosen, or else the only one.
+pub fn chosen_or_only<'a>(choice: Option<&'a Spot<'a>>, held: &[Entry<'a>]) -> Option<Entry<'a>>
+    ensures chosen { IfSome choice.entry (λ s. result ≡ Some (entry_for s)) }
+    ensures only { choice.entry ≡ None → result ≡ only held.now }
+{
+    match choice {
+        Some(spot) => Some(entry_of(spot)),
+        None => only_in(held),
+    }
+}

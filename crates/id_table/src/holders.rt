@@ -1,0 +1,81 @@
+//! Tables from an id to the elements that have it.
+ghost use Rattle.std.specs.Prelude.{◌≡◌, ◌++◌, ◌∷◌, [], ℕ, List, OnOk, OnErr, if◌then◌else◌, bytes_eq, option_map, length};
+ghost use Rattle.ix_base.specs.Asks.{only};
+ghost use Rattle.ix_base.specs.Ids as ids;
+ghost use Rattle.ix_base.specs.Located.{located};
+ghost use Rattle.id_table.specs.Tables.{Entered, SameSpots, spots_at};
+
+use indexmap::IndexMap;
+use ix_base::{Kind, NoMemory, Spot, kind_of, token_at};
+use std::alloc::Global;
+
+/// The elements with each id, in the order in which they were met.
+pub type Holders<'a> = IndexMap<&'a str, Vec<&'a Spot<'a>>>;
+
+/// The id of an element.
+pub fn id_at<'a>(spot: &Spot<'a>) -> Option<&'a str>
+    ensures { option_map (λ s. s.now) result ≡ ids.id_of (located spot.now) }
+{
+    token_at(spot.element, "id")
+}
+
+/// The tuple id of a tuple.
+pub fn tuple_id_at<'a>(spot: &Spot<'a>) -> Option<&'a str>
+    ensures { option_map (λ s. s.now) result ≡ ids.tuple_id_of (located spot.now) }
+{
+    if kind_of(spot) != Kind::Tuple {
+        return None;
+    }
+    token_at(spot.element, "tupleID")
+}
+
+/// Enters an element at an id, where it has one. A refusal leaves the elements at each id as they were.
+pub fn enter<'a>(
+    alloc: Global,
+    holders: &mut Holders<'a>,
+    id: Option<&'a str>,
+    spot: &'a Spot<'a>,
+) -> Result<(), NoMemory>
+    ensures ok { OnOk result (Entered holders.old holders.new (option_map (λ s. s.now) id.entry) spot.entry) }
+    ensures err { OnErr result (SameSpots holders.old holders.new) }
+{
+    if let Some(id) = id {
+        enter_at(alloc, holders, id, spot)?;
+    }
+    Ok(())
+}
+
+/// Enters an element at an id.
+fn enter_at<'a>(
+    alloc: Global,
+    holders: &mut Holders<'a>,
+    id: &'a str,
+    spot: &'a Spot<'a>,
+) -> Result<(), NoMemory>
+    ensures ok { OnOk result ((q : List ℕ) → spots_at holders.new q
+        ≡ (if bytes_eq q id.entry.now then spots_at holders.old q ++ spot.entry ∷ [] else spots_at holders.old q)) }
+    ensures err { OnErr result (SameSpots holders.old holders.new) }
+{
+    holders.entry(id)?.or_insert(Vec::new(alloc)).push(spot)?;
+    Ok(())
+}
+
+/// The one element at an id.
+pub fn one_in<'a>(holders: &Holders<'a>, id: &str) -> Option<&'a Spot<'a>>
+    ensures { result ≡ only (spots_at holders.now id.now) }
+{
+    match holders.get(id) {
+        Some(spots) if spots.len() == 1 => Some(spots[0]),
+        _ => None,
+    }
+}
+
+/// How many elements are at an id.
+pub fn count_in<'a>(holders: &Holders<'a>, id: &str) -> usize
+    ensures { result ≡ length (spots_at holders.now id.now) }
+{
+    match holders.get(id) {
+        Some(spots) => spots.len(),
+        None => 0,
+    }
+}

@@ -1,0 +1,102 @@
+//! The marked elements of pages, with tables from their ids.
+ghost use Rattle.std.specs.Prelude.{◌≡◌, ◌++◌, ◌∷◌, [], OnOk, filter, All};
+ghost use Rattle.ix_base.specs.Elements.{pages_of};
+ghost use Rattle.ix_base.specs.Located.{located, is_marked as spec_is_marked, page_marked};
+ghost use Rattle.ix_base.specs.Spots.{IsOnOnePage};
+ghost use Rattle.ix_base.specs.Trees.{tree_of};
+ghost use Rattle.id_table.specs.Tables.{AreOnOwnPages, AreWhole, all_located};
+
+use crate::entries::{Entries, enter_entry};
+use crate::holders::{Holders, enter, tuple_id_at};
+use crate::walk::walk;
+use bumpalo::Bump;
+use indexmap::IndexMap;
+use ix_base::{Element, Kind, NoMemory, Spot, kind_of};
+use std::alloc::Global;
+
+/// Elements in order, and for each id and tuple id those that have it.
+#[derive(Drop)]
+pub struct Tables<'a> {
+    pub spots: Vec<&'a Spot<'a>>,
+    pub ids: Entries<'a>,
+    pub tuples: Holders<'a>,
+}
+
+impl<'a> Tables<'a> {
+    pub fn new(alloc: Global) -> Tables<'a>
+        ensures spots { result.spots.items ≡ [] }
+        ensures whole { AreWhole result.ids result.tuples result.spots.items }
+    {
+        Tables {
+            spots: Vec::new(alloc),
+            ids: IndexMap::new(alloc),
+            tuples: IndexMap::new(alloc),
+        }
+    }
+
+    /// Adds an element at the end.
+    fn add(&mut self, alloc: Global, spot: &'a Spot<'a>) -> Result<(), NoMemory>
+        requires whole { AreWhole self.old.ids self.old.tuples self.old.spots.items }
+        requires page { IsOnOnePage spot.now }
+        ensures spots { OnOk result (self.new.spots.items ≡ self.old.spots.items ++ spot.entry ∷ []) }
+        ensures whole { OnOk result (AreWhole self.new.ids self.new.tuples self.new.spots.items) }
+    {
+        enter_entry(alloc, &mut self.ids, spot)?;
+        enter(alloc, &mut self.tuples, tuple_id_at(spot), spot)?;
+        self.spots.push(spot)?;
+        Ok(())
+    }
+
+    /// Adds an element where it is a marked one.
+    fn add_marked(&mut self, alloc: Global, spot: &'a Spot<'a>) -> Result<(), NoMemory>
+        requires whole { AreWhole self.old.ids self.old.tuples self.old.spots.items }
+        requires page { IsOnOnePage spot.now }
+        ensures spots { OnOk result (all_located self.new.spots.items
+            ≡ all_located self.old.spots.items ++ filter spec_is_marked (located spot.entry.now ∷ [])) }
+        ensures whole { OnOk result (AreWhole self.new.ids self.new.tuples self.new.spots.items) }
+    {
+        if is_marked(spot) {
+            return self.add(alloc, spot);
+        }
+        Ok(())
+    }
+
+    /// Adds the marked elements among the spots of a page.
+    fn add_all(&mut self, alloc: Global, spots: &[&'a Spot<'a>]) -> Result<(), NoMemory>
+        requires whole { AreWhole self.old.ids self.old.tuples self.old.spots.items }
+        requires pages { AreOnOwnPages spots.now }
+        ensures spots { OnOk result (all_located self.new.spots.items
+            ≡ all_located self.old.spots.items ++ filter spec_is_marked (all_located spots.now)) }
+        ensures whole { OnOk result (AreWhole self.new.ids self.new.tuples self.new.spots.items) }
+    {
+        for spot in spots {
+            self.add_marked(alloc, *spot)?;
+        }
+        Ok(())
+    }
+
+    /// Adds the marked elements of a page, in document order.
+    pub fn add_page(
+        &mut self,
+        alloc: Global,
+        arena: &'a Bump,
+        root: &'a Element<'a>,
+    ) -> Result<(), NoMemory>
+        requires whole { AreWhole self.old.ids self.old.tuples self.old.spots.items }
+        requires page { All (λ p. p ≡ root.now.place.page) (pages_of root.now) }
+        ensures spots { OnOk result (all_located self.new.spots.items
+            ≡ all_located self.old.spots.items ++ page_marked root.now.place.page (tree_of root.now)) }
+        ensures whole { OnOk result (AreWhole self.new.ids self.new.tuples self.new.spots.items) }
+    {
+        let mut spots = Vec::new(alloc);
+        walk(arena, root, None, &mut spots)?;
+        self.add_all(alloc, spots.as_slice())
+    }
+}
+
+/// Whether the element is one that links, facts or contents speak of.
+fn is_marked(spot: &Spot<'_>) -> bool
+    ensures { result ≡ spec_is_marked (located spot.now) }
+{
+    kind_of(spot) != Kind::Other
+}

@@ -1,0 +1,2 @@
+pub mod ApartRows
+pub mod FoundRows

@@ -1,0 +1,6 @@
+use Rattle.std.proofs.Common.{◌≡◌, []}
+use Rattle.link_rows.proofs.sets.index_of.Given as goal
+
+-- nothing is chosen
+abbrev pub invariant-loop-page : goal.invariant-loop-page
+invariant-loop-page l = l.index.choices ≡ []

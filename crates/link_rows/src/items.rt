@@ -1,0 +1,113 @@
+//! What items say.
+ghost use Rattle.std.specs.Prelude.{◌≡◌, [], OnOk};
+ghost use Rattle.id_table.specs.Held.{AreChosen};
+
+use crate::sets::index_of;
+use anyhow::{Result, bail, ensure};
+use bumpalo::Bump;
+use fact_view::view;
+use facts::{ItemFault, item_of, refs_of};
+use id_table::Index;
+use ix_base::{Accuracy, Breaches, Item, Spot, Text, Value};
+use row_tables::{Cell, owned, push_name, quoted};
+use scopes::Bases;
+use sound_pages::sound_root;
+use std::alloc::Global;
+
+/// What the root of a page says, or the rule of values that it breaks.
+fn said(alloc: Global, page: &str) -> Result<Result<Item, ItemFault>> {
+    let arena = Bump::new(alloc);
+    let element = sound_root(alloc, &arena, 0, page)?;
+    ensure!(element.place.page == 0, "another page");
+    let mut bases = Bases::new(alloc);
+    bases.add_page("http://example.com/r/", "a.html", element)?;
+    let spot = Spot { element, up: None };
+    Ok(item_of(alloc, &spot, &[&spot], &bases))
+}
+
+/// The value that the root of a page says: a text in quotes, two numbers with `/` between them, or `nil`; or the rule that it breaks.
+pub(crate) fn value(alloc: Global, cells: &[Cell]) -> Result<String> {
+    let [page] = cells else {
+        bail!("a page is wanted");
+    };
+    match said(alloc, page.text()?)? {
+        Ok(item) => match &item.value {
+            Value::Nil => owned(alloc, "nil"),
+            Value::Plain(text) => quoted(alloc, Some(text.as_str())),
+            Value::Fraction(n, d) => Ok(format!(in alloc; "{}/{}", n.as_str(), d.as_str())?),
+        },
+        Err(ItemFault::Breach(rule)) => owned(alloc, rule.code()),
+        Err(ItemFault::NoMemory) => bail!("no memory"),
+    }
+}
+
+/// A text, or a dash where there is none.
+fn or_dash(text: &Option<Text>) -> &str {
+    match text {
+        Some(text) => text.as_str(),
+        None => "-",
+    }
+}
+
+/// What stands beside the value of what the root of a page says: its name, context, unit, accuracy and id.
+pub(crate) fn fields(alloc: Global, cells: &[Cell]) -> Result<String> {
+    let [page] = cells else {
+        bail!("a page is wanted");
+    };
+    let Ok(item) = said(alloc, page.text()?)? else {
+        bail!("a rule is broken");
+    };
+    let (ns, local) = (item.name.ns.as_str(), item.name.local.as_str());
+    let (context, unit) = (item.context.as_str(), or_dash(&item.unit));
+    let mut text = format!(in alloc; "{{{ns}}}{local} {context} {unit} ")?;
+    match &item.accuracy {
+        Some(Accuracy::Decimals(exact)) => write!(text, "decimals={}", exact.as_str())?,
+        Some(Accuracy::Precision(exact)) => write!(text, "precision={}", exact.as_str())?,
+        None => text.push_str("-")?,
+    }
+    write!(text, " {}", or_dash(&item.id))?;
+    Ok(text)
+}
+
+/// Refuses pages of which two elements have one id, or two tuples one tuple id.
+fn ensure_apart(alloc: Global, index: &Index<'_>) -> Result<()>
+    requires { index.now.choices ≡ [] }
+    ensures { OnOk result (AreChosen index.now) }
+{
+    let mut twice = Breaches::new(alloc);
+    index.doubled(&mut twice)?;
+    ensure!(twice.is_empty(), "an id stands twice");
+    Ok(())
+}
+
+/// How many contexts and units the elements of pages miss.
+pub(crate) fn missed(alloc: Global, cells: &[Cell]) -> Result<String> {
+    let arena = Bump::new(alloc);
+    let index = index_of(alloc, &arena, cells)?;
+    ensure_apart(alloc, &index)?;
+    let mut breaches = Breaches::new(alloc);
+    for spot in index.spots() {
+        refs_of(spot, &index, &mut breaches)?;
+    }
+    Ok(breaches.len().to_string(alloc)?)
+}
+
+/// What the attributes of the root of a page say.
+pub(crate) fn viewed(alloc: Global, cells: &[Cell]) -> Result<String> {
+    let [page] = cells else {
+        bail!("a page is wanted");
+    };
+    let arena = Bump::new(alloc);
+    let element = sound_root(alloc, &arena, 0, page.text()?)?;
+    let seen = view(&Spot { element, up: None });
+    let mut text = String::new(alloc);
+    push_name(&mut text, seen.name.ns, seen.name.local)?;
+    write!(text, " target={} nil={}", seen.target, seen.nil)?;
+    write!(text, " scale={} negative={}", seen.scale, seen.negative)?;
+    write!(text, " escape={} format=", seen.escape)?;
+    match seen.format {
+        Some(format) => push_name(&mut text, format.ns, format.local)?,
+        None => text.push_str("none")?,
+    }
+    Ok(text)
+}

@@ -1,0 +1,69 @@
+//! Members and owners of tuples.
+ghost use Rattle.std.specs.Prelude.{◌≡◌, true};
+ghost use Rattle.std.specs.List.{list_all};
+ghost use Rattle.ix_base.specs.Located.{located};
+ghost use Rattle.ix_base.specs.Membership.{order_of};
+ghost use Rattle.tuples.specs.Fits.{fits, is_number};
+
+use crate::sets::index_of;
+use anyhow::{Result, ensure};
+use bumpalo::Bump;
+use ix_base::{Breaches, Spot, attr_of, is_fact, kind_of};
+use row_tables::Cell;
+use std::alloc::Global;
+use tuples::{Members, membership};
+use value_forms::{Form, has_form};
+
+fn has_number(spot: &Spot<'_>) -> bool
+    ensures { result ≡ is_number (order_of (located spot.now)) }
+{
+    match attr_of(spot.element, "", "order") {
+        Some(value) => has_form(Form::Order, value),
+        None => true,
+    }
+}
+
+fn is_fit(spot: &Spot<'_>) -> bool
+    ensures { result ≡ fits (located spot.now) }
+{
+    !is_fact(kind_of(spot)) || has_number(spot)
+}
+
+fn are_fit(spots: &[&Spot<'_>]) -> bool
+    ensures { result ≡ list_all (λ s. fits (located s.now)) spots.now }
+{
+    spots.iter().all(|spot| is_fit(spot))
+}
+
+/// Writes how many breaches there are, the pages of the members of an element, and of its owner.
+fn push_said<'a>(
+    members: &Members<'a>,
+    breaches: usize,
+    spot: &Spot<'a>,
+    said: &mut String,
+) -> Result<()> {
+    write!(said, "{breaches}:")?;
+    for member in members.of(spot) {
+        write!(said, " {}", member.element.place.page)?;
+    }
+    if let Some(owner) = members.owner(spot) {
+        write!(said, " in {}", owner.element.place.page)?;
+    }
+    Ok(())
+}
+
+/// How many breaches there are in a set of pages, the pages of the members of the first page's root, and that of its owner.
+pub(crate) fn of_first(alloc: Global, cells: &[Cell]) -> Result<String> {
+    let arena = Bump::new(alloc);
+    let index = index_of(alloc, &arena, cells)?;
+    ensure!(are_fit(index.spots()), "an order that is no number");
+    let mut breaches = Breaches::new(alloc);
+    let members = membership(alloc, &arena, &index, &mut breaches)?;
+    let mut said = String::new(alloc);
+    for spot in index.spots() {
+        if spot.element.place.page == 0 {
+            push_said(&members, breaches.len(), *spot, &mut said)?;
+        }
+    }
+    Ok(said)
+}

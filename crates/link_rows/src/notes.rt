@@ -1,0 +1,150 @@
+//! Footnote links.
+ghost use Rattle.std.specs.Prelude.{◌≡◌, IfOk, length, nat_lt};
+ghost use Rattle.std.specs.List.{list_all};
+ghost use Rattle.ix_base.specs.Elements.{place_of};
+ghost use Rattle.continuations.specs.Kept.{AreChainsOf};
+
+use crate::sets::index_of;
+use anyhow::{Result, bail, ensure};
+use bumpalo::Bump;
+use continuations::{Chains, link};
+use footnotes::{Relations, relate};
+use id_table::Index;
+use ix_base::{
+    Arc, Attrs, Breaches, Element, Footnote, Name, NoMemory, NoteLink, Place, Scope, Spot,
+};
+use row_tables::Cell;
+use scopes::Bases;
+use std::alloc::Global;
+
+/// The page from which bases are taken.
+fn bare<'a>() -> Element<'a> {
+    Element {
+        place: Place {
+            page: 0,
+            offset: 50,
+        },
+        name: Name { ns: "", local: "p" },
+        attrs: Attrs::empty(),
+        scope: Scope::empty(),
+        children: &[],
+    }
+}
+
+/// So many bases.
+fn bases_of(alloc: Global, count: usize) -> Result<Bases, NoMemory>
+    ensures { IfOk result (λ b. length b.pages ≡ count) }
+{
+    let bare = bare();
+    let mut bases = Bases::new(alloc);
+    for _number in 0..count {
+        bases.add_page("http://example.com/", "a.html", &bare)?;
+    }
+    Ok(bases)
+}
+
+/// The chains of a set in which no rule on continuations is broken.
+fn chains_of<'a>(alloc: Global, arena: &'a Bump, index: &Index<'a>) -> Result<Chains<'a>>
+    ensures { IfOk result (λ c. AreChainsOf c index.now.spots) }
+{
+    let mut breaches = Breaches::new(alloc);
+    let chains = link(alloc, arena, index, &mut breaches)?;
+    ensure!(breaches.is_empty(), "a rule on continuations is broken");
+    Ok(chains)
+}
+
+fn is_below(spot: &Spot<'_>, count: usize) -> bool
+    ensures { result ≡ nat_lt (place_of spot.now).page count }
+{
+    (spot.element.place.page as usize) < count
+}
+
+fn are_below(spots: &[&Spot<'_>], count: usize) -> bool
+    ensures { result ≡ list_all (λ s. nat_lt (place_of s.now).page count) spots.now }
+{
+    spots.iter().all(|spot| is_below(spot, count))
+}
+
+fn push_footnote(footnote: &Footnote, said: &mut String) -> Result<()> {
+    let id = footnote.id.as_str();
+    let role = footnote.role.as_str();
+    let lang = footnote.lang.as_str();
+    write!(said, " {id} {role} {lang}")?;
+    if let Some(title) = &footnote.title {
+        write!(said, " ({})", title.as_str())?;
+    }
+    write!(said, " [{}]", footnote.body.as_str())?;
+    Ok(())
+}
+
+fn push_arc(arc: &Arc, said: &mut String) -> Result<()> {
+    let arcrole = arc.arcrole.as_str();
+    let from = arc.from_id.as_str();
+    let to = arc.to_id.as_str();
+    let order = arc.order.as_str();
+    write!(said, " {from} {arcrole} {to} {order}")?;
+    Ok(())
+}
+
+/// Writes what a link says.
+fn push_link(link: &NoteLink, said: &mut String) -> Result<()> {
+    write!(said, "; {}:", link.role.as_str())?;
+    for id in link.locs.as_slice() {
+        write!(said, " {}", id.as_str())?;
+    }
+    said.push_str(",")?;
+    for footnote in link.footnotes.as_slice() {
+        push_footnote(footnote, said)?;
+    }
+    said.push_str(",")?;
+    for arc in link.arcs.as_slice() {
+        push_arc(arc, said)?;
+    }
+    Ok(())
+}
+
+/// The links of a target of a set of so many pages.
+fn push_links<'a>(
+    alloc: Global,
+    arena: &'a Bump,
+    index: &Index<'a>,
+    relations: &Relations<'a>,
+    count: usize,
+    target: &str,
+    said: &mut String,
+) -> Result<()> {
+    let chains = chains_of(alloc, arena, index)?;
+    let bases = bases_of(alloc, count)?;
+    if are_below(index.spots(), count) {
+        let links = relations.notes(alloc, target, &chains, &bases)?;
+        for link in links.as_slice() {
+            push_link(link, said)?;
+        }
+    }
+    Ok(())
+}
+
+/// How many rules on relationships the elements of so many pages break, and the links of a target.
+fn said_of<'a>(
+    alloc: Global,
+    arena: &'a Bump,
+    index: &Index<'a>,
+    count: usize,
+    target: &str,
+) -> Result<String> {
+    let mut breaches = Breaches::new(alloc);
+    let relations = relate(alloc, arena, index, &mut breaches)?;
+    let mut said = breaches.len().to_string(alloc)?;
+    push_links(alloc, arena, index, &relations, count, target, &mut said)?;
+    Ok(said)
+}
+
+/// How many rules on relationships pages break, and the links of a target.
+pub(crate) fn of_target(alloc: Global, cells: &[Cell]) -> Result<String> {
+    let Some((target, pages)) = cells.split_first() else {
+        bail!("a target and pages are wanted");
+    };
+    let arena = Bump::new(alloc);
+    let index = index_of(alloc, &arena, pages)?;
+    said_of(alloc, &arena, &index, pages.len(), target.text()?)
+}

@@ -1,0 +1,36 @@
+//! Sets of pages: their elements, and their names.
+ghost use Rattle.std.specs.Prelude.{◌≡◌, [], IfOk};
+
+use anyhow::{Context, Result};
+use bumpalo::Bump;
+use id_table::Index;
+use ix_base::Text;
+use row_tables::Cell;
+use sound_pages::sound_root;
+use std::alloc::Global;
+
+/// The index of pages that are added in this order, in which nothing is chosen.
+pub(crate) fn index_of<'a>(alloc: Global, arena: &'a Bump, pages: &[Cell]) -> Result<Index<'a>>
+    ensures { IfOk result (λ i. i.choices ≡ []) }
+{
+    let mut index = Index::new(alloc);
+    let mut number = 0u32;
+    for page in pages {
+        let root = sound_root(alloc, arena, number, page.text()?)?;
+        index.add_page(arena, root)?;
+        number = number.checked_add(1).context("too many pages")?;
+    }
+    Ok(index)
+}
+
+/// The names of pages that have none: `a`, `b` and so on.
+pub(crate) fn letters(alloc: Global, count: usize) -> Result<Vec<Text>> {
+    let mut names = Vec::new(alloc);
+    for letter in ["a", "b", "c", "d", "e", "f", "g", "h", "i", "j"]
+        .iter()
+        .take(count)
+    {
+        names.push(Text::of(alloc, letter)?)?;
+    }
+    Ok(names)
+}

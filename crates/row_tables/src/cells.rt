@@ -1,0 +1,98 @@
+//! The cells of a row.
+ghost use Rattle.std.specs.Prelude.{◌≡◌};
+
+use anyhow::{Context, Result, bail};
+use std::alloc::Global;
+use std::str;
+
+/// What a cell says: the bytes for which it is written.
+#[derive(Drop)]
+pub struct Cell {
+    bytes: Vec<u8>,
+}
+
+/// The number that hexadecimal digits say, of which the last two count.
+fn hex_byte(digits: &str) -> Result<u8> {
+    let mut byte = 0u8;
+    for ch in digits.chars() {
+        let digit = ch.to_digit(16).context("a hexadecimal digit")?;
+        byte = byte.wrapping_mul(16).wrapping_add(digit as u8);
+    }
+    Ok(byte)
+}
+
+/// Appends a text as often as is written in front of it.
+fn push_repeated(bytes: &mut Vec<u8>, written: &str) -> Result<()> {
+    let (count, text) = written.split_once('*').context("no text that is repeated")?;
+    let count = count.parse::<u32>().context("how often")?;
+    for _ in 0..count {
+        bytes.extend_from_slice(text.as_bytes())?;
+    }
+    Ok(())
+}
+
+/// Appends what an escape stands for, and what is behind it.
+fn push_escape(bytes: &mut Vec<u8>, part: &str) -> Result<()> {
+    let (kind, mut rest) = part.split_at_checked(1).context("no escape")?;
+    match kind {
+        "t" => bytes.push(b'\t')?,
+        "n" => bytes.push(b'\n')?,
+        "r" => bytes.push(b'\r')?,
+        "x" => {
+            let (digits, behind) = rest.split_at_checked(2).context("two digits")?;
+            bytes.push(hex_byte(digits)?)?;
+            rest = behind;
+        }
+        "{" => {
+            let (repeated, behind) = rest.split_once('}').context("no end")?;
+            push_repeated(bytes, repeated)?;
+            rest = behind;
+        }
+        _ => bail!("an escape that is none"),
+    }
+    bytes.extend_from_slice(rest.as_bytes())?;
+    Ok(())
+}
+
+impl Cell {
+    /// Reads a cell as it is written.
+    fn read(alloc: Global, written: &str) -> Result<Cell> {
+        let mut bytes = Vec::new(alloc);
+        let mut parts = written.split('\\');
+        if let Some(front) = parts.next() {
+            bytes.extend_from_slice(front.as_bytes())?;
+        }
+        for part in parts {
+            push_escape(&mut bytes, part)?;
+        }
+        Ok(Cell { bytes })
+    }
+
+    /// The bytes.
+    pub fn bytes(&self) -> &[u8]
+        ensures { result.now ≡ self.now.bytes.items }
+    {
+        self.bytes.as_slice()
+    }
+
+    /// The bytes, which are to be UTF-8.
+    pub fn text(&self) -> Result<&str> {
+        str::from_utf8(self.bytes()).context("a cell that is no text")
+    }
+
+    /// The number that the text says.
+    pub fn number(&self) -> Result<u64> {
+        self.text()?
+            .parse::<u64>()
+            .context("a cell that is no number")
+    }
+}
+
+/// The cells of a line.
+pub(crate) fn cells_of(alloc: Global, line: &str) -> Result<Vec<Cell>> {
+    let mut cells = Vec::new(alloc);
+    for written in line.split('\t') {
+        cells.push(Cell::read(alloc, written)?)?;
+    }
+    Ok(cells)
+}
