@@ -1,5 +1,6 @@
 //! The cells of a row.
-ghost use Rattle.std.specs.Prelude.{◌≡◌};
+ghost use Rattle.std.specs.Prelude.{◌≡◌, MatchResult, IsUtf8};
+ghost use Rattle.std.specs.Str.Parse.{ParsesUnsigned};
 
 use anyhow::{Context, Result, bail};
 use std::alloc::Global;
@@ -76,12 +77,17 @@ impl Cell {
     }
 
     /// The bytes, which are to be UTF-8.
-    pub fn text(&self) -> Result<&str> {
+    pub fn text(&self) -> Result<&str>
+        ensures { MatchResult result (λ text. text.now ≡ self.now.bytes.items) (λ _. ¬ (IsUtf8 self.now.bytes.items)) }
+    {
         str::from_utf8(self.bytes()).context("a cell that is no text")
     }
 
-    /// The number that the text says.
-    pub fn number(&self) -> Result<u64> {
+    /// The number that the text says: one digit or more, behind a plus or not.
+    #[tactic(auto, using(crate::proofs::NumeralLaws::utf8_from_numeral))]
+    pub fn number(&self) -> Result<u64>
+        ensures { ParsesUnsigned 64 10 self.now.bytes.items result }
+    {
         self.text()?
             .parse::<u64>()
             .context("a cell that is no number")

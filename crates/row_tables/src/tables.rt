@@ -1,5 +1,6 @@
 //! Running tables, and telling of each how many rows it has, or the first row that isn't as it is due.
-ghost use Rattle.std.specs.Prelude.{◌≡◌, Ok, None, IfOk, string_bytes};
+ghost use Rattle.std.specs.Prelude.{◌≡◌, ◌⊎◌, Ok, None, IfOk, string_bytes};
+ghost use Rattle.std.specs.Process.{exit_status};
 
 use crate::cells::{Cell, cells_of};
 use anyhow::{Context, Result};
@@ -87,6 +88,7 @@ pub fn run_tables<
     F: Fn(Global, &str, &[Cell]) -> Result<String>,
 >(rt: &R, seen: F) -> Result<ExitCode>
     requires { F.IsAlwaysCallable seen }
+    ensures { IfOk result (λ code. (exit_status code ≡ 0) ⊎ (exit_status code ≡ 1)) }
 {
     let mut are_due = true;
     for table in env::args(rt)?.skip(1) {
