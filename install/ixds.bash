@@ -4,10 +4,14 @@ _ixds() {
     local word=${COMP_WORDS[COMP_CWORD]} before=${COMP_WORDS[COMP_CWORD - 1]} command=${COMP_WORDS[1]}
     COMPREPLY=()
     if [ "$COMP_CWORD" -eq 1 ]; then
-        mapfile -t COMPREPLY < <(compgen -W 'extract check sample' -- "$word")
+        mapfile -t COMPREPLY < <(compgen -W 'extract check sample plain' -- "$word")
         return
     fi
-    case "$command" in extract | check) ;; *) return ;; esac
+    case "$command" in
+    extract | check) ;;
+    plain) [ "$COMP_CWORD" -eq 2 ] || return ;;
+    *) return ;;
+    esac
     case "$before" in
     --base)
         mapfile -t COMPREPLY < <(compgen -W 'http:// https://' -- "$word")
@@ -22,6 +26,7 @@ _ixds() {
     esac
     case "$word" in
     -*)
+        [ "$command" != plain ] || return
         local options='--base'
         [ "$command" = check ] || options='--base --out'
         mapfile -t COMPREPLY < <(compgen -W "$options" -- "$word")

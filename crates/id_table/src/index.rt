@@ -68,7 +68,11 @@ impl<'a> Model for Index<'a> {
 
     ghost coded = { held_code };
 
-    ghost view = { λ t. record { spots = all_located t.kept.tables.spots.items; choices = choices_of t.kept.choices; is_spent = t.is_spent } };
+    ghost view = { λ t. record {
+      spots = all_located t.kept.tables.spots.items;
+      choices = choices_of t.kept.choices;
+      is_spent = t.is_spent;
+    } };
 
     ghost invariant = { λ t. IsIndexed t.kept.tables.ids t.kept.tables.tuples t.kept.tables.spots.items t.kept.choices t.none };
 }
@@ -205,7 +209,8 @@ impl<'a> Index<'a> {
     }
 
     fn repeats_own_id(&self, spot: &Spot<'_>) -> bool
-        ensures { result ≡ option_map_or (λ id. are_many (asked self.now) (ids.holds_id id) && is_none (chosen self.now id)) (ids.id_of (located spot.now)) false }
+        ensures { result ≡ option_map_or (λ id. are_many (asked self.now) (ids.holds_id id) && is_none (chosen self.now id))
+            (ids.id_of (located spot.now)) false }
     {
         match id_at(spot) {
             Some(id) => self.is_doubled(id),

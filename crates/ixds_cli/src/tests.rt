@@ -1,4 +1,4 @@
-//! The program's own objects over real files, each test in a folder of its own; and words, over objects in memory.
+//! The program's own objects over real files, each test in a folder of its own; and words.
 
 mod pages;
 mod placing;

@@ -192,6 +192,14 @@ fn wrong_part<'a>(
     reader.parts.wrong_page(alloc)
 }
 
+/// What is wrong with the words behind `plain`.
+fn wrong_plain(words: &[Text]) -> Wrong<'_> {
+    match words {
+        [page] => Wrong::new("no page can be named ", page.as_str(), ""),
+        _ => Wrong::new("", "", "plain takes one page, and no options"),
+    }
+}
+
 /// What is wrong with words that give no command.
 fn wrong_word<'a>(alloc: Global, words: &'a [Text]) -> Result<Option<Wrong<'a>>, NoMemory> {
     let [first, rest @ ..] = words else {
@@ -201,6 +209,7 @@ fn wrong_word<'a>(alloc: Global, words: &'a [Text]) -> Result<Option<Wrong<'a>>,
         "extract" => wrong_part(alloc, rest, true),
         "check" => wrong_part(alloc, rest, false),
         "sample" => Ok(Some(Wrong::new("", "", "a sample takes one number, from 1 to 200000"))),
+        "plain" => Ok(Some(wrong_plain(rest))),
         word => Ok(Some(Wrong::new("", word, " is no command"))),
     }
 }

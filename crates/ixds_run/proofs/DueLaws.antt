@@ -1,27 +1,29 @@
 -- What is ready of targets.
-use Rattle.std.proofs.Common.{◌≡◌, ◌⊎◌, ◌∙◌, ap, sym, subst, refl, ℕ, ◌+◌, ◌<◌, ◌≤◌, ◌==◌, cond, Bool, true, false, List, [], ◌∷◌, length, drop, get_or, map, Option, Some, None, Result, Ok, Err, IfOk, inl, inr, arith}
+use Rattle.std.proofs.Common.{◌≡◌, ◌⊎◌, ◌∙◌, ap, sym, refl, ℕ, ◌+◌, ◌<◌, ◌≤◌, ◌==◌, cond, Bool, true, false, List, [], ◌∷◌, length, drop, get_or, map, Option, Some, None, Result, Ok, Err, IfOk, inl, inr, option_map, arith}
+use Rattle.std.specs.Borrow.{Bor}
 use Rattle.std.specs.List.{concat}
 use Rattle.std.proofs.lemmas.Bool.{ne_eqb}
 use Rattle.std.proofs.lemmas.List.{drop_all}
-use Rattle.std.specs.List.Sorted.{IsPermutation}
 use Rattle.ix_base.specs.Forms.{is_empty}
 use Rattle.ix_base.specs.Outside.{Begun}
 use Rattle.ix_base.specs.declared.NoMemory.{NoMemory}
 use Rattle.ixds_run.specs.declared.status.Status.{Status}
-use Rattle.ixds_run.specs.declared.status.Status.TheVariants.{Broken, WriteFault}
-use Rattle.ixds_run.specs.Commands.{base_of, dir_of, number_of, pages_of}
+use Rattle.ixds_run.specs.declared.status.Status.TheVariants as status
+use Rattle.ixds_run.specs.declared.status.Status.TheVariants.{Broken, Done, ReadFault, Usage, WriteFault}
+use Rattle.ixds_run.specs.Commands.{dir_of, number_of, pages_of, with_pages}
 use Rattle.ixds_run.specs.declared.command.Command.{Command}
-use Rattle.ixds_run.specs.Rearrangement.{Handed, IsRearranged, bytes_of, names_of}
-use Rattle.ixds_run.specs.DueOutcomes.{AreReadBack, InstanceLines, DueOutcome, HasBreach, instance_lines, default_len, due_of, targets_under, whole_target, IsOutcome}
-use Rattle.targets.specs.Breaches.{PagesComeTo}
-use Rattle.ixds_run.specs.DueTables.{status_of, ready_lines, outcome_of, ready, ready_under}
+use Rattle.ixds_run.specs.declared.command.Command.TheVariants.{Extract, Check, Sample, Plain}
+use Rattle.ixds_run.specs.declared.verdict.Verdict.{Verdict}
+use Rattle.ixds_run.specs.declared.verdict.Verdict.TheVariants.{Reported, Extracted, Printed}
+use Rattle.ixds_run.specs.Rearrangement.{IsRearranged, names_of}
+use Rattle.ixds_run.specs.DueOutcomes.{AreReadBack, InstanceLines, DueOutcome, HasBreach, instance_lines, default_len, due_of, targets_under, whole_target}
+use Rattle.ixds_run.specs.DueTables.{IsDueFrom, status_of, ready_lines, outcome_of, ready, ready_under}
+use Rattle.ixds_run.specs.Verdicts.{CommandMakes, PagesMake}
 use Rattle.ixds_run.specs.Reading.{IsRead}
 use Rattle.ixds_run.specs.declared.due.Due.{Due}
 use Rattle.ixds_run.specs.declared.forest.Forest.{Forest}
 use Rattle.ixds_run.specs.declared.due.DueTarget.{DueTarget}
 use Rattle.ixds_run.proofs.MadeLaws.{cut_at}
-use Rattle.targets.specs.declared.outcome.Outcome.{Outcome}
-use Rattle.targets.specs.declared.outcome.Outcome.TheVariants as outcome
 use Rattle.targets.specs.declared.outcome.Target.{Target}
 
 abbrev under : List ℕ → InstanceLines → Begun
@@ -60,58 +62,79 @@ default_behind ts n t within at some =
 pub default_none : (ts : List DueTarget) (n : ℕ) → length ts ≤ n → default_len (map ready_lines (drop n ts)) ≡ 0
 default_none ts n past = ap (λ (xs : List DueTarget). default_len (map ready_lines xs)) (drop_all n ts past)
 
--- pages say the same, in whatever order they are handed over
-abbrev pub SayInAnyOrder : Type 0
-SayInAnyOrder = (base : List ℕ) (o : Outcome) (pages others : List Handed) → IsPermutation pages others
-    → PagesComeTo base (names_of pages) (bytes_of pages) o → PagesComeTo base (names_of others) (bytes_of others) o
-
-rearranged : SayInAnyOrder → (c : Command) (bs : List (List ℕ)) (d : Command) (cs : List (List ℕ)) (o : Outcome) → IsRearranged c bs d cs
-    → PagesComeTo (base_of c) (pages_of c) bs o → PagesComeTo (base_of d) (pages_of d) cs o
-rearranged order c bs d cs o r says =
-    let base = base_of c in
-    let named : PagesComeTo base (names_of r.pages) bs o = subst (λ (ns : List (List ℕ)). PagesComeTo base ns bs o) r.names says in
-    let here : PagesComeTo base (names_of r.pages) (bytes_of r.pages) o = subst (λ (xs : List (List ℕ)). PagesComeTo base (names_of r.pages) xs o) r.bytes named in
-    let there = order base o r.pages r.others r.order here in
-    subst (λ (x : List ℕ). PagesComeTo x (pages_of d) cs o) (sym r.base)
-    (subst (λ (ns : List (List ℕ)). PagesComeTo base ns cs o) (sym r.other_names)
-    (subst (λ (xs : List (List ℕ)). PagesComeTo base (names_of r.others) xs o) (sym r.other_bytes) there))
-
--- what is due of a command is that of what its pages come to
-pub due_is : (r : Result Due NoMemory) (c : Command) (base : List ℕ) (names : List (List ℕ)) (number : Option ℕ) (v : Outcome) (f : Forest)
-    → base ≡ base_of c → names ≡ pages_of c → number ≡ number_of c
-    → ((b : List ℕ) (ns bs : List (List ℕ)) (o : Outcome) → PagesComeTo b ns bs o → AreReadBack o)
-    → SayInAnyOrder
-    → ((bs : List (List ℕ)) → IsRead bs f → PagesComeTo base names bs v)
-    → IfOk r (λ due. (dir : Option (List ℕ)) → outcome_of dir due ≡ due_of dir number v)
-    → IfOk r (λ due. (bs : List (List ℕ)) → IsRead bs f → IsOutcome c bs (outcome_of (dir_of c) due))
-due_is (Ok due) c base names number v f b n m back order says is = λ bs read.
-    let said : PagesComeTo (base_of c) (pages_of c) bs v =
-    subst (λ (x : List ℕ). PagesComeTo x (pages_of c) bs v) b (subst (λ (x : List (List ℕ)). PagesComeTo base x bs v) n (says bs read)) in
-    let is_due = is (dir_of c) ∙ ap (λ (o : Option ℕ). due_of (dir_of c) o v) m in
-    record {
-      outcome = v;
-      is = record { says = said; due_is = is_due };
-      any_order = λ d cs r. record { says = rearranged order c bs d cs v r said; due_is = is_due ∙ (λ i. due_of (sym r.dir i) (sym r.number i) v) };
-      read_back = back base names bs v (says bs read);
-    }
-due_is (Err x) c base names number v f b n m back order says is = tt
-
 pub by_either : (s x : Status) → (s ≡ x) ⊎ (s ≡ WriteFault) → (s ≡ WriteFault → ⊥) → s ≡ x
 by_either s x (inl e) other = e
 by_either s x (inr e) other = absurd (other e)
 
-broken_status : (b : Bool) → status_of b ≡ Broken → b ≡ true
+pub broken_status : (b : Bool) → status_of b ≡ Broken → b ≡ true
 broken_status true e = refl
 broken_status false e = cc
 
--- nothing is due to be written of pages that say nothing
-pub nothing_due : (r : Result Due NoMemory) (c : Command) (base : List ℕ) (names : List (List ℕ)) (number : Option ℕ) (v : Outcome) (f : Forest)
-    → base ≡ base_of c → names ≡ pages_of c → ((bs : List (List ℕ)) → IsRead bs f → PagesComeTo base names bs v)
+same_dir : (c : Command) (names : List (List ℕ)) → dir_of (with_pages c names) ≡ dir_of c
+same_dir (Extract base dir pages) names = refl
+same_dir (Check base pages) names = refl
+same_dir (Sample number) names = refl
+same_dir (Plain page) names = refl
+
+same_number : (c : Command) (names : List (List ℕ)) → number_of (with_pages c names) ≡ number_of c
+same_number (Extract base dir pages) names = refl
+same_number (Check base pages) names = refl
+same_number (Sample number) names = refl
+same_number (Plain page) names = refl
+
+-- nothing is due to be written where a rule is broken
+none_due : (due : Due) (c : Command) (bs : List (List ℕ)) (v : Verdict) → CommandMakes c bs v → status_of due.is_broken ≡ (due_of None None v).status
+    → (due.is_broken ≡ true → due.targets.items ≡ []) → HasBreach c bs → due.targets.items ≡ []
+none_due due c bs (Reported report) made is none breach = none (broken_status due.is_broken is)
+none_due due c bs (Extracted ts) made is none breach = absurd (let z : false ≡ true = breach (Extracted ts) made in cc)
+none_due due c bs (Printed text) made is none breach = absurd (let z : false ≡ true = breach (Printed text) made in cc)
+
+same_status : (dir : Option (List ℕ)) (number : Option ℕ) (v : Verdict) → (due_of dir number v).status ≡ (due_of None None v).status
+same_status dir number (Reported report) = refl
+same_status dir number (Extracted ts) = refl
+same_status dir number (Printed text) = refl
+
+-- what is due of a command is that of what its pages come to
+pub due_is : (r : Result Due NoMemory) (c : Command) (number : Option ℕ) (v : Verdict) (f : Forest) → number ≡ number_of c
+    → ((c : Command) (ns bs : List (List ℕ)) (v : Verdict) → PagesMake c ns bs v → AreReadBack v)
+    → ((c d : Command) (bs cs : List (List ℕ)) (v : Verdict) → IsRearranged c bs d cs → CommandMakes c bs v → CommandMakes d cs v)
+    → ((bs : List (List ℕ)) → IsRead bs f → CommandMakes c bs v)
     → IfOk r (λ due. (dir : Option (List ℕ)) → outcome_of dir due ≡ due_of dir number v)
     → IfOk r (λ due. due.is_broken ≡ true → due.targets.items ≡ [])
-    → IfOk r (λ due. (bs : List (List ℕ)) → IsRead bs f → HasBreach c bs → due.targets.items ≡ [])
-nothing_due (Ok due) c base names number (outcome.Broken report) f b n says is none = λ bs read nothing.
-    none (broken_status due.is_broken (ap (λ (o : DueOutcome). o.status) (is None)))
-nothing_due (Ok due) c base names number (outcome.Whole ts) f b n says is none = λ bs read nothing.
-    absurd (nothing ts (subst (λ (x : List ℕ). PagesComeTo x (pages_of c) bs (outcome.Whole ts)) b (subst (λ (x : List (List ℕ)). PagesComeTo base x bs (outcome.Whole ts)) n (says bs read))))
-nothing_due (Err x) c base names number v f b n says is none = tt
+    → IfOk r (λ due. (bs : List (List ℕ)) → IsRead bs f → IsDueFrom c bs due)
+due_is (Ok due) c number v f same back order makes is none = λ bs read.
+    let made = makes bs read in
+    let is_due = is (dir_of c) ∙ ap (λ (o : Option ℕ). due_of (dir_of c) o v) same in
+    record {
+      outcome = record {
+        verdict = v;
+        is = record { makes = made; due_is = is_due };
+        any_order = λ d cs r.
+            let dir = ap dir_of r.command ∙ same_dir c (names_of r.others) in
+            let facts = ap number_of r.command ∙ same_number c (names_of r.others) in
+            record { makes = order c d bs cs v r made; due_is = is_due ∙ (λ i. due_of (sym dir i) (sym facts i) v) };
+        read_back = back c (pages_of c) bs v made;
+      };
+      none = none_due due c bs v made (ap (λ (o : DueOutcome). o.status) (is None) ∙ same_status None number v) none;
+    }
+due_is (Err x) c number v f same back order makes is none = tt
+
+-- what gives all that is due, or fails to, answers no other status
+either_other : (b : Bool) (s x : Status) → (s ≡ status_of b) ⊎ (s ≡ WriteFault) → (Done ≡ x → ⊥) → (Broken ≡ x → ⊥) → (WriteFault ≡ x → ⊥) → s ≡ x → ⊥
+either_other true s x (inl e) done broken write f = broken (sym e ∙ f)
+either_other false s x (inl e) done broken write f = done (sym e ∙ f)
+either_other b s x (inr e) done broken write f = write (sym e ∙ f)
+
+pub no_usage : (b : Bool) (s : Status) → (s ≡ status_of b) ⊎ (s ≡ WriteFault) → s ≡ Usage → ⊥
+no_usage b s either e = either_other b s Usage either (λ z. cc) (λ z. cc) (λ z. cc) e
+
+pub no_read_fault : (b : Bool) (s : Status) → (s ≡ status_of b) ⊎ (s ≡ WriteFault) → s ≡ ReadFault → ⊥
+no_read_fault b s either e = either_other b s ReadFault either (λ z. cc) (λ z. cc) (λ z. cc) e
+
+pub no_want : (b : Bool) (s : Status) → (s ≡ status_of b) ⊎ (s ≡ WriteFault) → s ≡ status.NoMemory → ⊥
+no_want b s either e = either_other b s status.NoMemory either (λ z. cc) (λ z. cc) (λ z. cc) e
+
+-- no directory word is none
+pub dir_none : (o : Option (Bor (List ℕ))) → option_map (λ t. t.now) o ≡ None → o ≡ None
+dir_none None e = refl
+dir_none (Some d) e = cc

@@ -1,5 +1,5 @@
 -- Reading pages one behind another.
-use Rattle.std.proofs.Common.{◌≡◌, ◌⊎◌, inl, inr, ◌∙◌, ap, sym, refl, ℕ, suc, ◌+◌, ◌≤◌, ◌<◌, nat_lt, Bool, cond, List, [], ◌∷◌, ◌++◌, length, drop, take, Option, Some, None, IfSome, IsTrue, is_some, true, option_map, append_assoc, append-nil, subst, arith, length-append, add-zero, add_assoc, zero-add, add-one, get_or}
+use Rattle.std.proofs.Common.{◌≡◌, ◌⊎◌, inl, inr, ◌∙◌, ap, sym, refl, ℕ, suc, ◌+◌, ◌≤◌, ◌<◌, nat_lt, Bool, cond, List, [], ◌∷◌, ◌++◌, length, drop, take, Option, Some, None, IfSome, IsTrue, is_some, option_map, append_assoc, append-nil, subst, arith, length-append, add-zero, add_assoc, zero-add, add-one, get_or}
 use Rattle.std.proofs.Math.Seq.{drop-cons, take-suc}
 use Rattle.std.proofs.lemmas.Bool.{lt-ltb}
 use Rattle.std.specs.Borrow.{Bor}
@@ -276,8 +276,8 @@ pub some_read : (page : List ℕ → Option (List ℕ)) (names rest : List (List
     → AreSome (told page names) (λ bs. IsRead bs f)
 some_read page names rest n f none h = read_some (told page names) f h.bs (read_is h.bs f h.read) (read_all_is page names rest n f none h)
 
-pub some_is_sound : (page : List ℕ → Option (List ℕ)) (names rest : List (List ℕ)) (n : ℕ) (f : Forest) → n ≤ length names → HasReadSome page names rest n f → IsSound names f
-some_is_sound page names rest n f most h = λ e. (h.bs, h.read, let count = h.count in let z : length h.bs ≤ length names = omega arith in z)
+pub some_is_sound : (page : List ℕ → Option (List ℕ)) (names rest : List (List ℕ)) (n : ℕ) (f : Forest) → n ≡ length names → HasReadSome page names rest n f → IsSound names f
+some_is_sound page names rest n f all h = λ e. (h.bs, h.read, h.count ∙ all)
 
 -- nothing was read yet
 pub read_none : (page : List ℕ → Option (List ℕ)) (names : List (List ℕ)) (f : Forest) → f.sums.bytes ≡ 0 → f.sums.tags ≡ 0 → f.found ≡ [] → f.roots.items ≡ [] → HasReadSome page names names 0 f

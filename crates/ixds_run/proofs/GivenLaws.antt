@@ -10,12 +10,12 @@ use Rattle.url.proofs.OnLiterals.{url_on_literals}
 use Rattle.clap.specs.Walk.{Row, all_of, first_of}
 use Rattle.ix_base.specs.Decimals.{number_in}
 use Rattle.ixds_run.specs.Bases.{is_base, is_web_scheme}
-use Rattle.ixds_run.specs.Commands.{command_of, extract_from, extract_in, check_from, check_in, sample_in, AreNames, IsGiven}
+use Rattle.ixds_run.specs.Commands.{command_of, extract_from, extract_in, check_from, check_in, plain_in, sample_in, AreNames, IsGiven}
 use Rattle.ixds_run.specs.Names.{are_pages, has_repeat, is_page_name, may_stand_in_name}
 use Rattle.ixds_run.specs.Sample.{is_number, sample_names, sample_number}
 use Rattle.ixds_run.specs.Simple.{check_app, extract_app, rows_taken}
 use Rattle.ixds_run.specs.declared.command.Command.{Command}
-use Rattle.ixds_run.specs.declared.command.Command.TheVariants.{Extract, Check, Sample}
+use Rattle.ixds_run.specs.declared.command.Command.TheVariants.{Extract, Check, Sample, Plain}
 
 both : (a b : Bool) → (a && b) ≡ true → (a ≡ true) × (b ≡ true)
 both true b e = (refl, e)
@@ -89,6 +89,13 @@ given_sample (word ∷ []) c e = sample_by (sample_number word) c (λ n is.
     subst (λ (k : ℕ). IsGiven (Sample k)) h.2 (sample_given (number_in word) (le_is 1 (number_in word) h.0) (le_is (number_in word) 200000 h.1))) e
 given_sample (word ∷ next ∷ rest) c e = cc
 
+given_plain : (rest : List (List ℕ)) (c : Command) → plain_in rest ≡ Some c → IsGiven c
+given_plain [] c e = cc
+given_plain (page ∷ []) c e =
+    let h = where_holds (are_pages (page ∷ [])) (Plain page) c e in
+    subst IsGiven h.1 (record { base = tt; dir = tt; pages = are_names (page ∷ []) h.0; number = tt })
+given_plain (page ∷ next ∷ rest) c e = cc
+
 given_rows : (f : List Row → Option Command) → ((rows : List Row) (c : Command) → f rows ≡ Some c → IsGiven c)
     → (rows : Option (List Row)) (c : Command) → option_and_then f rows ≡ Some c → IsGiven c
 given_rows f good None c e = cc
@@ -109,7 +116,8 @@ given (first ∷ rest) c e =
     (given_rows extract_in (λ rows. given_extract (first_of (codes "base") rows) (first_of (codes "out") rows) (all_of (codes "PAGE") rows)) (rows_taken extract_app (first ∷ rest)) c)
     (either (bytes_eq first (codes "check")) (option_and_then check_in (rows_taken check_app (first ∷ rest))) _ c
     (given_rows check_in (λ rows. given_check (first_of (codes "base") rows) (all_of (codes "PAGE") rows)) (rows_taken check_app (first ∷ rest)) c)
-    (either (bytes_eq first (codes "sample")) (sample_in rest) None c (given_sample rest c) (none_given c))) e
+    (either (bytes_eq first (codes "sample")) (sample_in rest) _ c (given_sample rest c)
+    (either (bytes_eq first (codes "plain")) (plain_in rest) None c (given_plain rest c) (none_given c)))) e
 
 pub given_of : (o : Option Command) (words : List (List ℕ)) → o ≡ command_of words → IfSome o IsGiven
 given_of None words e = tt

@@ -57,10 +57,10 @@ built_all pages n f past h =
     of_all all (λ bs. IsRead bs f) (some_read Some all (drop n all) n f (drop_of_length-le all behind) h)
 
 -- they are as many as their names
-pub built_sound : (pages : List MemPage) (n : ℕ) (f : Forest) → n ≤ length pages
+pub built_sound : (pages : List MemPage) (n : ℕ) (f : Forest) → n ≡ length pages
     → HasReadSome Some (map (λ p. p.bytes) pages) (drop n (map (λ p. p.bytes) pages)) n f → IsSound (map (λ p. p.name) pages) f
-built_sound pages n f most h = λ e.
+built_sound pages n f end h = λ e.
     let all = map (λ (p : MemPage). p.bytes) pages in
-    let within : n ≤ length all = subst (λ k. n ≤ k) (sym (length-map pages (λ p. p.bytes))) most in
-    let read = some_is_sound Some all (drop n all) n f within h e in
-    (read.0, read.1, subst (λ k. length read.0 ≤ k) (length-map pages (λ p. p.bytes) ∙ sym (length-map pages (λ p. p.name))) read.2)
+    let whole : n ≡ length all = end ∙ sym (length-map pages (λ p. p.bytes)) in
+    let read = some_is_sound Some all (drop n all) n f whole h e in
+    (read.0, read.1, read.2 ∙ (length-map pages (λ p. p.bytes) ∙ sym (length-map pages (λ p. p.name))))

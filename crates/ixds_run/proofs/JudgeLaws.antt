@@ -57,7 +57,7 @@ kept_says base names bs r kept broken made = by (text_faults 0 bs) refl
         broken_says (Ok v) some h = inr (kept, inl (some, h))
         broken_says (Err x) some h = tt
 
-empty_of : {X : Type 0} (xs : List X) → (length xs == 0) ≡ true → xs ≡ []
+pub empty_of : {X : Type 0} (xs : List X) → (length xs == 0) ≡ true → xs ≡ []
 empty_of [] e = refl
 empty_of (x ∷ xs) e = absurd (let z : suc (length xs) ≡ 0 = eqb-true (suc (length xs)) 0 e in omega arith)
 
@@ -80,7 +80,7 @@ trees_made base names bs f es (Ok v) is read none h =
     (trees_of es, are_trees 0 bs es (subst (λ (xs : List (Bor Element)). AreRoots 0 bs xs) (sym is) (read.roots none)), h)
 trees_made base names bs f es (Err x) is read none h = tt
 
-pub found_below : (bs : List (List ℕ)) (f : Forest) (n : ℕ) → HasRead bs f → length bs ≤ n → All (λ x. x.place.page < n) f.found
+pub found_below : (bs : List (List ℕ)) (f : Forest) (n : ℕ) → HasRead bs f → length bs ≡ n → All (λ x. x.place.page < n) f.found
 found_below bs f n read few = subst (λ (xs : List Found). All (λ x. x.place.page < n) xs) (sym read.found) (faults_below 0 n bs (omega arith))
 
 each : (base : List ℕ) (names : List (List ℕ)) (f : Forest) (r : Result Outcome NoMemory) → ((bs : List (List ℕ)) → IsRead bs f → IfOk r (PagesComeTo base names bs))

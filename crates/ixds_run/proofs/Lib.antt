@@ -11,6 +11,7 @@ pub mod MemoryLaws
 pub mod Named
 pub mod NumberLaws
 pub mod OutcomeLaws
+pub mod PlainLaws
 pub mod ReadBackLaws
 pub mod ReadLaws
 pub mod RearrangedPages
@@ -18,3 +19,4 @@ pub mod ReportLaws
 pub mod SummaryLaws
 pub mod Taken
 pub mod TargetLaws
+pub mod VerdictLaws

@@ -1,12 +1,12 @@
 -- Pages that are added to a set one by one.
-use Rattle.std.proofs.Common.{◌≡◌, ◌⊎◌, inl, inr, ◌∙◌, ap, sym, refl, ℕ, ◌+◌, ◌<◌, ◌≤◌, min, List, [], ◌∷◌, ◌++◌, length, map, drop, get_or, append_assoc, append-nil, subst, arith, add-one}
+use Rattle.std.proofs.Common.{◌≡◌, ◌⊎◌, inl, inr, ◌∙◌, ap, sym, refl, ℕ, ◌+◌, ◌<◌, ◌≤◌, min, List, [], ◌∷◌, ◌++◌, length, drop, get_or, append_assoc, append-nil, subst, arith, add-one}
 use Rattle.std.specs.Borrow.{Bor}
 use Rattle.std.proofs.Math.Seq.{drop-cons}
 use Rattle.std.proofs.lemmas.Bool.{cases_lt}
 use Rattle.std.proofs.lemmas.List.{drop_all}
 use Rattle.ix_base.specs.Located.{Paged}
 use Rattle.ix_base.specs.Sound.{IsSoundRoot}
-use Rattle.ix_base.specs.Trees.{Tree, tree_of}
+use Rattle.ix_base.specs.Trees.{tree_of}
 use Rattle.ix_base.specs.declared.tree.Element.{Element}
 use Rattle.targets.specs.Forest.{AreSoundRoots, paged, trees_of}
 

@@ -7,7 +7,7 @@ use Rattle.std.proofs.lemmas.List.{length-map, length-take}
 use Rattle.ix_base.specs.Calls.{listed}
 use Rattle.ix_base.specs.MemPages.{pages_asked, pages_calls, pages_failed, pages_faults, pages_numbers, pages_page}
 use Rattle.ix_base.specs.MemTargets.{sink_asked, sink_asked_len, sink_calls, sink_count, sink_faults, sink_most, sink_numbers, sink_room, sink_room_left, sink_targets}
-use Rattle.ix_base.specs.MemText.{text_calls, text_faults, text_numbers, text_room, text_taken}
+use Rattle.ix_base.specs.MemText.{text_calls, text_numbers, text_room, text_taken}
 use Rattle.ix_base.specs.Outside.{Begun, room_of}
 use Rattle.ix_base.specs.Slots.{target_at, targets_at}
 use Rattle.ix_base.specs.declared.memory.pages.MemPages.{MemPages}
@@ -15,15 +15,15 @@ use Rattle.ix_base.specs.declared.memory.shelf.Slot.{Slot}
 use Rattle.ix_base.specs.declared.memory.targets.MemTargets.{MemTargets}
 use Rattle.ix_base.specs.declared.memory.text.MemText.{MemText}
 use Rattle.ixds_run.specs.Answers.{Answers}
-use Rattle.ixds_run.specs.CommandBytes.{AreSome, bytes_told}
+use Rattle.ixds_run.specs.CommandBytes.{bytes_told}
 use Rattle.ixds_run.specs.Commands.{number_of, pages_of}
 use Rattle.ixds_run.specs.Deliveries.{Gives, GivesFront, GivesPart}
-use Rattle.ixds_run.specs.Gains.{IsCut, Words}
+use Rattle.ixds_run.specs.Gains.{IsCut}
 use Rattle.ixds_run.specs.InMemory.{AreFit, memory_outside}
 use Rattle.ixds_run.specs.Reading.{IsAmong}
 use Rattle.ixds_run.specs.Sources.{told, told_both}
 use Rattle.ixds_run.specs.declared.command.Command.{Command}
-use Rattle.ixds_run.specs.declared.command.Command.TheVariants.{Extract, Check, Sample}
+use Rattle.ixds_run.specs.declared.command.Command.TheVariants.{Extract, Check, Sample, Plain}
 use Rattle.ixds_run.specs.declared.status.Status.{Status}
 use Rattle.ixds_run.specs.declared.status.Status.TheVariants.{Done, Broken, Usage, ReadFault, WriteFault, NoMemory}
 use Rattle.ixds_run.proofs.HeldLaws.{some_is}
@@ -121,6 +121,7 @@ module _ (c : Command) (bs : List (List ℕ)) (p p' : MemPages) (s s' : MemTarge
   no-fault (Check base names) name all among failed page numbers same rose = absent names name all among failed page numbers
   no-fault (Sample number) name all among failed page numbers same rose =
       let level : pages_faults p' ≡ pages_faults p = ap pages_faults same in omega arith
+  no-fault (Plain page) name all among failed page_same numbers same rose = absent (page ∷ []) name all among failed page_same numbers
 
   -- the text doesn't run out of room
   room-left : GivesFront (Some (sink_targets s)) (Some (sink_targets s')) (Some (text_taken t)) (Some (text_taken t')) c bs

@@ -1,5 +1,5 @@
 -- Pages have one outcome.
-use Rattle.std.proofs.Common.{◌≡◌, ◌∙◌, ap, sym, subst, ℕ, suc, true, false, List, [], ◌∷◌, ◌++◌, All, map, filter, Option, Some, None, Result, Ok, inl, inr, refl}
+use Rattle.std.proofs.Common.{◌≡◌, ◌∙◌, ap, sym, subst, ℕ, suc, Bool, true, false, List, [], ◌∷◌, ◌++◌, All, map, filter, Option, Some, None, Result, Ok, inl, inr, refl}
 use Rattle.std.specs.List.{flat_map}
 use Rattle.std.proofs.lemmas.List.Elements.{All-head, All-tail}
 use Rattle.ix_base.specs.Asks.{Asks, asks}
@@ -11,6 +11,7 @@ use Rattle.ix_base.specs.declared.breach.Found.{Found}
 use Rattle.ix_base.specs.declared.content.Content.{Content}
 use Rattle.ix_base.specs.declared.content.Item.{Item}
 use Rattle.ix_base.specs.declared.rule.Rule.{Rule}
+use Rattle.ix_base.specs.declared.rule.Rule.TheVariants.{P1}
 use Rattle.ix_base.proofs.SaidLaws.{same-facts}
 use Rattle.facts.specs.ItemValue.{IsItem}
 use Rattle.instance_out.specs.Arranged.{arranged}
@@ -25,15 +26,24 @@ use Rattle.targets.specs.TargetFacts.{AreFacts, members_read, one_less}
 use Rattle.targets.specs.declared.outcome.Outcome.{Outcome}
 use Rattle.targets.specs.declared.outcome.Outcome.TheVariants.{Broken, Whole}
 use Rattle.targets.specs.declared.outcome.Target.{Target}
-use Rattle.ixds_run.specs.Commands.{base_of, dir_of, number_of, pages_of}
+use Rattle.ixds_run.specs.Commands.{dir_of, number_of, pages_of}
+use Rattle.ixds_run.specs.Sample.{sample_base}
+use Rattle.ixds_run.specs.Verdicts.{IsOfSet, IsShown, IsShownBy, PagesMake, Reports, verdict_of}
 use Rattle.ixds_run.specs.DueOutcomes.{DueOutcome, IsOutcome, due_of, targets_under, text_of}
+use Rattle.page_plain.specs.Bare.{is_inline}
 use Rattle.targets.specs.Breaches.{PagesComeTo, fault_row, on_page, text_faults}
 use Rattle.ixds_run.specs.Texts.{breach_line}
 use Rattle.ixds_run.specs.declared.command.Command.{Command}
+use Rattle.ixds_run.specs.declared.command.Command.TheVariants.{Extract, Check, Sample, Plain}
+use Rattle.ixds_run.specs.declared.verdict.Verdict.{Verdict}
 use Rattle.ixds_run.specs.declared.status.Status.TheVariants as status
 
+-- what is due of what a set comes to
+abbrev due_at : Option (List ℕ) → Option ℕ → Outcome → DueOutcome
+due_at dir number o = due_of dir number (verdict_of o)
+
 -- what is due of a report is due of its lines
-same_report : (dir : Option (List ℕ)) (number : Option ℕ) (names : List (List ℕ)) (found : List Found) (o p : Outcome) → IsReport names found o → IsReport names found p → due_of dir number o ≡ due_of dir number p
+same_report : (dir : Option (List ℕ)) (number : Option ℕ) (names : List (List ℕ)) (found : List Found) (o p : Outcome) → IsReport names found o → IsReport names found p → due_at dir number o ≡ due_at dir number p
 same_report dir number names found (Broken r) (Broken s) h k =
     ap (λ (ls : List Breach). record { status = status.Broken; text = flat_map breach_line ls; targets = [] }) (h ∙ sym k)
 same_report dir number names found (Broken r) (Whole ts) h k = absurd k
@@ -41,8 +51,8 @@ same_report dir number names found (Whole ts) p h k = absurd h
 
 -- what is due of the first of some reports is due of it, or of what follows where there is nothing to report
 same_first : (dir : Option (List ℕ)) (number : Option ℕ) (names : List (List ℕ)) (found : List Found) (Else : Outcome → Type 0)
-    → ((o p : Outcome) → Else o → Else p → due_of dir number o ≡ due_of dir number p)
-    → (o p : Outcome) → FirstOf names found Else o → FirstOf names found Else p → due_of dir number o ≡ due_of dir number p
+    → ((o p : Outcome) → Else o → Else p → due_at dir number o ≡ due_at dir number p)
+    → (o p : Outcome) → FirstOf names found Else o → FirstOf names found Else p → due_at dir number o ≡ due_at dir number p
 same_first dir number names found Else same o p (inl (some, report)) (inl (some', report')) = same_report dir number names found o p report report'
 same_first dir number names found Else same o p (inl (some, report)) (inr (empty, more)) = absurd (some empty)
 same_first dir number names found Else same o p (inr (empty, more)) (inl (some, report)) = absurd (some empty)
@@ -141,24 +151,24 @@ module _
         let rest = same_targets bases es ts us names (All-tail P t ts h) (All-tail P u us k) in
         λ i. record { name = name i; content = content i } ∷ rest i
 
-    same_whole : (dir : Option (List ℕ)) (number : Option ℕ) (s : PageSet) (o p : Outcome) → ComesToTargets s o → ComesToTargets s p → due_of dir number o ≡ due_of dir number p
+    same_whole : (dir : Option (List ℕ)) (number : Option ℕ) (s : PageSet) (o p : Outcome) → ComesToTargets s o → ComesToTargets s p → due_at dir number o ≡ due_at dir number p
     same_whole dir number s (Broken r) p h k = absurd h
     same_whole dir number s (Whole ts) (Broken r) h k = absurd k
     same_whole dir number s (Whole ts) (Whole us) h k =
         ap (λ (xs : List Target). record { status = status.Done; text = text_of number xs; targets = targets_under dir xs })
         (same_targets (base_at s) (elements s) ts us (h.names ∙ sym k.names) h.contents k.contents)
 
-    same_valued : (dir : Option (List ℕ)) (number : Option ℕ) (s : PageSet) (o p : Outcome) → ComesOfValues s o → ComesOfValues s p → due_of dir number o ≡ due_of dir number p
+    same_valued : (dir : Option (List ℕ)) (number : Option ℕ) (s : PageSet) (o p : Outcome) → ComesOfValues s o → ComesOfValues s p → due_at dir number o ≡ due_at dir number p
     same_valued dir number s o p (found, are, first) (more, are', first') =
         let e : more ≡ found = same_broken (IsItem (base_at s) (asked s)) (says (base_at s) (asked s)) (filter is_item (elements s)) more found are' are in
         same_first dir number (names_of s) found (ComesToTargets s) (same_whole dir number s) o p first (subst (λ (xs : List Found). FirstOf (names_of s) xs (ComesToTargets s) p) e first')
 
-    same_set : (dir : Option (List ℕ)) (number : Option ℕ) (s : PageSet) (o p : Outcome) → ComesTo s o → ComesTo s p → due_of dir number o ≡ due_of dir number p
+    same_set : (dir : Option (List ℕ)) (number : Option ℕ) (s : PageSet) (o p : Outcome) → ComesTo s o → ComesTo s p → due_at dir number o ≡ due_at dir number p
     same_set dir number s =
         same_first dir number (names_of s) (element_faults s) (FirstOf (names_of s) (link_faults s) (ComesOfValues s))
         (same_first dir number (names_of s) (link_faults s) (ComesOfValues s) (same_valued dir number s))
 
-    same_saying : (dir : Option (List ℕ)) (number : Option ℕ) (base : List ℕ) (names bs : List (List ℕ)) (o p : Outcome) → PagesComeTo base names bs o → PagesComeTo base names bs p → due_of dir number o ≡ due_of dir number p
+    same_saying : (dir : Option (List ℕ)) (number : Option ℕ) (base : List ℕ) (names bs : List (List ℕ)) (o p : Outcome) → PagesComeTo base names bs o → PagesComeTo base names bs p → due_at dir number o ≡ due_at dir number p
     same_saying dir number base names bs o p (inl (rule, set, report)) (inl (other, set', report')) =
         let z : other ≡ rule = cc in
         same_report dir number names (on_page 0 0 rule ∷ []) o p report (subst (λ (r : Rule). IsReport names (on_page 0 0 r ∷ []) p) z report')
@@ -171,6 +181,43 @@ module _
         same_set dir number (record { base = base; pages = paged names ts }) o p made
         (subst (λ (xs : List Tree). ComesTo (page_set base names xs) p) (one_trees bs us ts trees' trees) made')
 
+    -- reports of the same breaches
+    same_reports : (dir : Option (List ℕ)) (number : Option ℕ) (names : List (List ℕ)) (found : List Found) (v w : Verdict) → Reports names found v → Reports names found w
+        → due_of dir number v ≡ due_of dir number w
+    same_reports dir number names found v w (o, report, is) (p, report', is') =
+        ap (due_of dir number) is ∙ same_report dir number names found o p report report' ∙ sym (ap (due_of dir number) is')
+
+    same_root : (dir : Option (List ℕ)) (number : Option ℕ) (b : Bool) (names : List (List ℕ)) (root : Tree) (v w : Verdict) → IsShownBy b names root v → IsShownBy b names root w
+        → due_of dir number v ≡ due_of dir number w
+    same_root dir number true names root v w h k = same_reports dir number names (on_page 0 root.head.offset P1 ∷ []) v w h k
+    same_root dir number false names root v w h k = ap (due_of dir number) (h ∙ sym k)
+
+    same_shown : (dir : Option (List ℕ)) (number : Option ℕ) (names bs : List (List ℕ)) (v w : Verdict) → IsShown names bs v → IsShown names bs w → due_of dir number v ≡ due_of dir number w
+    same_shown dir number names bs v w (inl (rule, set, report)) (inl (other, set', report')) =
+        let z : other ≡ rule = cc in
+        same_reports dir number names (on_page 0 0 rule ∷ []) v w report (subst (λ (r : Rule). Reports names (on_page 0 0 r ∷ []) w) z report')
+    same_shown dir number names bs v w (inl (rule, set, report)) (inr (kept, more)) = absurd (let z = kept in cc)
+    same_shown dir number names bs v w (inr (kept, more)) (inl (rule, set, report)) = absurd (let z = kept in cc)
+    same_shown dir number names bs v w (inr (kept, inl (some, report))) (inr (kept', inl (some', report'))) = same_reports dir number names (text_faults 0 bs) v w report report'
+    same_shown dir number names bs v w (inr (kept, inl (some, report))) (inr (kept', inr (root, trees, shown))) = absurd (some (no_faults 0 bs (root ∷ []) trees))
+    same_shown dir number names bs v w (inr (kept, inr (root, trees, shown))) (inr (kept', inl (some, report))) = absurd (some (no_faults 0 bs (root ∷ []) trees))
+    same_shown dir number names bs v w (inr (kept, inr (root, trees, shown))) (inr (kept', inr (other, trees', shown'))) =
+        let same : other ∷ [] ≡ root ∷ [] = one_trees bs (other ∷ []) (root ∷ []) trees' trees in
+        let z : other ≡ root = cc in
+        same_root dir number (is_inline root.head.name) names root v w shown (subst (λ (t : Tree). IsShownBy (is_inline t.head.name) names t w) z shown')
+
+    same_of_set : (dir : Option (List ℕ)) (number : Option ℕ) (base : List ℕ) (names bs : List (List ℕ)) (v w : Verdict) → IsOfSet base names bs v → IsOfSet base names bs w
+        → due_of dir number v ≡ due_of dir number w
+    same_of_set dir number base names bs v w (o, says, is) (p, says', is') =
+        ap (due_of dir number) is ∙ same_saying dir number base names bs o p says says' ∙ sym (ap (due_of dir number) is')
+
+    same_made : (dir : Option (List ℕ)) (number : Option ℕ) (c : Command) (names bs : List (List ℕ)) (v w : Verdict) → PagesMake c names bs v → PagesMake c names bs w
+        → due_of dir number v ≡ due_of dir number w
+    same_made dir number (Extract base to pages) names bs v w h k = same_of_set dir number base names bs v w h k
+    same_made dir number (Check base pages) names bs v w h k = same_of_set dir number base names bs v w h k
+    same_made dir number (Sample facts) names bs v w h k = same_of_set dir number sample_base names bs v w h k
+    same_made dir number (Plain page) names bs v w h k = same_shown dir number names bs v w h k
+
     pub outcome_one : (c : Command) (bs : List (List ℕ)) (due other : DueOutcome) → IsOutcome c bs due → IsOutcome c bs other → due ≡ other
     outcome_one c bs due other h k =
-        h.is.due_is ∙ same_saying (dir_of c) (number_of c) (base_of c) (pages_of c) bs h.outcome k.outcome h.is.says k.is.says ∙ sym k.is.due_is
+        h.is.due_is ∙ same_made (dir_of c) (number_of c) c (pages_of c) bs h.verdict k.verdict h.is.makes k.is.makes ∙ sym k.is.due_is

@@ -1,5 +1,5 @@
 -- Pages that are handed over in another order say the same.
-use Rattle.std.proofs.Common.{◌≡◌, ◌≢◌, ◌∙◌, ◌++◌, ◌+◌, ap, inl, inr, refl, subst, sym, ⊎_elim, ℕ, suc, Bool, true, false, List, [], ◌∷◌, length, map, Option, Some, None, arith}
+use Rattle.std.proofs.Common.{◌≡◌, ◌≢◌, ◌∙◌, ◌++◌, ◌+◌, ◌<◌, ap, inl, inr, refl, subst, sym, ⊎_elim, ℕ, suc, Bool, true, false, List, [], ◌∷◌, length, map, Option, Some, None, arith}
 use Rattle.std.specs.Prelude.{nat_lt, if◌then◌else◌}
 use Rattle.std.specs.List.Sorted.{IsPermutation}
 use Rattle.std.proofs.lemmas.List.Sorted.{IsPermutation-append, IsPermutation-append_comm, IsPermutation-cons, IsPermutation-refl}
@@ -19,7 +19,13 @@ use Rattle.targets.specs.declared.outcome.Outcome.TheVariants.{Broken, Whole}
 use Rattle.targets.specs.Forest.{AreTrees, page_set, paged}
 use Rattle.targets.specs.SetOutcomes.{IsReport, ComesTo}
 use Rattle.targets.specs.Breaches.{PagesComeTo, size_rule, tags_in, all_tags_in, bytes_in, fault_row, on_page, set_rule, text_fault, text_faults}
-use Rattle.ixds_run.specs.Rearrangement.{Handed, names_of, bytes_of}
+use Rattle.ixds_run.specs.Commands.{pages_of, with_pages}
+use Rattle.ixds_run.specs.Rearrangement.{Handed, IsRearranged, names_of, bytes_of}
+use Rattle.ixds_run.specs.Sample.{sample_base}
+use Rattle.ixds_run.specs.Verdicts.{CommandMakes, IsShown, PagesMake}
+use Rattle.ixds_run.specs.declared.command.Command.{Command}
+use Rattle.ixds_run.specs.declared.command.Command.TheVariants.{Extract, Check, Sample, Plain}
+use Rattle.ixds_run.specs.declared.verdict.Verdict.{Verdict}
 use Rattle.ixds_run.proofs.SoundPages.{sound_pages}
 use Rattle.targets.proofs.Exchanged.{exchanged, numbered, said_at, swap_at}
 use Rattle.targets.proofs.FaultsMoved.{found_moved}
@@ -129,3 +135,41 @@ module _ (sound : (b : List ℕ) (n : ℕ) (t : Tree) → page b n t → IsSound
 
     pub says-rearranged : (ps qs : List Handed) → IsPermutation ps qs → Say ps → Say qs
     says-rearranged ps qs m h = by_exchanges Say says-exchanged ps qs m h
+
+  -- a page that is shown is alone
+  two-at-least : (front back : List Handed) (a b : Handed) → 1 < length (names_of (front ++ a ∷ b ∷ back))
+  two-at-least [] back a b = omega arith
+  two-at-least (p ∷ front) back a b = let more = two-at-least front back a b in omega arith
+
+  pages-made : (c : Command) (v : Verdict) (ps qs : List Handed) → IsPermutation ps qs → pages_of (with_pages c (names_of ps)) ≡ names_of ps
+      → pages_of (with_pages c (names_of qs)) ≡ names_of qs → PagesMake c (names_of ps) (bytes_of ps) v → PagesMake c (names_of qs) (bytes_of qs) v
+  pages-made (Extract base dir pages) v ps qs m own other (o, says, is) = (o, says-rearranged base o ps qs m says, is)
+  pages-made (Check base pages) v ps qs m own other (o, says, is) = (o, says-rearranged base o ps qs m says, is)
+  pages-made (Sample number) v ps qs m own other (o, says, is) = (o, says-rearranged sample_base o ps qs m says, is)
+  pages-made (Plain page) v ps qs m own other shown =
+      by_exchanges (λ (xs : List Handed). page ∷ [] ≡ names_of xs → IsShown (names_of xs) (bytes_of xs) v)
+      (λ front back a b h one. absurd (let many = two-at-least front back b a in let z : 1 ≡ length (names_of (front ++ b ∷ a ∷ back)) = ap length one in omega arith))
+      ps qs m (λ e. shown) other
+
+  with-other : (c : Command) (names others bs : List (List ℕ)) (v : Verdict) → PagesMake c names bs v → PagesMake (with_pages c others) names bs v
+  with-other (Extract base dir pages) names others bs v h = h
+  with-other (Check base pages) names others bs v h = h
+  with-other (Sample number) names others bs v h = h
+  with-other (Plain page) names others bs v h = h
+
+  own-pages : (c : Command) (names : List (List ℕ)) → pages_of c ≡ names → pages_of (with_pages c names) ≡ names
+  own-pages (Extract base dir pages) names e = refl
+  own-pages (Check base pages) names e = refl
+  own-pages (Sample number) names e = e
+  own-pages (Plain page) names e = e
+
+  pub made-rearranged : (c d : Command) (bs cs : List (List ℕ)) (v : Verdict) → IsRearranged c bs d cs → CommandMakes c bs v → CommandMakes d cs v
+  made-rearranged c d bs cs v r h =
+      let named : PagesMake c (names_of r.pages) bs v = subst (λ (ns : List (List ℕ)). PagesMake c ns bs v) r.names h in
+      let here : PagesMake c (names_of r.pages) (bytes_of r.pages) v = subst (λ (xs : List (List ℕ)). PagesMake c (names_of r.pages) xs v) r.bytes named in
+      let there = pages-made c v r.pages r.others r.order (own-pages c (names_of r.pages) r.names) (ap pages_of (sym r.command) ∙ r.other_names) here in
+      let asked = with-other c (names_of r.others) (names_of r.others) (bytes_of r.others) v there in
+      let asked-by : PagesMake d (names_of r.others) (bytes_of r.others) v
+      = subst (λ (k : Command). PagesMake k (names_of r.others) (bytes_of r.others) v) (sym r.command) asked in
+      subst (λ (ns : List (List ℕ)). PagesMake d ns cs v) (sym r.other_names)
+      (subst (λ (xs : List (List ℕ)). PagesMake d (names_of r.others) xs v) (sym r.other_bytes) asked-by)

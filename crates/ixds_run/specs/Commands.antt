@@ -2,7 +2,7 @@
 use Rattle.std.specs.Prelude.{◌≡◌, ℕ, ◌<◌, ◌≤◌, true, false, All, IfSome, ◌&&◌, nat_lt, List, [], ◌∷◌, length, bytes_eq, codes, Option, Some, None, option_and_then, option_map, if◌then◌else◌}
 use Rattle.clap.specs.Walk.{Row, all_of, first_of}
 use Rattle.ixds_run.specs.declared.command.Command.{Command}
-use Rattle.ixds_run.specs.declared.command.Command.TheVariants.{Extract, Check, Sample}
+use Rattle.ixds_run.specs.declared.command.Command.TheVariants.{Extract, Check, Sample, Plain}
 use Rattle.ixds_run.specs.Bases.{is_base}
 use Rattle.ixds_run.specs.Names.{are_pages, has_repeat}
 use Rattle.ixds_run.specs.Sample.{sample_base, sample_names, sample_number}
@@ -32,12 +32,18 @@ abbrev pub sample_in : List (List ℕ) → Option Command
 sample_in (number ∷ []) = option_map Sample (sample_number number)
 sample_in words = None
 
--- the first word picks the command, whose simple command reads the words from there on, but for a sample
+-- the page that the words behind `plain` ask for: one name
+abbrev pub plain_in : List (List ℕ) → Option Command
+plain_in (page ∷ []) = if are_pages (page ∷ []) then Some (Plain page) else None
+plain_in words = None
+
+-- the first word picks the command, whose simple command reads the words from there on, but for a sample and a plain page
 abbrev pub command_by : List ℕ → List (List ℕ) → Option Command
 command_by first rest =
     if bytes_eq first (codes "extract") then option_and_then extract_in (rows_taken extract_app (first ∷ rest))
     else (if bytes_eq first (codes "check") then option_and_then check_in (rows_taken check_app (first ∷ rest))
-    else (if bytes_eq first (codes "sample") then sample_in rest else None))
+    else (if bytes_eq first (codes "sample") then sample_in rest
+    else (if bytes_eq first (codes "plain") then plain_in rest else None)))
 
 -- the command that the words give, where they give one
 unfoldable pub command_of : List (List ℕ) → Option Command
@@ -49,23 +55,35 @@ abbrev pub pages_of : Command → List (List ℕ)
 pages_of (Extract base dir pages) = pages
 pages_of (Check base pages) = pages
 pages_of (Sample number) = sample_names
+pages_of (Plain page) = page ∷ []
 
-abbrev pub base_of : Command → List ℕ
-base_of (Extract base dir pages) = base
-base_of (Check base pages) = base
-base_of (Sample number) = sample_base
+-- the base that links are joined to, where the command has one
+abbrev pub base_of : Command → Option (List ℕ)
+base_of (Extract base dir pages) = Some base
+base_of (Check base pages) = Some base
+base_of (Sample number) = Some sample_base
+base_of (Plain page) = None
 
 -- the directory word, where the command has one
 abbrev pub dir_of : Command → Option (List ℕ)
 dir_of (Extract base dir pages) = Some dir
 dir_of (Check base pages) = None
 dir_of (Sample number) = None
+dir_of (Plain page) = None
 
 -- how many facts a sample has, whose pages are made and not read
 abbrev pub number_of : Command → Option ℕ
 number_of (Extract base dir pages) = None
 number_of (Check base pages) = None
 number_of (Sample number) = Some number
+number_of (Plain page) = None
+
+-- the same command over other pages, where it names pages; a plain page stays the one that it is
+abbrev pub with_pages : Command → List (List ℕ) → Command
+with_pages (Extract base dir pages) others = Extract base dir others
+with_pages (Check base pages) others = Check base others
+with_pages (Sample number) others = Sample number
+with_pages (Plain page) others = Plain page
 
 -- Names of pages as a command has them: few enough, none too long for a source, and none twice.
 pub record AreNames (names : List (List ℕ)) : Type 0 where
@@ -74,10 +92,10 @@ pub record AreNames (names : List (List ℕ)) : Type 0 where
   pub short : All (λ n. length n ≤ 4096) names
   pub once : has_repeat names ≡ false
 
--- A command as words give it: its base is a URL of the web, its directory word isn't empty, its pages can be asked for, and a sample
+-- A command as words give it: a base is a URL of the web, its directory word isn't empty, its pages can be asked for, and a sample
 -- has from 1 to 200000 facts.
 pub record IsGiven (c : Command) : Type 0 where
-  pub base : is_base (base_of c) ≡ true
+  pub base : IfSome (base_of c) (λ b. is_base b ≡ true)
   pub dir : IfSome (dir_of c) (λ d. 0 < length d)
   pub pages : AreNames (pages_of c)
   pub number : IfSome (number_of c) (λ n. (1 ≤ n) × (n ≤ 200000))

@@ -1,21 +1,21 @@
 -- What a command has due: a status, a text for `out`, and targets.
-use Rattle.std.specs.Prelude.{◌≡◌, ℕ, true, List, [], ◌∷◌, All, length, map, Option, Some, None, if◌then◌else◌}
+use Rattle.std.specs.Prelude.{◌≡◌, ℕ, true, IsTrue, List, [], ◌∷◌, All, length, map, Option, Some, None, if◌then◌else◌}
 use Rattle.std.specs.List.{concat, flat_map}
 use Rattle.ix_base.specs.Forms.{is_empty}
 use Rattle.ix_base.specs.Outside.{Begun}
 use Rattle.instance_out.specs.Canonical.{canon, canon_lines}
 use Rattle.instance_out.specs.Theorem.{IsReadBack}
-use Rattle.ixds_run.specs.Commands.{base_of, dir_of, number_of, pages_of}
+use Rattle.ixds_run.specs.Commands.{dir_of, number_of}
 use Rattle.ixds_run.specs.Rearrangement.{IsRearranged}
 use Rattle.ixds_run.specs.Summary.{summary_of}
 use Rattle.ixds_run.specs.Texts.{breach_line, sample_text}
 use Rattle.ixds_run.specs.declared.command.Command.{Command}
 use Rattle.ixds_run.specs.declared.status.Status.{Status}
 use Rattle.ixds_run.specs.declared.status.Status.TheVariants as status
-use Rattle.targets.specs.declared.outcome.Outcome.{Outcome}
-use Rattle.targets.specs.declared.outcome.Outcome.TheVariants.{Broken, Whole}
+use Rattle.ixds_run.specs.Verdicts.{CommandMakes, is_report}
+use Rattle.ixds_run.specs.declared.verdict.Verdict.{Verdict}
+use Rattle.ixds_run.specs.declared.verdict.Verdict.TheVariants.{Reported, Extracted, Printed}
 use Rattle.targets.specs.declared.outcome.Target.{Target}
-use Rattle.targets.specs.Breaches.{PagesComeTo}
 
 -- what a command has due: a status, a text, and targets, each as it stands when it is finished
 pub record DueOutcome : Type 0 where
@@ -51,30 +51,32 @@ text_of None ts = summary_of ts
 text_of (Some number) ts = sample_text number (summary_of ts) (default_len (map instance_lines ts))
 
 -- what is due of what pages come to, under this directory or none, and where this is the number of a sample
-abbrev pub due_of : Option (List ℕ) → Option ℕ → Outcome → DueOutcome
-due_of dir number (Broken report) = record { status = status.Broken; text = flat_map breach_line report.lines; targets = [] }
-due_of dir number (Whole ts) = record { status = status.Done; text = text_of number ts; targets = targets_under dir ts }
+abbrev pub due_of : Option (List ℕ) → Option ℕ → Verdict → DueOutcome
+due_of dir number (Reported report) = record { status = status.Broken; text = flat_map breach_line report.lines; targets = [] }
+due_of dir number (Extracted ts) = record { status = status.Done; text = text_of number ts; targets = targets_under dir ts }
+due_of dir number (Printed text) = record { status = status.Done; text = text; targets = [] }
 
 -- The instance of each target is read back: its bytes have a tree that denotes the content of the target, and none that denotes
 -- another.
-abbrev pub AreReadBack : Outcome → Type 0
-AreReadBack (Broken report) = Unit {0}
-AreReadBack (Whole ts) = All (λ t. IsReadBack (canon t.content) t.content) ts
+abbrev pub AreReadBack : Verdict → Type 0
+AreReadBack (Reported report) = Unit {0}
+AreReadBack (Extracted ts) = All (λ t. IsReadBack (canon t.content) t.content) ts
+AreReadBack (Printed text) = Unit {0}
 
--- this is due from a command whose pages have these bytes and say this
-pub record IsDue (outcome : Outcome) (c : Command) (bs : List (List ℕ)) (due : DueOutcome) : Type 0 where
-  pub says : PagesComeTo (base_of c) (pages_of c) bs outcome
-  pub due_is : due ≡ due_of (dir_of c) (number_of c) outcome
+-- this is due from a command whose pages have these bytes and come to this
+pub record IsDue (verdict : Verdict) (c : Command) (bs : List (List ℕ)) (due : DueOutcome) : Type 0 where
+  pub makes : CommandMakes c bs verdict
+  pub due_is : due ≡ due_of (dir_of c) (number_of c) verdict
 
--- What is due from a command whose pages have these bytes: what is due of what the pages say. It is due from the same command with its
+-- What is due from a command whose pages have these bytes: what is due of what they come to. It is due from the same command with its
 -- pages in any other order, too: the same status, the same text, the same bytes of each target. The bytes of each target denote exactly
 -- the content that the pages mark for it.
 pub record IsOutcome (c : Command) (bs : List (List ℕ)) (due : DueOutcome) : Type 0 where
-  pub outcome : Outcome
-  pub is : IsDue outcome c bs due
-  pub any_order : (d : Command) (cs : List (List ℕ)) → IsRearranged c bs d cs → IsDue outcome d cs due
-  pub read_back : AreReadBack outcome
+  pub verdict : Verdict
+  pub is : IsDue verdict c bs due
+  pub any_order : (d : Command) (cs : List (List ℕ)) → IsRearranged c bs d cs → IsDue verdict d cs due
+  pub read_back : AreReadBack verdict
 
 -- pages with these bytes break a rule, so that nothing of them is written
 abbrev pub HasBreach : Command → List (List ℕ) → Type 0
-HasBreach c bs = (targets : List Target) → ¬ PagesComeTo (base_of c) (pages_of c) bs (Whole targets)
+HasBreach c bs = (v : Verdict) → CommandMakes c bs v → IsTrue (is_report v)

@@ -1,12 +1,14 @@
 -- What is ready to be given, by the tables that hold it.
-use Rattle.std.specs.Prelude.{ℕ, Bool, true, false, List, [], map, Option, Some, None}
+use Rattle.std.specs.Prelude.{◌≡◌, ℕ, Bool, true, false, List, [], map, Option, Some, None}
 use Rattle.std.specs.List.{concat}
 use Rattle.ix_base.specs.Outside.{Begun}
 use Rattle.ixds_run.specs.declared.due.Due.{Due}
 use Rattle.ixds_run.specs.declared.due.DueTarget.{DueTarget}
 use Rattle.ixds_run.specs.declared.status.Status.{Status}
 use Rattle.ixds_run.specs.declared.status.Status.TheVariants as status
-use Rattle.ixds_run.specs.DueOutcomes.{DueOutcome, InstanceLines}
+use Rattle.ixds_run.specs.Commands.{dir_of}
+use Rattle.ixds_run.specs.declared.command.Command.{Command}
+use Rattle.ixds_run.specs.DueOutcomes.{DueOutcome, HasBreach, InstanceLines, IsOutcome}
 
 -- a target that is ready to be written, as it stands when it is finished
 abbrev pub ready : List ℕ → DueTarget → Begun
@@ -26,7 +28,12 @@ targets_due dir due = ready_under dir due.targets.items
 
 -- what is ready to be given
 abbrev pub outcome_of : Option (List ℕ) → Due → DueOutcome
-outcome_of dir due = record { status = status_of due.is_broken; text = due.text.items; targets = targets_due dir due }
+outcome_of dir due = record { status = status_of due.is_broken; text = due.text; targets = targets_due dir due }
 
 abbrev pub ready_lines : DueTarget → InstanceLines
 ready_lines t = record { name = t.name; lines = t.prepared }
+
+-- What is ready is due from a command whose pages have these bytes; where they break a rule, no target is.
+pub record IsDueFrom (c : Command) (bs : List (List ℕ)) (due : Due) : Type 0 where
+  pub outcome : IsOutcome c bs (outcome_of (dir_of c) due)
+  pub none : HasBreach c bs → due.targets.items ≡ []

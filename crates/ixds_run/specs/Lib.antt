@@ -16,3 +16,4 @@ pub mod Simple
 pub mod Sources
 pub mod Summary
 pub mod Texts
+pub mod Verdicts

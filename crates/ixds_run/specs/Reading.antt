@@ -1,5 +1,5 @@
 -- Reading pages one behind another, each piece by piece.
-use Rattle.std.specs.Prelude.{◌≡◌, ◌⊎◌, ℕ, suc, ◌+◌, ◌≤◌, ◌<◌, Bool, true, IsTrue, List, [], ◌∷◌, ◌++◌, length, Option, Some, None, IfSome, Result, Ok, Err}
+use Rattle.std.specs.Prelude.{◌≡◌, ◌⊎◌, ℕ, suc, ◌+◌, ◌≤◌, ◌<◌, Bool, IsTrue, List, [], ◌∷◌, ◌++◌, length, Option, Some, None, IfSome, Result, Ok, Err}
 use Rattle.std.specs.Borrow.{Bor}
 use Rattle.ix_base.specs.Elements.{pages_of}
 use Rattle.ix_base.specs.Trees.{tree_of}
@@ -93,7 +93,7 @@ pub record IsRead (bs : List (List ℕ)) (f : Forest) : Type 0 where
 
 -- As many pages as there are names were read, unless they break a size rule.
 abbrev pub IsSound : List (List ℕ) → Forest → Type 0
-IsSound names f = size_rule f.sums.bytes f.sums.tags ≡ None → (bs : List (List ℕ)) × HasRead bs f × (length bs ≤ length names)
+IsSound names f = size_rule f.sums.bytes f.sums.tags ≡ None → (bs : List (List ℕ)) × HasRead bs f × (length bs ≡ length names)
 
 -- The page that was asked for last is one of these. Those before it, where the source tells them, don't have more bytes than
 -- pages may have; and a source that tells any page tells them.

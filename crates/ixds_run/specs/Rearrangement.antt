@@ -1,7 +1,7 @@
 -- The same pages, handed over in another order.
 use Rattle.std.specs.Prelude.{◌≡◌, ℕ, List, map}
 use Rattle.std.specs.List.Sorted.{IsPermutation}
-use Rattle.ixds_run.specs.Commands.{base_of, dir_of, number_of, pages_of}
+use Rattle.ixds_run.specs.Commands.{pages_of, with_pages}
 use Rattle.ixds_run.specs.declared.command.Command.{Command}
 
 -- a page as it is handed over: its name and its bytes
@@ -24,6 +24,4 @@ pub record IsRearranged (c : Command) (bs : List (List ℕ)) (d : Command) (cs :
   pub other_names : pages_of d ≡ names_of others
   pub other_bytes : cs ≡ bytes_of others
   pub order : IsPermutation pages others
-  pub base : base_of d ≡ base_of c
-  pub dir : dir_of d ≡ dir_of c
-  pub number : number_of d ≡ number_of c
+  pub command : d ≡ with_pages c (names_of others)

@@ -3,7 +3,7 @@ ghost use Rattle.std.specs.Prelude.{◌≡◌, IfOk, IfSome, Some, map, option_a
 ghost use Rattle.ixds_run.specs.Commands as spec;
 ghost use Rattle.ixds_run.specs.Simple.{check_app, extract_app, rows_of_matches, rows_taken};
 
-use crate::sample::sample_names;
+use crate::sample::{SAMPLE_BASE, sample_names};
 use base::is_base;
 use clap::ArgMatches;
 use ix_base::{List, NoMemory, Text};
@@ -11,11 +11,13 @@ use names::are_pages;
 use number::sample_number;
 use simple::{check_words, extract_words, matched};
 use std::alloc::Global;
+use std::slice::from_ref;
 
 mod base;
 mod names;
 mod number;
 mod simple;
+
 /// What the words of a command line ask for.
 #[derive(Debug, Drop)]
 pub enum Command {
@@ -25,6 +27,8 @@ pub enum Command {
     Check(Text, List<Text>),
     /// To make a sample of so many facts, and to tell what extracting it would and how long its instance is.
     Sample(u32),
+    /// To print a page without its inline markup: the name of the page.
+    Plain(Text),
 }
 
 impl Command {
@@ -36,17 +40,19 @@ impl Command {
             Command::Extract(_, _, pages) => copied(alloc, pages.as_slice()),
             Command::Check(_, pages) => copied(alloc, pages.as_slice()),
             Command::Sample(_) => sample_names(alloc),
+            Command::Plain(page) => copied(alloc, from_ref(page)),
         }
     }
 
-    /// The base that links are joined to.
-    pub fn base(&self) -> &str
-        ensures { result.now ≡ spec.base_of self.now }
+    /// The base that links are joined to, where there is one.
+    pub fn base(&self) -> Option<&str>
+        ensures { option_map (λ s. s.now) result ≡ spec.base_of self.now }
     {
         match self {
-            Command::Extract(base, _, _) => base.as_str(),
-            Command::Check(base, _) => base.as_str(),
-            Command::Sample(_) => "http://sample.example/",
+            Command::Extract(base, _, _) => Some(base.as_str()),
+            Command::Check(base, _) => Some(base.as_str()),
+            Command::Sample(_) => Some(SAMPLE_BASE),
+            Command::Plain(_) => None,
         }
     }
 
@@ -58,6 +64,7 @@ impl Command {
             Command::Extract(_, dir, _) => Some(dir.as_str()),
             Command::Check(_, _) => None,
             Command::Sample(_) => None,
+            Command::Plain(_) => None,
         }
     }
 
@@ -69,6 +76,7 @@ impl Command {
             Command::Extract(_, _, _) => None,
             Command::Check(_, _) => None,
             Command::Sample(number) => Some(*number),
+            Command::Plain(_) => None,
         }
     }
 }
@@ -187,6 +195,19 @@ fn sample_in(words: &[Text]) -> Option<Command>
     }
 }
 
+/// The page that the words behind `plain` ask for.
+fn plain_in(alloc: Global, words: &[Text]) -> Result<Option<Command>, NoMemory>
+    ensures { IfOk result (λ r. r ≡ spec.plain_in words.now) }
+{
+    let [page] = words else {
+        return Ok(None);
+    };
+    if are_pages(words) {
+        return Ok(Some(Command::Plain(Text::of(alloc, page.as_str())?)));
+    }
+    Ok(None)
+}
+
 /// The command that the first word picks, and the words from there on give.
 #[tactic(auto, unfolding(crate::specs::Commands::command_of))]
 fn picked(alloc: Global, words: &[Text]) -> Result<Option<Command>, NoMemory>
@@ -203,6 +224,9 @@ fn picked(alloc: Global, words: &[Text]) -> Result<Option<Command>, NoMemory>
     }
     if first.as_str() == "sample" {
         return Ok(sample_in(rest));
+    }
+    if first.as_str() == "plain" {
+        return plain_in(alloc, rest);
     }
     Ok(None)
 }

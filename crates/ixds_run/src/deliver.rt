@@ -78,7 +78,7 @@ pub fn deliver<S: TargetSink, T: TextSink>(
     ensures either { (result ≡ status_of due.now.is_broken) ⊎ (result ≡ Status.WriteFault) }
     ensures targets { result ≡ status_of due.now.is_broken
         → GainsAll (targets_due (option_map (λ s. s.now) dir.entry) due.now) (S.targets sink.old) (S.targets sink.new) }
-    ensures text { result ≡ status_of due.now.is_broken → GainsText due.now.text.items (T.taken out.old) (T.taken out.new) }
+    ensures text { result ≡ status_of due.now.is_broken → GainsText due.now.text (T.taken out.old) (T.taken out.new) }
     ensures quiet { result ≡ status_of due.now.is_broken
         → (S.faults sink.new ≡ S.faults sink.old) × (T.faults out.new ≡ T.faults out.old) }
     ensures cause { result ≡ Status.WriteFault
@@ -92,14 +92,14 @@ pub fn deliver<S: TargetSink, T: TextSink>(
         (words_asked S.TargetSink sink.new) }
     ensures all { result ≡ Status.WriteFault → S.faults sink.new ≡ S.faults sink.old
         → GainsAll (targets_due (option_map (λ s. s.now) dir.entry) due.now) (S.targets sink.old) (S.targets sink.new)
-        × TextGainsFront due.now.text.items (T.taken out.old) (T.taken out.new) }
+        × TextGainsFront due.now.text (T.taken out.old) (T.taken out.new) }
     ensures no_dir { dir.entry ≡ None → sink.new ≡ sink.old }
     ensures none { due.now.targets.items ≡ [] → sink.new ≡ sink.old }
 {
     if put_due(due, dir, sink).is_err() {
         return Status::WriteFault;
     }
-    match out.put(due.text.as_slice()) {
+    match out.put(due.text.as_str().as_bytes()) {
         Ok(()) => due.status(),
         Err(_) => Status::WriteFault,
     }

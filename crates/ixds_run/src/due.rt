@@ -1,19 +1,20 @@
 //! What is due, ready to be given.
 ghost use Rattle.std.specs.Prelude.{◌≡◌, ◌<◌, [], List, ℕ, Option, All, IfOk, None, map, true, false};
 ghost use Rattle.instance_out.specs.Writable.{IsWritable};
-ghost use Rattle.targets.specs.SetOutcomes.{CanBeWritten};
-ghost use Rattle.targets.specs.declared.outcome.Outcome.TheVariants.{Broken, Whole};
 ghost use Rattle.ixds_run.specs.DueOutcomes.{instance_lines, default_len, due_of, text_of};
 ghost use Rattle.ixds_run.specs.DueTables.{ready_lines, outcome_of, status_of};
+ghost use Rattle.ixds_run.specs.Verdicts.{AreWritable};
+ghost use Rattle.ixds_run.specs.declared.verdict.Verdict.TheVariants.{Extracted, Printed, Reported};
 
 use crate::Status;
 use crate::lines::sample_text;
 use crate::report::lines_of;
 use crate::summary::summary;
+use crate::verdict::Verdict;
 use instance_out::{Prepared, prepare};
 use ix_base::{NoMemory, Report, Text};
 use std::alloc::Global;
-use targets::{Outcome, Target};
+use targets::Target;
 
 /// A target that is ready to be written.
 #[derive(Drop)]
@@ -27,7 +28,7 @@ pub struct DueTarget {
 pub struct Due {
     pub is_broken: bool,
     pub targets: Vec<DueTarget>,
-    pub text: Vec<u8>,
+    pub text: Text,
 }
 
 impl Due {
@@ -75,16 +76,16 @@ fn text_of(
     targets: &[Target],
     ready: &[DueTarget],
     number: Option<u32>,
-) -> Result<Vec<u8>, NoMemory>
+) -> Result<Text, NoMemory>
     requires { map ready_lines ready.now ≡ map instance_lines targets.now }
-    ensures { IfOk result (λ v. v.items ≡ text_of number targets.now) }
+    ensures { IfOk result (λ t. t ≡ text_of number targets.now) }
 {
     let summary = summary(alloc, targets)?;
     match number {
         None => Ok(summary),
         Some(number) => {
             let len = default_len(ready);
-            Ok(sample_text(alloc, number, summary.as_slice(), len)?)
+            sample_text(alloc, number, summary.as_str(), len)
         }
     }
 }
@@ -92,7 +93,7 @@ fn text_of(
 /// What is due of targets.
 fn due_of_targets(alloc: Global, targets: &[Target], number: Option<u32>) -> Result<Due, NoMemory>
     requires { All (λ t. IsWritable t.content) targets.now }
-    ensures due { IfOk result (λ due. (dir : Option (List ℕ)) → outcome_of dir due ≡ due_of dir number (Whole targets.now)) }
+    ensures due { IfOk result (λ due. (dir : Option (List ℕ)) → outcome_of dir due ≡ due_of dir number (Extracted targets.now)) }
     ensures whole { IfOk result (λ due. due.is_broken ≡ false) }
 {
     let ready = prepared(alloc, targets)?;
@@ -106,7 +107,7 @@ fn due_of_targets(alloc: Global, targets: &[Target], number: Option<u32>) -> Res
 
 /// What is due of a report.
 fn due_of_report(alloc: Global, report: &Report) -> Result<Due, NoMemory>
-    ensures due { IfOk result (λ due. (dir : Option (List ℕ)) → outcome_of dir due ≡ due_of dir None (Broken report.now)) }
+    ensures due { IfOk result (λ due. (dir : Option (List ℕ)) → outcome_of dir due ≡ due_of dir None (Reported report.now)) }
     ensures none { IfOk result (λ due. due.targets.items ≡ []) }
 {
     let text = lines_of(alloc, report)?;
@@ -117,14 +118,27 @@ fn due_of_report(alloc: Global, report: &Report) -> Result<Due, NoMemory>
     })
 }
 
+/// What is due of a text.
+fn due_of_text(alloc: Global, text: Text) -> Due
+    ensures due { (dir : Option (List ℕ)) (number : Option ℕ) → outcome_of dir result ≡ due_of dir number (Printed text) }
+    ensures whole { result.is_broken ≡ false }
+{
+    Due {
+        is_broken: false,
+        targets: Vec::new(alloc),
+        text,
+    }
+}
+
 /// What is due of what pages come to, where this is the number of a sample.
-pub fn ready(alloc: Global, outcome: &Outcome, number: Option<u32>) -> Result<Due, NoMemory>
-    requires { CanBeWritten outcome.now }
-    ensures due { IfOk result (λ due. (dir : Option (List ℕ)) → outcome_of dir due ≡ due_of dir number outcome.now) }
+pub fn ready(alloc: Global, verdict: Verdict, number: Option<u32>) -> Result<Due, NoMemory>
+    requires { AreWritable verdict }
+    ensures due { IfOk result (λ due. (dir : Option (List ℕ)) → outcome_of dir due ≡ due_of dir number verdict) }
     ensures none { IfOk result (λ due. due.is_broken ≡ true → due.targets.items ≡ []) }
 {
-    match outcome {
-        Outcome::Broken(report) => due_of_report(alloc, report),
-        Outcome::Whole(targets) => due_of_targets(alloc, targets.as_slice(), number),
+    match verdict {
+        Verdict::Reported(report) => due_of_report(alloc, &report),
+        Verdict::Extracted(targets) => due_of_targets(alloc, targets.as_slice(), number),
+        Verdict::Printed(text) => Ok(due_of_text(alloc, text)),
     }
 }

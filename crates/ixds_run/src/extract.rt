@@ -1,13 +1,12 @@
 //! A command, from its pages to its answer.
-ghost use Rattle.std.specs.Prelude.{◌≡◌, ◌⊎◌, ◌+◌, ◌^◌, ◌<◌, ◌≤◌, [], true, ℕ, IsTrue, List, IfOk, IfSome, None, Some};
+ghost use Rattle.std.specs.Prelude.{◌≡◌, ◌⊎◌, ◌+◌, ◌^◌, ◌<◌, [], true, ℕ, IsTrue, List, IfErr, IfOk, IfSome, None, OnOk, Some};
 ghost use Rattle.ix_base.specs.Outside.{TextGainsFront};
 ghost use Rattle.ixds_run.specs.Answers.{Answers, outside};
-ghost use Rattle.ixds_run.specs.Commands.{IsGiven, base_of, dir_of, pages_of};
-ghost use Rattle.ixds_run.specs.Gains.{GainsText, words_asked};
-ghost use Rattle.ixds_run.specs.Deliveries.{Gives, GivesFront, GivesPart};
-ghost use Rattle.ixds_run.specs.DueOutcomes.{IsOutcome, HasBreach};
-ghost use Rattle.ixds_run.specs.DueTables.{outcome_of};
-ghost use Rattle.ixds_run.specs.Reading.{IsRead, IsSound};
+ghost use Rattle.ixds_run.specs.CommandBytes.{AreSome, bytes_told};
+ghost use Rattle.ixds_run.specs.Commands.{IsGiven, number_of, pages_of};
+ghost use Rattle.ixds_run.specs.DueTables.{IsDueFrom};
+ghost use Rattle.ixds_run.specs.Gains.{GainsStarts, GainsText};
+ghost use Rattle.ixds_run.specs.Reading.{IsAmong, IsRead, IsSound, StopsInTime, WhyStopped};
 
 use crate::Status;
 use crate::command::Command;
@@ -15,8 +14,8 @@ use crate::deliver::deliver;
 use crate::due::{Due, ready};
 use crate::forest::{Forest, Stopped};
 use crate::gather::gathered;
-use crate::judge::judge;
 use crate::laws::{said_in_any_order, said_read_back};
+use crate::verdict::verdict_from;
 use bumpalo::Bump;
 use ix_base::{NoMemory, PageSource, TargetSink, TextSink};
 use std::alloc::Global;
@@ -30,63 +29,42 @@ fn due_from<'a>(
 ) -> Result<Due, NoMemory>
     requires given { IsGiven command.now }
     requires sound { IsSound (pages_of command.now) forest }
-    ensures due { IfOk result (λ due. (bs : List (List ℕ)) → IsRead bs forest.entry
-        → IsOutcome command.now bs (outcome_of (dir_of command.now) due)) }
+    ensures due { IfOk result (λ due. (bs : List (List ℕ)) → IsRead bs forest.entry → IsDueFrom command.now bs due) }
     ensures none { IfOk result (λ due. due.is_broken ≡ true → due.targets.items ≡ []) }
-    ensures nothing { IfOk result (λ due. (bs : List (List ℕ)) → IsRead bs forest.entry → HasBreach command.now bs
-        → due.targets.items ≡ []) }
 {
     said_read_back();
     said_in_any_order();
-    let names = command.names(alloc)?;
-    let outcome = judge(alloc, arena, command.base(), names.as_slice(), forest)?;
-    ready(alloc, &outcome, command.number())
+    let made = verdict_from(alloc, arena, command, forest)?;
+    ready(alloc, made, command.number())
 }
 
-/// Answers a command whose pages were read or made.
-pub fn answer<'a, S: TargetSink, T: TextSink>(
-    alloc: Global,
-    arena: &'a Bump,
-    command: &Command,
-    forest: Forest<'a>,
-    sink: &mut S,
-    out: &mut T,
-) -> Status
+/// Reads the command's pages, or makes them, and makes ready what is due of them.
+fn prepared<P: PageSource>(alloc: Global, command: &Command, pages: &mut P) -> Result<Due, Stopped>
     requires given { IsGiven command.now }
-    requires sound { IsSound (pages_of command.now) forest }
-    requires sink { S.faults sink.old + 1 < 2 ^ 64 }
-    requires out { T.faults out.old + 1 < 2 ^ 64 }
-    ensures other { ¬ (result ≡ Status.ReadFault) }
-    ensures usage { ¬ (result ≡ Status.Usage) }
-    ensures memory { result ≡ Status.NoMemory → (sink.new ≡ sink.old) × (out.new ≡ out.old) }
-    ensures done { result ≡ Status.Done → (bs : List (List ℕ)) → IsRead bs forest.entry
-        → Gives Status.Done (S.targets sink.old) (S.targets sink.new) (T.taken out.old) (T.taken out.new) command.now bs }
-    ensures broken { result ≡ Status.Broken → (bs : List (List ℕ)) → IsRead bs forest.entry
-        → Gives Status.Broken (S.targets sink.old) (S.targets sink.new) (T.taken out.old) (T.taken out.new) command.now bs }
-    ensures quiet { (result ≡ Status.Done) ⊎ (result ≡ Status.Broken)
-        → (S.faults sink.new ≡ S.faults sink.old) × (T.faults out.new ≡ T.faults out.old) }
-    ensures untouched { result ≡ Status.Broken → sink.new ≡ sink.old }
-    ensures check { dir_of command.now ≡ None → sink.new ≡ sink.old }
-    ensures nothing { (bs : List (List ℕ)) → IsRead bs forest.entry → HasBreach command.now bs → sink.new ≡ sink.old }
-    ensures numbers { (S.numbers sink.new ≡ S.numbers sink.old) × (T.numbers out.new ≡ T.numbers out.old) }
-    ensures cause { result ≡ Status.WriteFault
-        → (S.faults sink.old < S.faults sink.new) ⊎ (T.faults out.old < T.faults out.new) }
-    ensures last_text { result ≡ Status.WriteFault → S.faults sink.new ≡ S.faults sink.old → IsTrue (T.last_failed out.new) }
-    ensures last { result ≡ Status.WriteFault → S.faults sink.old < S.faults sink.new → IsTrue (S.last_failed sink.new) }
-    ensures part { result ≡ Status.WriteFault → S.faults sink.old < S.faults sink.new
-        → (out.new ≡ out.old) × ((bs : List (List ℕ)) → IsRead bs forest.entry
-        → GivesPart (S.targets sink.old) (S.targets sink.new) (words_asked S.TargetSink sink.new) command.now bs) }
-    ensures all { result ≡ Status.WriteFault → S.faults sink.new ≡ S.faults sink.old
-        → (bs : List (List ℕ)) → IsRead bs forest.entry
-        → GivesFront (S.targets sink.old) (S.targets sink.new) (T.taken out.old) (T.taken out.new) command.now bs }
+    requires count { P.faults pages.old + 1 < 2 ^ 64 }
+    ensures due { IfOk result (λ due. AreSome (bytes_told (P.page pages.old) command.now) (λ bs. IsDueFrom command.now bs due)) }
+    ensures none { IfOk result (λ due. due.is_broken ≡ true → due.targets.items ≡ []) }
+    ensures stops { OnOk result (number_of command.now ≡ None
+        → StopsInTime (P.page pages.old) (pages_of command.now) (P.left pages.new) (P.asked pages.new)) }
+    ensures ok { OnOk result (P.faults pages.new ≡ P.faults pages.old) }
+    ensures pages { P.page pages.new ≡ P.page pages.old }
+    ensures sample { IfSome (number_of command.now) (λ n. pages.new ≡ pages.old) }
+    ensures asked { (pages.new ≡ pages.old)
+        ⊎ ((name : List ℕ) × IsAmong (P.page pages.old) (pages_of command.now) (P.asked pages.new) name) }
+    ensures starts { GainsStarts (pages_of command.now) (P.starts pages.old) (P.starts pages.new) }
+    ensures stopped { IfErr result (λ why. WhyStopped (P.page pages.old) (pages_of command.now) (P.asked pages.new) (P.faults pages.old)
+        (P.faults pages.new) (P.last_failed pages.new) why) }
+    ensures numbers { P.numbers pages.new ≡ P.numbers pages.old }
 {
-    match due_from(alloc, arena, command, forest) {
-        Err(_) => Status::NoMemory,
-        Ok(due) => deliver(&due, command.dir(), sink, out),
+    let arena = Bump::new(alloc);
+    let forest = gathered(alloc, &arena, command, pages)?;
+    match due_from(alloc, &arena, command, forest) {
+        Ok(due) => Ok(due),
+        Err(_) => Err(Stopped::NoMemory),
     }
 }
 
-/// Reads the command's pages, or makes them, and answers it.
+/// Answers a command: reads its pages, or makes them, and then gives what is due of them.
 pub fn extract<P: PageSource, S: TargetSink, T: TextSink>(
     alloc: Global,
     command: &Command,
@@ -103,11 +81,10 @@ pub fn extract<P: PageSource, S: TargetSink, T: TextSink>(
         (outside P.PageSource S.TargetSink T.TextSink pages.new sink.new out.new)
         (pages.new ≡ pages.old) (sink.new ≡ sink.old) (out.new ≡ out.old) result }
 {
-    let arena = Bump::new(alloc);
-    match gathered(alloc, &arena, command, pages) {
+    match prepared(alloc, command, pages) {
         Err(Stopped::NoMemory) => Status::NoMemory,
         Err(Stopped::Failed(line)) => put_read_fault(line.as_slice(), out),
-        Ok(forest) => answer(alloc, &arena, command, forest, sink, out),
+        Ok(due) => deliver(&due, command.dir(), sink, out),
     }
 }
 

@@ -13,6 +13,7 @@ use crate::sample::sample_pages;
 use bumpalo::Bump;
 use ix_base::{NoMemory, PageSource};
 use std::alloc::Global;
+use std::slice::from_ref;
 
 /// Makes the pages of a sample of so many facts, and builds them.
 fn sampled<'a>(alloc: Global, arena: &'a Bump, facts: u32) -> Result<Forest<'a>, NoMemory>
@@ -50,6 +51,7 @@ pub fn gathered<'a, P: PageSource>(
     match command {
         Command::Extract(_, _, names) => read_all(alloc, arena, pages, names.as_slice()),
         Command::Check(_, names) => read_all(alloc, arena, pages, names.as_slice()),
+        Command::Plain(name) => read_all(alloc, arena, pages, from_ref(name)),
         Command::Sample(facts) => match sampled(alloc, arena, *facts) {
             Ok(forest) => Ok(forest),
             Err(_) => Err(Stopped::NoMemory),

@@ -20,7 +20,7 @@ use targets::Outcome;
 const MOST_TAGS: u64 = 8_388_608;
 
 /// The size rule that pages with these sums break.
-fn size_rule_of(sums: Sums) -> Option<Rule>
+pub fn size_rule_of(sums: Sums) -> Option<Rule>
     ensures { result ≡ size_rule sums.bytes sums.tags }
 {
     if sums.bytes > MOST_BYTES {
@@ -53,7 +53,7 @@ fn judge_kept<'a>(
 ) -> Result<Outcome, NoMemory>
     requires some { 0 < length names.now }
     requires most { length names.now ≤ 64 }
-    requires read { (bs : List (List ℕ)) × HasRead bs forest × (length bs ≤ length names.now) }
+    requires read { (bs : List (List ℕ)) × HasRead bs forest × (length bs ≡ length names.now) }
     ensures broken { (bs : List (List ℕ)) → HasRead bs forest.entry → text_faults 0 bs ≢ []
         → IfOk result (IsReport names.now (text_faults 0 bs)) }
     ensures made { (bs : List (List ℕ)) → HasRead bs forest.entry → text_faults 0 bs ≡ []

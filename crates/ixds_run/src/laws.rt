@@ -12,11 +12,13 @@ ghost use Rattle.ixds_run.specs.DueOutcomes.{AreReadBack, DueOutcome, IsOutcome}
 ghost use Rattle.targets.specs.Breaches.{PagesComeTo};
 ghost use Rattle.ixds_run.specs.Deliveries.{Gives};
 ghost use Rattle.ixds_run.specs.InMemory.{AreFit, memory_outside};
-ghost use Rattle.ixds_run.specs.Rearrangement.{Handed, bytes_of, names_of};
+ghost use Rattle.ixds_run.specs.Rearrangement.{Handed, IsRearranged, bytes_of, names_of};
 ghost use Rattle.ixds_run.specs.Texts.{breach_line};
 ghost use Rattle.ixds_run.specs.declared.command.Command.{Command};
 ghost use Rattle.ixds_run.specs.declared.status.Status.{Status};
 ghost use Rattle.ixds_run.specs.declared.status.Status.TheVariants.{NoMemory};
+ghost use Rattle.ixds_run.specs.declared.verdict.Verdict.{Verdict};
+ghost use Rattle.ixds_run.specs.Verdicts.{CommandMakes, PagesMake};
 ghost use Rattle.targets.specs.declared.outcome.Outcome.{Outcome};
 
 use facts::laws::one_item;
@@ -36,16 +38,18 @@ pub fn one_line()
 
 /// The targets that pages mark are read back: the bytes of each denote its content, and nothing else.
 pub fn said_read_back()
-    ensures { (base : List ℕ) (names bs : List (List ℕ)) (o : Outcome) → PagesComeTo base names bs o → AreReadBack o }
+    ensures { (c : Command) (names bs : List (List ℕ)) (v : Verdict) → PagesMake c names bs v → AreReadBack v }
 {
     sound_tree();
     read_back();
 }
 
-/// Pages that are handed over in another order say the same.
+/// Pages that are handed over in another order say the same: as a set under any base, and under each command that may have them.
 pub fn said_in_any_order()
-    ensures { (base : List ℕ) (o : Outcome) (pages others : List Handed) → IsPermutation pages others
+    ensures set { (base : List ℕ) (o : Outcome) (pages others : List Handed) → IsPermutation pages others
         → PagesComeTo base (names_of pages) (bytes_of pages) o → PagesComeTo base (names_of others) (bytes_of others) o }
+    ensures command { (c d : Command) (bs cs : List (List ℕ)) (v : Verdict) → IsRearranged c bs d cs
+        → CommandMakes c bs v → CommandMakes d cs v }
 {
     sound_tree();
 }

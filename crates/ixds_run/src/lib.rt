@@ -16,11 +16,13 @@ mod judge;
 pub mod laws;
 mod lines;
 mod made;
+mod plain;
 mod reading;
 mod report;
 mod sample;
 mod status;
 mod summary;
+mod verdict;
 
 pub use command::{Command, command_of};
 use extract::extract;

@@ -5,6 +5,9 @@ ghost use Rattle.ixds_run.specs.Sample as spec;
 use ix_base::{List, MemPage, NoMemory, Text};
 use std::alloc::Global;
 
+/// The base of the pages of a sample.
+pub(crate) const SAMPLE_BASE: &str = "http://sample.example/";
+
 /// The names of the pages of a sample.
 pub(crate) fn sample_names(alloc: Global) -> Result<Vec<Text>, NoMemory>
     ensures { IfOk result (λ v. v.items ≡ spec.sample_names) }

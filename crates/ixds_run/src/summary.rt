@@ -102,18 +102,17 @@ fn shown(name: &Text) -> &str
 }
 
 /// Adds a number and what is counted.
-fn push_count(alloc: Global, text: &mut Vec<u8>, count: usize, what: &str) -> Result<(), NoMemory>
-    ensures { OnOk result (text.new.items ≡ text.old.items ++ (decimal count ++ what.now)) }
+fn push_count(alloc: Global, text: &mut Text, count: usize, what: &str) -> Result<(), NoMemory>
+    ensures { OnOk result (text.new ≡ text.old ++ (decimal count ++ what.now)) }
 {
     let digits = count.to_string(alloc)?;
-    text.extend_from_slice(digits.as_bytes())?;
-    text.extend_from_slice(what.as_bytes())?;
-    Ok(())
+    text.push(digits.as_str())?;
+    text.push(what)
 }
 
 /// Adds how many items and tuples there are.
-fn push_facts(alloc: Global, text: &mut Vec<u8>, facts: &[Fact]) -> Result<(), NoMemory>
-    ensures { OnOk result (text.new.items ≡ text.old.items ++ facts_text (facts_of facts.now)) }
+fn push_facts(alloc: Global, text: &mut Text, facts: &[Fact]) -> Result<(), NoMemory>
+    ensures { OnOk result (text.new ≡ text.old ++ facts_text (facts_of facts.now)) }
 {
     let none = Counts {
         items: 0,
@@ -121,13 +120,12 @@ fn push_facts(alloc: Global, text: &mut Vec<u8>, facts: &[Fact]) -> Result<(), N
     };
     let counts = with_facts(none, facts)?;
     push_count(alloc, text, counts.items, " facts, ")?;
-    push_count(alloc, text, counts.tuples, " tuples, ")?;
-    Ok(())
+    push_count(alloc, text, counts.tuples, " tuples, ")
 }
 
 /// Adds how many contexts, units and footnotes a content has.
-fn push_others(alloc: Global, text: &mut Vec<u8>, content: &Content) -> Result<(), NoMemory>
-    ensures { OnOk result (text.new.items ≡ text.old.items ++ others_text content.now) }
+fn push_others(alloc: Global, text: &mut Text, content: &Content) -> Result<(), NoMemory>
+    ensures { OnOk result (text.new ≡ text.old ++ others_text content.now) }
 {
     let contexts = content.contexts.as_slice();
     let units = content.units.as_slice();
@@ -139,21 +137,20 @@ fn push_others(alloc: Global, text: &mut Vec<u8>, content: &Content) -> Result<(
 }
 
 /// Adds the line of a target.
-fn push_line(alloc: Global, text: &mut Vec<u8>, target: &Target) -> Result<(), NoMemory>
-    ensures { OnOk result (text.new.items ≡ text.old.items ++ summary_line target.now) }
+fn push_line(alloc: Global, text: &mut Text, target: &Target) -> Result<(), NoMemory>
+    ensures { OnOk result (text.new ≡ text.old ++ summary_line target.now) }
 {
-    text.extend_from_slice(shown(&target.name).as_bytes())?;
-    text.extend_from_slice(b": ")?;
+    text.push(shown(&target.name))?;
+    text.push(": ")?;
     push_facts(alloc, text, target.content.facts.as_slice())?;
-    push_others(alloc, text, &target.content)?;
-    Ok(())
+    push_others(alloc, text, &target.content)
 }
 
 /// The lines of targets.
-fn lines_of(alloc: Global, targets: &[Target]) -> Result<Vec<u8>, NoMemory>
-    ensures { IfOk result (λ v. v.items ≡ flat_map summary_line targets.now) }
+fn lines_of(alloc: Global, targets: &[Target]) -> Result<Text, NoMemory>
+    ensures { IfOk result (λ t. t ≡ flat_map summary_line targets.now) }
 {
-    let mut text = Vec::new(alloc);
+    let mut text = Text::of(alloc, "")?;
     for target in targets {
         push_line(alloc, &mut text, target)?;
     }
@@ -162,11 +159,11 @@ fn lines_of(alloc: Global, targets: &[Target]) -> Result<Vec<u8>, NoMemory>
 
 /// The lines of the summary.
 #[tactic(auto, unfolding(crate::specs::Summary::summary_of))]
-pub fn summary(alloc: Global, targets: &[Target]) -> Result<Vec<u8>, NoMemory>
-    ensures { IfOk result (λ v. v.items ≡ summary_of targets.now) }
+pub fn summary(alloc: Global, targets: &[Target]) -> Result<Text, NoMemory>
+    ensures { IfOk result (λ t. t ≡ summary_of targets.now) }
 {
     if targets.is_empty() {
-        return Ok(b"no targets\n".to_vec(alloc)?);
+        return Text::of(alloc, "no targets\n");
     }
     lines_of(alloc, targets)
 }

@@ -17,6 +17,7 @@ pub(crate) fn command_text(alloc: Global, words: &[Text]) -> Result<String> {
             push_pages(pages.as_slice(), &mut text)?;
         }
         Some(Command::Sample(number)) => write!(text, "sample|{number}")?,
+        Some(Command::Plain(page)) => write!(text, "plain|{}", page.as_str())?,
         None => text.push_str("none")?,
     }
     Ok(text)

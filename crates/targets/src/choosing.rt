@@ -46,8 +46,8 @@ pub(crate) fn choose_from<'a>(
     requires links { (names : ℕ → List ℕ) × AreLinks names index.old.spots links.now }
     requires first { first ≤ length index.old.spots }
     ensures spots { OnOk result ((index.new.spots ≡ index.old.spots) × (index.old.is_spent ≡ false → index.new.is_spent ≡ false)) }
-    ensures choices { (names : ℕ → List ℕ) → AreLinks names index.old.spots links.now → HasChoices names (take first index.old.spots) index.old
-        → OnOk result (HasChoices names index.old.spots index.new) }
+    ensures choices { (names : ℕ → List ℕ) → AreLinks names index.old.spots links.now
+        → HasChoices names (take first index.old.spots) index.old → OnOk result (HasChoices names index.old.spots index.new) }
 {
     for at in first..index.spots().len() {
         let spot = index.spots()[at];

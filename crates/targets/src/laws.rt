@@ -9,6 +9,8 @@ ghost use Rattle.ix_base.specs.Ids.{context_for, one, unit_for};
 ghost use Rattle.ix_base.specs.Located.{Located, Paged, is_kind, is_tuple};
 ghost use Rattle.ix_base.specs.Membership.{deepest, fact};
 ghost use Rattle.ix_base.specs.Sound.{IsSoundTree};
+ghost use Rattle.id_table.specs.Held.{AreChosen, Held, one_held};
+ghost use Rattle.targets.specs.Choices.{HasChoices};
 ghost use Rattle.targets.specs.Clean.{AreProper};
 ghost use Rattle.targets.specs.Contents.{SaysItem, context_at, unit_at};
 ghost use Rattle.targets.specs.SetOutcomes.{ComesTo, ComesToAlways};
@@ -27,13 +29,15 @@ pub fn sound_pages()
 /// too.
 pub fn links_go_on()
     ensures stay { (es more : List Located) → links (es ++ more) ≡ links es ++ links more }
-    ensures go_on { (names : ℕ → List ℕ) (es more : List Located) (l : Link) → GoesOn (link_stands names es l) (link_stands names (es ++ more) l) }
+    ensures go_on { (names : ℕ → List ℕ) (es more : List Located) (l : Link)
+        → GoesOn (link_stands names es l) (link_stands names (es ++ more) l) }
 {}
 
 /// A link is resolved with the one element that has its id, and with no other; it is pending where no element has the id, and doubled
 /// where several have it that don't agree.
 pub fn links_stand()
-    ensures resolved { (names : ℕ → List ℕ) (es : List Located) (l : Link) (e : Located) → link_stands names es l ≡ resolved e ↔ holder names es l ≡ Some e }
+    ensures resolved { (names : ℕ → List ℕ) (es : List Located) (l : Link) (e : Located)
+        → link_stands names es l ≡ resolved e ↔ holder names es l ≡ Some e }
     ensures pending { (names : ℕ → List ℕ) (es : List Located) (l : Link) → link_stands names es l ≡ pending ↔ is_pending es l ≡ true }
     ensures doubled { (names : ℕ → List ℕ) (es : List Located) (l : Link) → link_stands names es l ≡ doubled ↔ is_doubled es l ≡ true }
 {}
@@ -45,6 +49,13 @@ pub fn contents_of_the_one()
         → option_and_then context_at (if_such (is_kind kind.Context) (one names es id)) ≡ context_for es id }
     ensures unit { (names : ℕ → List ℕ) (es : List Located) (id : List ℕ)
         → option_and_then unit_at (if_such (is_kind kind.Unit) (one names es id)) ≡ unit_for es id }
+{}
+
+/// An index with the choices that a set makes gives for each id the one element with it; and these are the choices that its elements
+/// ask for, one for each id that several have that agree, and for no other.
+pub fn chosen_by_a_set()
+    ensures one { (names : ℕ → List ℕ) (h : Held) → HasChoices names h.spots h → (id : List ℕ) → one_held h id ≡ one names h.spots id }
+    ensures chosen { (names : ℕ → List ℕ) (h : Held) → HasChoices names h.spots h → AreChosen h }
 {}
 
 /// Where a function tells what items say, the facts of elements are those that it gives.

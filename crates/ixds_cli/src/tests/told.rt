@@ -89,7 +89,7 @@ fn a_person_is_told_what_failed(rt: HostRuntime) -> Result<(), Fail> {
 #[test]
 fn a_person_is_told_which_word_is_wrong(rt: HostRuntime) -> Result<(), Fail> {
     let alloc = rt.alloc();
-    let rows: [(&str, Option<&str>); 19] = [
+    let rows: [(&str, Option<&str>); 23] = [
         ("check --base http://a/ a", None),
         ("sample 3", None),
         ("", Some(" is no command")),
@@ -133,6 +133,10 @@ fn a_person_is_told_which_word_is_wrong(rt: HostRuntime) -> Result<(), Fail> {
             "check --base http://a/ a\u{1b} b",
             Some("no page can be named a?"),
         ),
+        ("plain --help", None),
+        ("plain", Some("plain takes one page, and no options")),
+        ("plain a b", Some("plain takes one page, and no options")),
+        ("plain a\u{1b}", Some("no page can be named a?")),
     ];
     for (line, due) in rows {
         let mut words = Vec::new(alloc);

@@ -4,4 +4,4 @@ use Rattle.ixds_run.specs.Summary.{summary_line}
 use Rattle.ixds_run.proofs.summary.lines_of.Given as goal
 
 abbrev pub invariant-loop-target : goal.invariant-loop-target
-invariant-loop-target l = l.text.items ≡ flat_map summary_line (take l.target-index l.targets)
+invariant-loop-target l = l.text ≡ flat_map summary_line (take l.target-index l.targets)

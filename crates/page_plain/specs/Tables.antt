@@ -1,0 +1,16 @@
+-- The prefixes of a page, as they are looked up.
+use Rattle.std.specs.Prelude.{◌≡◌, ℕ, List, map}
+use Rattle.std.specs.Ordering.{nat_cmp}
+use Rattle.std.specs.Cmp.Lexicographic.{slice_cmp}
+use Rattle.std.specs.BTreeMap.{BTreeMap, get_by}
+use Rattle.page_plain.specs.Bare.{numbered, prefix_in}
+use denote.Ref.{Bor}
+
+-- what references point to
+abbrev pub values_of : {X : Type 0} → List (Bor X) → List X
+values_of xs = map (λ x. x.now) xs
+
+-- the table has the prefixes of these namespaces, which are numbered from there on, and no others
+abbrev pub Agrees : BTreeMap (Bor (List ℕ)) (List ℕ) → ℕ → List (Bor (List ℕ)) → Type 0
+Agrees table first spaces =
+    (q : List ℕ) → get_by (λ k. slice_cmp nat_cmp q k.now) table ≡ prefix_in (numbered first (values_of spaces)) q

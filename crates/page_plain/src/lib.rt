@@ -1,0 +1,9 @@
+//! A page without its inline markup.
+#![tactic(auto)]
+
+mod names;
+mod page;
+mod prefixes;
+mod spaces;
+
+pub use page::plain_page;

@@ -1,0 +1,288 @@
+//! A page without its inline markup, as it is written.
+ghost use Rattle.std.specs.Prelude.{◌≡◌, ◌++◌, ◌∷◌, [], ◌<◌, OnOk, IfOk, map, false, option_map};
+ghost use Rattle.ix_base.specs.Markup.{declaration};
+ghost use Rattle.ix_base.specs.Trees.{named, nodes_of, tree_of, valued};
+ghost use Rattle.ix_base.specs.Written.{attrs_text, close_text};
+ghost use Rattle.page_tree.specs.Fine.{declaring};
+ghost use Rattle.ix_base.specs.Sound.{IsSoundTree};
+ghost use Rattle.page_plain.specs.Bare as spec;
+ghost use Rattle.page_plain.specs.Theorem.{IsPageOf};
+ghost use Rattle.page_plain.specs.Parts.{element_bytes, is_short, is_silent, kept_bytes, node_bytes, open_bytes, rest_bytes};
+
+use crate::names::{is_dropped, is_inline, is_opened};
+use crate::prefixes::{Prefixes, prefix_of_number};
+use crate::spaces::spaces_of;
+use escape_text::ends_short;
+use ix_base::namespaces::XML;
+use ix_base::{Attr, Element, Name, NoMemory, Node, Text, push_ae, push_te};
+use std::alloc::Global;
+
+/// Whether nodes give nothing.
+#[cycle(silence)]
+#[tactic(auto, using(crate::proofs::SpellLaws::silence_laws))]
+fn is_silent(nodes: &[Node<'_>]) -> bool
+    ensures { result ≡ is_silent (nodes_of nodes.now) }
+{
+    for node in nodes {
+        match node {
+            Node::Chars(text) => {
+                if !text.is_empty() {
+                    return false;
+                }
+            }
+            Node::Elem(below) => {
+                if !gives_nothing(below) {
+                    return false;
+                }
+            }
+        }
+    }
+    true
+}
+
+/// Whether an element gives nothing.
+#[cycle(silence)]
+#[tactic(auto, using(crate::proofs::SpellLaws::silence_laws))]
+fn gives_nothing(element: &Element<'_>) -> bool
+    ensures { result ≡ spec.is_blank (spec.bare (tree_of element.now)) }
+{
+    is_dropped(element) || (is_opened(element) && is_silent(element.children))
+}
+
+/// A local name behind a prefix, if there is one.
+fn qualified(alloc: Global, prefix: Option<&str>, local: &str) -> Result<Text, NoMemory>
+    ensures { IfOk result (λ t. t ≡ spec.qualified (option_map (λ p. p.now) prefix.entry) local.now) }
+{
+    let Some(prefix) = prefix else {
+        return Text::of(alloc, local);
+    };
+    let mut text = Text::of(alloc, prefix)?;
+    text.push(":")?;
+    text.push(local)?;
+    Ok(text)
+}
+
+/// The name of an attribute as it is written.
+#[tactic(auto, unfolding(ix_base::specs::Namespaces::xml_namespace))]
+fn attr_name(alloc: Global, prefixes: &Prefixes<'_>, name: &Name<'_>) -> Result<Text, NoMemory>
+    ensures { IfOk result (λ t. t ≡ spec.attr_name (spec.numbered 1 prefixes.now) (named name.now)) }
+{
+    if name.ns.is_empty() {
+        return Text::of(alloc, name.local);
+    }
+    if name.ns == XML {
+        return qualified(alloc, Some("xml"), name.local);
+    }
+    qualified(alloc, prefixes.prefix(name.ns), name.local)
+}
+
+/// Appends an attribute.
+fn push_attribute(name: &str, value: &str, out: &mut Text) -> Result<(), NoMemory>
+    ensures { OnOk result (out.new ≡ out.old ++ attrs_text (record { name = name.now; value = value.now } ∷ []) []) }
+{
+    out.push(" ")?;
+    out.push(name)?;
+    out.push("=\"")?;
+    push_ae(value, out)?;
+    out.push("\"")
+}
+
+/// Appends a declaration of the default namespace, where it isn't the one around.
+fn push_default(around: &str, ns: &str, out: &mut Text) -> Result<(), NoMemory>
+    ensures { OnOk result (out.new ≡ out.old ++ attrs_text (declaration around.now ns.now) []) }
+{
+    if ns != around {
+        return push_attribute("xmlns", ns, out);
+    }
+    Ok(())
+}
+
+/// Appends the declaration of the prefix of this number.
+fn push_declaration(
+    alloc: Global,
+    number: usize,
+    space: &str,
+    out: &mut Text,
+) -> Result<(), NoMemory>
+    requires { 0 < number }
+    ensures { OnOk result (out.new ≡ out.old
+        ++ attrs_text (declaring (record { prefix = spec.prefix_at number; ns = space.now }) ∷ []) []) }
+{
+    let mut name = Text::of(alloc, "xmlns:")?;
+    let prefix = prefix_of_number(alloc, number)?;
+    name.push(prefix.as_str())?;
+    push_attribute(name.as_str(), space, out)
+}
+
+/// Appends the declarations of the prefixes of these namespaces.
+fn push_declarations(alloc: Global, spaces: &[&str], out: &mut Text) -> Result<(), NoMemory>
+    ensures { OnOk result (out.new ≡ out.old ++ attrs_text (map declaring (spec.numbered 1 (map (λ s. s.now) spaces.now))) []) }
+{
+    let mut number = 1;
+    for space in spaces {
+        push_declaration(alloc, number, space, out)?;
+        number += 1;
+    }
+    Ok(())
+}
+
+/// Appends those attributes that are kept.
+#[tactic(auto, using(escape_text::proofs::MarkupLaws::attrs_laws))]
+fn push_attrs(
+    alloc: Global,
+    prefixes: &Prefixes<'_>,
+    attrs: &[Attr<'_>],
+    out: &mut Text,
+) -> Result<(), NoMemory>
+    ensures { OnOk result (out.new ≡ out.old
+        ++ attrs_text (map (spec.attr_in (spec.numbered 1 prefixes.now)) (spec.kept_attrs (map valued attrs.now))) []) }
+{
+    for attr in attrs {
+        if !is_inline(attr) {
+            let name = attr_name(alloc, prefixes, &attr.name)?;
+            push_attribute(name.as_str(), attr.value, out)?;
+        }
+    }
+    Ok(())
+}
+
+/// Appends an end tag.
+fn push_close(name: &str, out: &mut Text) -> Result<(), NoMemory>
+    ensures { OnOk result (out.new ≡ out.old ++ close_text name.now) }
+{
+    out.push("</")?;
+    out.push(name)?;
+    out.push(">")
+}
+
+/// Appends the declarations of the prefixes of some namespaces, and those attributes that are kept.
+#[tactic(auto, using(escape_text::proofs::MarkupLaws::attrs_laws))]
+fn push_declared(
+    alloc: Global,
+    declared: &[&str],
+    prefixes: &Prefixes<'_>,
+    attrs: &[Attr<'_>],
+    out: &mut Text,
+) -> Result<(), NoMemory>
+    ensures { OnOk result (out.new ≡ out.old ++ attrs_text (map declaring (spec.numbered 1 (map (λ s. s.now) declared.now))
+        ++ map (spec.attr_in (spec.numbered 1 prefixes.now)) (spec.kept_attrs (map valued attrs.now))) []) }
+{
+    push_declarations(alloc, declared, out)?;
+    push_attrs(alloc, prefixes, attrs, out)
+}
+
+/// Appends the start tag of an element within a namespace, without its end, with the declarations of the prefixes of some
+/// namespaces.
+#[tactic(auto, using(escape_text::proofs::MarkupLaws::attrs_laws))]
+fn push_open(
+    alloc: Global,
+    declared: &[&str],
+    prefixes: &Prefixes<'_>,
+    around: &str,
+    element: &Element<'_>,
+    out: &mut Text,
+) -> Result<(), NoMemory>
+    ensures { OnOk result (out.new ≡ out.old
+        ++ open_bytes (spec.numbered 1 (map (λ s. s.now) declared.now)) (spec.numbered 1 prefixes.now) around.now
+        (tree_of element.now).head) }
+{
+    out.push("<")?;
+    out.push(element.name.local)?;
+    push_default(around, element.name.ns, out)?;
+    push_declared(alloc, declared, prefixes, element.attrs.written, out)
+}
+
+/// Appends what follows the attributes of an element that is kept.
+#[cycle(bare)]
+fn push_rest(
+    alloc: Global,
+    prefixes: &Prefixes<'_>,
+    element: &Element<'_>,
+    out: &mut Text,
+) -> Result<(), NoMemory>
+    ensures { OnOk result (out.new ≡ out.old
+        ++ rest_bytes (is_short (tree_of element.now)) (tree_of element.now).head.name.local
+        (node_bytes (spec.numbered 1 prefixes.now) (tree_of element.now).head.name.ns (tree_of element.now).children)) }
+{
+    if ends_short(element.name) && is_silent(element.children) {
+        return out.push("/>");
+    }
+    out.push(">")?;
+    push_nodes(alloc, prefixes, element.name.ns, element.children, out)?;
+    push_close(element.name.local, out)
+}
+
+/// Appends what an element gives within a namespace.
+#[cycle(bare)]
+#[tactic(auto, using(crate::proofs::SpellLaws::element_laws))]
+fn push_element(
+    alloc: Global,
+    prefixes: &Prefixes<'_>,
+    around: &str,
+    element: &Element<'_>,
+    out: &mut Text,
+) -> Result<(), NoMemory>
+    ensures { OnOk result (out.new ≡ out.old ++ element_bytes (spec.numbered 1 prefixes.now) around.now (tree_of element.now)) }
+{
+    if is_dropped(element) {
+        return Ok(());
+    }
+    if is_opened(element) {
+        return push_nodes(alloc, prefixes, around, element.children, out);
+    }
+    push_open(alloc, &[], prefixes, around, element, out)?;
+    push_rest(alloc, prefixes, element, out)
+}
+
+/// Appends what some nodes give within a namespace.
+#[cycle(bare)]
+fn push_nodes(
+    alloc: Global,
+    prefixes: &Prefixes<'_>,
+    around: &str,
+    nodes: &[Node<'_>],
+    out: &mut Text,
+) -> Result<(), NoMemory>
+    ensures { OnOk result (out.new ≡ out.old ++ node_bytes (spec.numbered 1 prefixes.now) around.now (nodes_of nodes.now)) }
+{
+    for node in nodes {
+        match node {
+            Node::Chars(text) => push_te(text, out)?,
+            Node::Elem(element) => push_element(alloc, prefixes, around, element, out)?,
+        }
+    }
+    Ok(())
+}
+
+/// Appends the root of a page, which declares the prefixes.
+fn push_root(
+    alloc: Global,
+    prefixes: &Prefixes<'_>,
+    root: &Element<'_>,
+    out: &mut Text,
+) -> Result<(), NoMemory>
+    ensures { OnOk result (out.new ≡ out.old
+        ++ kept_bytes (spec.numbered 1 prefixes.now) (spec.numbered 1 prefixes.now) [] (tree_of root.now)) }
+{
+    push_open(alloc, prefixes.spaces(), prefixes, "", root, out)?;
+    push_rest(alloc, prefixes, root, out)
+}
+
+/// The page without its inline markup: the elements outside its namespace and all texts but those of headers, with the
+/// prefixes of attributes declared at the root. The answer can be longer than the page: a default namespace is declared at
+/// each element whose own isn't that of its parent. The steps grow with the nodes and attributes of the page, with a
+/// logarithm for each attribute, and with the bytes of the answer, where a comparison of two namespaces counts as one step;
+/// it reads them as far as they are equal.
+pub fn plain_page(alloc: Global, root: &Element<'_>) -> Result<Text, NoMemory>
+    requires kept { spec.is_inline (tree_of root.now).head.name ≡ false }
+    requires sound { IsSoundTree (tree_of root.now) 256 }
+    ensures text { IfOk result (λ t. t ≡ spec.spell (spec.bare (tree_of root.now))) }
+    ensures page { IfOk result (λ t. IsPageOf t (spec.bare (tree_of root.now))) }
+{
+    let spaces = spaces_of(alloc, root)?;
+    let prefixes = Prefixes::of(alloc, spaces)?;
+    let mut out = Text::of(alloc, "")?;
+    push_root(alloc, &prefixes, root, &mut out)?;
+    out.push("\n")?;
+    Ok(out)
+}
