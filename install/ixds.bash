@@ -4,11 +4,11 @@ _ixds() {
     local word=${COMP_WORDS[COMP_CWORD]} before=${COMP_WORDS[COMP_CWORD - 1]} command=${COMP_WORDS[1]}
     COMPREPLY=()
     if [ "$COMP_CWORD" -eq 1 ]; then
-        mapfile -t COMPREPLY < <(compgen -W 'extract check sample plain' -- "$word")
+        mapfile -t COMPREPLY < <(compgen -W 'extract check sample plain trace' -- "$word")
         return
     fi
     case "$command" in
-    extract | check) ;;
+    extract | check | trace) ;;
     plain) [ "$COMP_CWORD" -eq 2 ] || return ;;
     *) return ;;
     esac
@@ -28,7 +28,7 @@ _ixds() {
     -*)
         [ "$command" != plain ] || return
         local options='--base'
-        [ "$command" = check ] || options='--base --out'
+        [ "$command" != extract ] || options='--base --out'
         mapfile -t COMPREPLY < <(compgen -W "$options" -- "$word")
         ;;
     *)

@@ -18,7 +18,7 @@ struct Wrong<'a> {
     behind: &'static str,
 }
 
-/// What stands behind `extract` or `check`.
+/// What stands behind `extract`, `check` or `trace`.
 #[derive(Drop)]
 struct Parts<'a> {
     base: Option<&'a str>,
@@ -159,7 +159,7 @@ impl<'a> Reader<'a> {
     }
 }
 
-/// What is wrong with the words behind `extract` or `check`: the first word that is, or else the first part.
+/// What is wrong with the words behind `extract`, `check` or `trace`: the first word that is, or else the first part.
 fn wrong_part<'a>(
     alloc: Global,
     words: &'a [Text],
@@ -207,7 +207,7 @@ fn wrong_word<'a>(alloc: Global, words: &'a [Text]) -> Result<Option<Wrong<'a>>,
     };
     match first.as_str() {
         "extract" => wrong_part(alloc, rest, true),
-        "check" => wrong_part(alloc, rest, false),
+        "check" | "trace" => wrong_part(alloc, rest, false),
         "sample" => Ok(Some(Wrong::new("", "", "a sample takes one number, from 1 to 200000"))),
         "plain" => Ok(Some(wrong_plain(rest))),
         word => Ok(Some(Wrong::new("", word, " is no command"))),

@@ -10,9 +10,9 @@ use Rattle.ix_base.specs.declared.NoMemory.{NoMemory}
 use Rattle.ixds_run.specs.declared.status.Status.{Status}
 use Rattle.ixds_run.specs.declared.status.Status.TheVariants as status
 use Rattle.ixds_run.specs.declared.status.Status.TheVariants.{Broken, Done, ReadFault, Usage, WriteFault}
-use Rattle.ixds_run.specs.Commands.{dir_of, number_of, pages_of, with_pages}
+use Rattle.ixds_run.specs.Commands.{IsGiven, dir_of, number_of, pages_of, with_pages}
 use Rattle.ixds_run.specs.declared.command.Command.{Command}
-use Rattle.ixds_run.specs.declared.command.Command.TheVariants.{Extract, Check, Sample, Plain}
+use Rattle.ixds_run.specs.declared.command.Command.TheVariants.{Extract, Check, Sample, Plain, Trace}
 use Rattle.ixds_run.specs.declared.verdict.Verdict.{Verdict}
 use Rattle.ixds_run.specs.declared.verdict.Verdict.TheVariants.{Reported, Extracted, Printed}
 use Rattle.ixds_run.specs.Rearrangement.{IsRearranged, names_of}
@@ -75,12 +75,14 @@ same_dir (Extract base dir pages) names = refl
 same_dir (Check base pages) names = refl
 same_dir (Sample number) names = refl
 same_dir (Plain page) names = refl
+same_dir (Trace base pages) names = refl
 
 same_number : (c : Command) (names : List (List ℕ)) → number_of (with_pages c names) ≡ number_of c
 same_number (Extract base dir pages) names = refl
 same_number (Check base pages) names = refl
 same_number (Sample number) names = refl
 same_number (Plain page) names = refl
+same_number (Trace base pages) names = refl
 
 -- nothing is due to be written where a rule is broken
 none_due : (due : Due) (c : Command) (bs : List (List ℕ)) (v : Verdict) → CommandMakes c bs v → status_of due.is_broken ≡ (due_of None None v).status
@@ -97,12 +99,12 @@ same_status dir number (Printed text) = refl
 -- what is due of a command is that of what its pages come to
 pub due_is : (r : Result Due NoMemory) (c : Command) (number : Option ℕ) (v : Verdict) (f : Forest) → number ≡ number_of c
     → ((c : Command) (ns bs : List (List ℕ)) (v : Verdict) → PagesMake c ns bs v → AreReadBack v)
-    → ((c d : Command) (bs cs : List (List ℕ)) (v : Verdict) → IsRearranged c bs d cs → CommandMakes c bs v → CommandMakes d cs v)
+    → IsGiven c → ((c d : Command) (bs cs : List (List ℕ)) (v : Verdict) → IsGiven c → IsRearranged c bs d cs → CommandMakes c bs v → CommandMakes d cs v)
     → ((bs : List (List ℕ)) → IsRead bs f → CommandMakes c bs v)
     → IfOk r (λ due. (dir : Option (List ℕ)) → outcome_of dir due ≡ due_of dir number v)
     → IfOk r (λ due. due.is_broken ≡ true → due.targets.items ≡ [])
     → IfOk r (λ due. (bs : List (List ℕ)) → IsRead bs f → IsDueFrom c bs due)
-due_is (Ok due) c number v f same back order makes is none = λ bs read.
+due_is (Ok due) c number v f same back given order makes is none = λ bs read.
     let made = makes bs read in
     let is_due = is (dir_of c) ∙ ap (λ (o : Option ℕ). due_of (dir_of c) o v) same in
     record {
@@ -112,12 +114,12 @@ due_is (Ok due) c number v f same back order makes is none = λ bs read.
         any_order = λ d cs r.
             let dir = ap dir_of r.command ∙ same_dir c (names_of r.others) in
             let facts = ap number_of r.command ∙ same_number c (names_of r.others) in
-            record { makes = order c d bs cs v r made; due_is = is_due ∙ (λ i. due_of (sym dir i) (sym facts i) v) };
+            record { makes = order c d bs cs v given r made; due_is = is_due ∙ (λ i. due_of (sym dir i) (sym facts i) v) };
         read_back = back c (pages_of c) bs v made;
       };
       none = none_due due c bs v made (ap (λ (o : DueOutcome). o.status) (is None) ∙ same_status None number v) none;
     }
-due_is (Err x) c number v f same back order makes is none = tt
+due_is (Err x) c number v f same back given order makes is none = tt
 
 -- what gives all that is due, or fails to, answers no other status
 either_other : (b : Bool) (s x : Status) → (s ≡ status_of b) ⊎ (s ≡ WriteFault) → (Done ≡ x → ⊥) → (Broken ≡ x → ⊥) → (WriteFault ≡ x → ⊥) → s ≡ x → ⊥

@@ -1,5 +1,5 @@
 -- Reading pages one behind another.
-use Rattle.std.proofs.Common.{◌≡◌, ◌⊎◌, inl, inr, ◌∙◌, ap, sym, refl, ℕ, suc, ◌+◌, ◌≤◌, ◌<◌, nat_lt, Bool, cond, List, [], ◌∷◌, ◌++◌, length, drop, take, Option, Some, None, IfSome, IsTrue, is_some, option_map, append_assoc, append-nil, subst, arith, length-append, add-zero, add_assoc, zero-add, add-one, get_or}
+use Rattle.std.proofs.Common.{◌≡◌, ◌⊎◌, inl, inr, ◌∙◌, ap, sym, refl, ℕ, suc, ◌+◌, ◌≤◌, ◌<◌, nat_lt, Bool, cond, List, [], ◌∷◌, ◌++◌, length, drop, take, Option, Some, None, IfSome, IsTrue, OnOk, Result, Ok, Err, is_some, true, map, option_map, append_assoc, append-nil, subst, arith, length-append, add-zero, add_assoc, zero-add, add-one, get_or}
 use Rattle.std.proofs.Math.Seq.{drop-cons, take-suc}
 use Rattle.std.proofs.lemmas.Bool.{lt-ltb}
 use Rattle.std.specs.Borrow.{Bor}
@@ -11,11 +11,12 @@ use Rattle.page_tree.specs.Break.{fault, w}
 use Rattle.page_tree.specs.Page.{page as page_with}
 use Rattle.page_tree.specs.Stacks.{AreAll}
 use Rattle.page_tree.specs.Standing.{StandsFor}
-use Rattle.page_tree.specs.declared.builder.TreeBuilder.{TreeBuilder}
+use Rattle.ix_base.specs.declared.NoMemory.{NoMemory}
 use Rattle.ixds_run.specs.Gains.{GainsStarts}
 use Rattle.ixds_run.specs.CommandBytes.{AreSome}
 use Rattle.ix_base.specs.Outside.{TellsAlso}
-use Rattle.ixds_run.specs.Reading.{HasFed, IsReadWhole, HasGained, HasRead, HasReadSome, IsRead, IsRoot, AreRoots, IsSound, IsAmong, IsLast, ReadsOn, StopsInTime}
+use Rattle.ixds_run.specs.Reading.{HasFed, Holds, IsReadWhole, HasGained, HasGainedTree, HasRead, HasReadSome, IsRead, IsRoot, AreRoots, IsSound, IsAmong, IsLast, ReadsOn, StopsInTime, kept_texts}
+use Rattle.ixds_run.specs.declared.reading.OpenPage.{OpenPage}
 use Rattle.ixds_run.specs.Sources.{IsTelling, told, told_both}
 use Rattle.ix_base.specs.declared.rule.Rule.TheVariants.{S1, S2}
 use Rattle.page_tree.specs.Break.{Fault}
@@ -25,7 +26,7 @@ use Rattle.ixds_run.specs.declared.reading.Sums.{Sums}
 
 -- a page that has a tree was ended
 pub gained_root : (n : ℕ) (b : List ℕ) (limit : ℕ) (f f' : Forest) (e : Bor Element) {k : ℕ} → limit ≡ 256 → None ≡ w b limit → f'.found ≡ f.found
-    → f'.roots.items ≡ f.roots.items ++ e ∷ [] → page_with b limit (tree_of e.now) → AreAll k (pages_of e.now) → k ≡ n → HasGained n b f f'
+    → f'.roots.items ≡ f.roots.items ++ e ∷ [] → page_with b limit (tree_of e.now) → AreAll k (pages_of e.now) → k ≡ n → HasGainedTree n b f f'
 gained_root n b limit f f' e {k} deep none kept roots is_page pages at =
     let good : w b 256 ≡ None = ap (w b) (sym deep) ∙ sym none in
     record {
@@ -35,7 +36,7 @@ gained_root n b limit f f' e {k} deep none kept roots is_page pages at =
 
 -- a page that has a break was ended
 pub gained_fault : (n : ℕ) (b : List ℕ) (limit : ℕ) (f f' : Forest) (offset : ℕ) (rule : Rule) → limit ≡ 256 → Some (fault offset rule) ≡ w b limit
-    → f'.found ≡ f.found ++ on_page n offset rule ∷ [] → HasGained n b f f'
+    → f'.found ≡ f.found ++ on_page n offset rule ∷ [] → HasGainedTree n b f f'
 gained_fault n b limit f f' offset rule deep broken found =
     let bad : w b 256 ≡ Some (fault offset rule) = ap (w b) (sym deep) ∙ sym broken in
     record {
@@ -43,10 +44,29 @@ gained_fault n b limit f f' offset rule deep broken found =
       root = λ h. absurd (let z : None ≡ Some (fault offset rule) = sym h ∙ bad in cc);
     }
 
+-- a page was ended whose bytes are kept, where bytes are kept
+pub page_gained : (r : Result Unit NoMemory) (n most : ℕ) (p : OpenPage) (f m g : Forest) (text : List ℕ) → m.found ≡ f.found → m.roots ≡ f.roots → m.keeps ≡ f.keeps
+    → p.keeps ≡ f.keeps → text ≡ p.bytes.items → (p.keeps ≡ true → kept_texts m ≡ kept_texts f ++ text ∷ []) → g.keeps ≡ m.keeps → g.texts ≡ m.texts
+    → OnOk r ((b : List ℕ) → StandsFor p.tree b → HasGainedTree n b m g)
+    → OnOk r (f.sums.bytes ≤ most → (b : List ℕ) → Holds p b → HasGained n b f g)
+page_gained (Ok u) n most p f m g text found roots keeps same is kept keeps' texts tree = λ within b h.
+    let t = tree b h.built in
+    record {
+      tree = record {
+        found = t.found ∙ ap (λ xs. xs ++ text_fault n b) found;
+        root = λ e. (let r = t.root e in (r.0, r.1 ∙ (λ i. (roots i).items ++ r.0 ∷ []), r.2));
+      };
+      keeps = keeps' ∙ keeps;
+      texts = λ k.
+          let on : p.keeps ≡ true = same ∙ k in
+          (λ i. map (λ t. t.now) (texts i).items) ∙ kept on ∙ (λ i. kept_texts f ++ (is ∙ h.kept on) i ∷ []);
+    }
+page_gained (Err x) n most p f m g text found roots keeps same is kept keeps' texts tree = tt
+
 -- a page was read and ended
-pub reads_on : (page left : Option (List ℕ)) (n : ℕ) (t : TreeBuilder) (sums : Sums) (f g : Forest)
+pub reads_on : (page left : Option (List ℕ)) (n : ℕ) (t : OpenPage) (sums : Sums) (f g : Forest)
     → HasFed page left t f.sums sums → IsReadWhole page left sums → g.sums ≡ sums
-    → (sums.bytes ≤ 268435456 → (b : List ℕ) → StandsFor t b → HasGained n b (record f { sums = sums }) g) → ReadsOn page left n f g
+    → (sums.bytes ≤ 268435456 → (b : List ℕ) → Holds t b → HasGained n b (record f { sums = sums }) g) → ReadsOn page left n f g
 reads_on page left n t sums f g fed whole same gained = record {
   front = fed.front;
   bytes = ap (λ (s : Sums). s.bytes) same ∙ fed.bytes;
@@ -55,13 +75,13 @@ reads_on page left n t sums f g fed whole same gained = record {
   whole = λ most. whole (subst (λ (s : Sums). s.bytes ≤ 268435456) same most);
   gained = λ most.
       let h = gained (subst (λ (s : Sums). s.bytes ≤ 268435456) same most) fed.front fed.built in
-      record { found = h.found; root = h.root };
+      record { tree = record { found = h.tree.found; root = h.tree.root }; keeps = h.keeps; texts = h.texts };
 }
 
 -- a page that lies in memory was built and ended
-pub built_on : (b : List ℕ) (n : ℕ) (t : TreeBuilder) (sums : Sums) (f g : Forest)
-    → StandsFor t b → sums.bytes ≡ f.sums.bytes + length b → sums.tags ≡ f.sums.tags + tags_in b → g.sums ≡ sums
-    → (sums.bytes ≤ 268435456 → (c : List ℕ) → StandsFor t c → HasGained n c (record f { sums = sums }) g) → ReadsOn (Some b) (Some []) n f g
+pub built_on : (b : List ℕ) (n : ℕ) (t : OpenPage) (sums : Sums) (f g : Forest)
+    → Holds t b → sums.bytes ≡ f.sums.bytes + length b → sums.tags ≡ f.sums.tags + tags_in b → g.sums ≡ sums
+    → (sums.bytes ≤ 268435456 → (c : List ℕ) → Holds t c → HasGained n c (record f { sums = sums }) g) → ReadsOn (Some b) (Some []) n f g
 built_on b n t sums f g built bytes tags same gained =
     let fed : HasFed (Some b) (Some []) t f.sums sums =
     record { front = b; built = built; bytes = bytes; tags = tags; told = ([], sym (append-nil b), refl) } in
@@ -128,13 +148,16 @@ has_read_more bs b n f g count bytes tags gained read =
     record {
       bytes = bytes ∙ ap (λ k. k + length b) read.bytes ∙ sym (bytes-more bs b);
       tags = tags ∙ ap (λ k. k + tags_in b) read.tags ∙ sym (tags-more bs b);
-      found = gained.found ∙ ap (λ r. r ++ text_fault n b) read.found ∙ sym at;
+      found = gained.tree.found ∙ ap (λ r. r ++ text_fault n b) read.found ∙ sym at;
       roots = λ none.
           let two = both_empty (text_faults 0 bs) (text_fault n b) (sym at ∙ none) in
           let good = no_row n (w b 256) two.1 in
-          let root = gained.root good in
+          let root = gained.tree.root good in
           subst (λ (es : List (Bor Element)). AreRoots 0 (bs ++ b ∷ []) es) (sym root.1)
           (roots-more 0 bs f.roots.items b root.0 (read.roots two.0) (subst (λ k. IsRoot k b root.0) (sym (zero-add (length bs) ∙ count)) root.2));
+      texts = λ keeps.
+          let was : f.keeps ≡ true = sym gained.keeps ∙ keeps in
+          gained.texts was ∙ ap (λ ts. ts ++ b ∷ []) (read.texts was);
     }
 
 -- what is told of a page that was read to its end
@@ -280,13 +303,14 @@ pub some_is_sound : (page : List ℕ → Option (List ℕ)) (names rest : List (
 some_is_sound page names rest n f all h = λ e. (h.bs, h.read, h.count ∙ all)
 
 -- nothing was read yet
-pub read_none : (page : List ℕ → Option (List ℕ)) (names : List (List ℕ)) (f : Forest) → f.sums.bytes ≡ 0 → f.sums.tags ≡ 0 → f.found ≡ [] → f.roots.items ≡ [] → HasReadSome page names names 0 f
-read_none page names f bytes tags found roots = record {
+pub read_none : (page : List ℕ → Option (List ℕ)) (names : List (List ℕ)) (f : Forest) → f.sums.bytes ≡ 0 → f.sums.tags ≡ 0 → f.found ≡ [] → f.roots.items ≡ [] → f.texts.items ≡ []
+    → HasReadSome page names names 0 f
+read_none page names f bytes tags found roots texts = record {
   front = [];
   splits = refl;
   bs = [];
   count = refl;
-  read = record { bytes = bytes; tags = tags; found = found; roots = λ e. subst (λ (es : List (Bor Element)). AreRoots 0 [] es) (sym roots) tt };
+  read = record { bytes = bytes; tags = tags; found = found; roots = λ e. subst (λ (es : List (Bor Element)). AreRoots 0 [] es) (sym roots) tt; texts = λ e. ap (map (λ t. t.now)) texts };
   front_is = refl;
   told_is = none_of (told page names);
   telling = λ n some. refl;

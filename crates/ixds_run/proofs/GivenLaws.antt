@@ -10,12 +10,12 @@ use Rattle.url.proofs.OnLiterals.{url_on_literals}
 use Rattle.clap.specs.Walk.{Row, all_of, first_of}
 use Rattle.ix_base.specs.Decimals.{number_in}
 use Rattle.ixds_run.specs.Bases.{is_base, is_web_scheme}
-use Rattle.ixds_run.specs.Commands.{command_of, extract_from, extract_in, check_from, check_in, plain_in, sample_in, AreNames, IsGiven}
+use Rattle.ixds_run.specs.Commands.{command_of, extract_from, extract_in, pages_from, pages_in, check_in, plain_in, sample_in, trace_in, AreNames, IsGiven}
 use Rattle.ixds_run.specs.Names.{are_pages, has_repeat, is_page_name, may_stand_in_name}
 use Rattle.ixds_run.specs.Sample.{is_number, sample_names, sample_number}
-use Rattle.ixds_run.specs.Simple.{check_app, extract_app, rows_taken}
+use Rattle.ixds_run.specs.Simple.{check_app, extract_app, rows_taken, trace_app}
 use Rattle.ixds_run.specs.declared.command.Command.{Command}
-use Rattle.ixds_run.specs.declared.command.Command.TheVariants.{Extract, Check, Sample, Plain}
+use Rattle.ixds_run.specs.declared.command.Command.TheVariants.{Extract, Check, Sample, Plain, Trace}
 
 both : (a b : Bool) → (a && b) ≡ true → (a ≡ true) × (b ≡ true)
 both true b e = (refl, e)
@@ -59,13 +59,28 @@ given_extract (Some base) (Some dir) (Some pages) c e =
     let two = both (is_base base) (nat_lt 0 (length dir)) all.0 in
     subst IsGiven h.1 (record { base = two.0; dir = ltb-true 0 (length dir) two.1; pages = are_names pages all.1; number = tt })
 
-given_check : (b : Option (List ℕ)) (p : Option (List (List ℕ))) (c : Command) → check_from b p ≡ Some c → IsGiven c
-given_check None p c e = cc
-given_check (Some base) None c e = cc
-given_check (Some base) (Some pages) c e =
-    let h = where_holds (is_base base && are_pages pages) (Check base pages) c e in
+-- a base and pages as they are given
+record AreGiven (p : List ℕ × List (List ℕ)) : Type 0 where
+  pub base : is_base p.0 ≡ true
+  pub names : AreNames p.1
+
+holds_both : (t : Bool) (x q : List ℕ × List (List ℕ)) → cond t (Some x) None ≡ Some q → (t ≡ true) × (x ≡ q)
+holds_both true x q e = (refl, let f = e in cc)
+holds_both false x q e = cc
+
+given_pages : (b : Option (List ℕ)) (p : Option (List (List ℕ))) (q : List ℕ × List (List ℕ)) → pages_from b p ≡ Some q → AreGiven q
+given_pages None p q e = cc
+given_pages (Some base) None q e = cc
+given_pages (Some base) (Some pages) q e =
+    let h = holds_both (is_base base && are_pages pages) (base, pages) q e in
     let two = both (is_base base) (are_pages pages) h.0 in
-    subst IsGiven h.1 (record { base = two.0; dir = tt; pages = are_names pages two.1; number = tt })
+    subst AreGiven h.1 (record { base = two.0; names = are_names pages two.1 })
+
+-- a command that is made of them
+given_made : (make : List ℕ × List (List ℕ) → Command) → ((q : List ℕ × List (List ℕ)) → AreGiven q → IsGiven (make q)) → (o : Option (List ℕ × List (List ℕ))) (c : Command)
+    → ((q : List ℕ × List (List ℕ)) → o ≡ Some q → AreGiven q) → option_map make o ≡ Some c → IsGiven c
+given_made make good None c all e = cc
+given_made make good (Some q) c all e = subst IsGiven (let f : Some (make q) ≡ Some c = e in let g : make q ≡ c = cc in g) (good q (all q refl))
 
 -- a sample has a base, pages and a number that it may have
 sample_given : (n : ℕ) → 1 ≤ n → n ≤ 200000 → IsGiven (Sample n)
@@ -115,9 +130,14 @@ given (first ∷ rest) c e =
     either (bytes_eq first (codes "extract")) (option_and_then extract_in (rows_taken extract_app (first ∷ rest))) _ c
     (given_rows extract_in (λ rows. given_extract (first_of (codes "base") rows) (first_of (codes "out") rows) (all_of (codes "PAGE") rows)) (rows_taken extract_app (first ∷ rest)) c)
     (either (bytes_eq first (codes "check")) (option_and_then check_in (rows_taken check_app (first ∷ rest))) _ c
-    (given_rows check_in (λ rows. given_check (first_of (codes "base") rows) (all_of (codes "PAGE") rows)) (rows_taken check_app (first ∷ rest)) c)
+    (given_rows check_in (λ rows d. given_made (λ q. Check q.0 q.1) (λ q h. record { base = h.base; dir = tt; pages = h.names; number = tt }) (pages_in rows) d
+    (given_pages (first_of (codes "base") rows) (all_of (codes "PAGE") rows))) (rows_taken check_app (first ∷ rest)) c)
     (either (bytes_eq first (codes "sample")) (sample_in rest) _ c (given_sample rest c)
-    (either (bytes_eq first (codes "plain")) (plain_in rest) None c (given_plain rest c) (none_given c)))) e
+    (either (bytes_eq first (codes "plain")) (plain_in rest) _ c (given_plain rest c)
+    (either (bytes_eq first (codes "trace")) (option_and_then trace_in (rows_taken trace_app (first ∷ rest))) None c
+    (given_rows trace_in (λ rows d. given_made (λ q. Trace q.0 q.1) (λ q h. record { base = h.base; dir = tt; pages = h.names; number = tt }) (pages_in rows) d
+    (given_pages (first_of (codes "base") rows) (all_of (codes "PAGE") rows))) (rows_taken trace_app (first ∷ rest)) c)
+    (none_given c))))) e
 
 pub given_of : (o : Option Command) (words : List (List ℕ)) → o ≡ command_of words → IfSome o IsGiven
 given_of None words e = tt

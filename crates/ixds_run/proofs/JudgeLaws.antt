@@ -1,5 +1,5 @@
 -- What pages that were read say.
-use Rattle.std.proofs.Common.{◌≡◌, ◌≢◌, ◌∙◌, sym, ℕ, zero, suc, ◌==◌, true, ◌+◌, ◌<◌, ◌≤◌, List, [], ◌∷◌, All, length, slice_index_or, Option, Some, None, IfOk, Result, Ok, Err, subst, arith, inl, inr, refl}
+use Rattle.std.proofs.Common.{◌≡◌, ◌≢◌, ◌∙◌, ◌++◌, ap, sym, ℕ, zero, suc, ◌==◌, true, ◌+◌, ◌<◌, ◌≤◌, List, [], ◌∷◌, All, length, slice_index_or, Option, Some, None, IfOk, Result, Ok, Err, subst, arith, inl, inr, refl}
 use Rattle.std.specs.Borrow.{Bor}
 use Rattle.std.proofs.lemmas.Bool.{eqb-true}
 use Rattle.targets.specs.Breaches.{size_rule, PagesComeTo, fault_row, on_page, set_rule, text_fault, text_faults}
@@ -95,3 +95,15 @@ pub judged : (base : List ℕ) (names : List (List ℕ)) (f : Forest) (r : Resul
 judged base names f r kept broken made = each base names f r (λ bs read.
     let whole = read.read (sym kept) in
     kept_says base names bs r (read.size ∙ sym kept) (broken bs whole) (made bs whole))
+
+-- pages that have trees have no breaks
+module _ (none : (b : List ℕ) (n : ℕ) (f : Fault) (t : Tree) → w b n ≡ Some f → page b n t → ⊥) where
+  no_row : (n : ℕ) (b : List ℕ) (t : Tree) (o : Option Fault) → w b 256 ≡ o → page b 256 t → fault_row n o ≡ []
+  no_row n b t None e h = refl
+  no_row n b t (Some f) e h = absurd (none b 256 f t e h)
+
+  pub no_faults : (n : ℕ) (bs : List (List ℕ)) (ts : List Tree) → AreTrees bs ts → text_faults n bs ≡ []
+  no_faults n [] ts h = refl
+  no_faults n (b ∷ bs) [] h = absurd h
+  no_faults n (b ∷ bs) (t ∷ ts) h =
+      ap (λ (r : List Found). r ++ text_faults (suc n) bs) (no_row n b t (w b 256) refl h.0) ∙ no_faults (suc n) bs ts h.1

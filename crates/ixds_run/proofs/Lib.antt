@@ -19,4 +19,5 @@ pub mod ReportLaws
 pub mod SummaryLaws
 pub mod Taken
 pub mod TargetLaws
+pub mod TraceLaws
 pub mod VerdictLaws

@@ -1,7 +1,7 @@
 -- What the rows of a parse name.
 use Rattle.std.proofs.Common.{◌≡◌, ℕ, List, Option, None, Some, refl}
 use Rattle.ixds_run.specs.declared.command.Command.{Command}
-use Rattle.ixds_run.specs.Commands.{check_from, extract_from}
+use Rattle.ixds_run.specs.Commands.{pages_from, extract_from}
 
 pub no_base : (b d : Option (List ℕ)) (p : Option (List (List ℕ))) → b ≡ None → None ≡ extract_from b d p
 no_base b d p e = rw e refl
@@ -19,15 +19,15 @@ pub all_named : (b d : Option (List ℕ)) (p : Option (List (List ℕ))) (base d
     → r ≡ extract_from (Some base) (Some dir) (Some pages) → r ≡ extract_from b d p
 all_named b d p base dir pages r e f g h = rw (e, f, g) h
 
-pub no_base_to_check : (b : Option (List ℕ)) (p : Option (List (List ℕ))) → b ≡ None
-    → None ≡ check_from b p
-no_base_to_check b p e = rw e refl
+pub no_base_of_pages : (b : Option (List ℕ)) (p : Option (List (List ℕ))) → b ≡ None
+    → None ≡ pages_from b p
+no_base_of_pages b p e = rw e refl
 
-pub no_pages_to_check : (b : Option (List ℕ)) (p : Option (List (List ℕ))) (base : List ℕ)
-    → b ≡ Some base → p ≡ None → None ≡ check_from b p
-no_pages_to_check b p base e f = rw (e, f) refl
+pub no_pages_of_base : (b : Option (List ℕ)) (p : Option (List (List ℕ))) (base : List ℕ)
+    → b ≡ Some base → p ≡ None → None ≡ pages_from b p
+no_pages_of_base b p base e f = rw (e, f) refl
 
-pub named_to_check : (b : Option (List ℕ)) (p : Option (List (List ℕ))) (base : List ℕ)
-    (pages : List (List ℕ)) (r : Option Command) → b ≡ Some base → p ≡ Some pages
-    → r ≡ check_from (Some base) (Some pages) → r ≡ check_from b p
-named_to_check b p base pages r e f h = rw (e, f) h
+pub pages_named : (b : Option (List ℕ)) (p : Option (List (List ℕ))) (base : List ℕ)
+    (pages : List (List ℕ)) (r : Option (List ℕ × List (List ℕ))) → b ≡ Some base → p ≡ Some pages
+    → r ≡ pages_from (Some base) (Some pages) → r ≡ pages_from b p
+pages_named b p base pages r e f h = rw (e, f) h

@@ -1,5 +1,5 @@
 -- Pages have one outcome.
-use Rattle.std.proofs.Common.{◌≡◌, ◌∙◌, ap, sym, subst, ℕ, suc, Bool, true, false, List, [], ◌∷◌, ◌++◌, All, map, filter, Option, Some, None, Result, Ok, inl, inr, refl}
+use Rattle.std.proofs.Common.{◌≡◌, ◌∙◌, ap, sym, subst, ℕ, Bool, true, false, List, [], ◌∷◌, ◌++◌, All, map, filter, Option, Some, Result, Ok, inl, inr, refl}
 use Rattle.std.specs.List.{flat_map}
 use Rattle.std.proofs.lemmas.List.Elements.{All-head, All-tail}
 use Rattle.ix_base.specs.Asks.{Asks, asks}
@@ -26,16 +26,18 @@ use Rattle.targets.specs.TargetFacts.{AreFacts, members_read, one_less}
 use Rattle.targets.specs.declared.outcome.Outcome.{Outcome}
 use Rattle.targets.specs.declared.outcome.Outcome.TheVariants.{Broken, Whole}
 use Rattle.targets.specs.declared.outcome.Target.{Target}
+use Rattle.ixds_run.proofs.JudgeLaws.{no_faults}
 use Rattle.ixds_run.specs.Commands.{dir_of, number_of, pages_of}
 use Rattle.ixds_run.specs.Sample.{sample_base}
-use Rattle.ixds_run.specs.Verdicts.{IsOfSet, IsShown, IsShownBy, PagesMake, Reports, verdict_of}
+use Rattle.ixds_run.specs.Verdicts.{IsOfSet, IsShown, IsShownBy, IsTraced, IsTracedBy, PagesMake, Reports, trace_text, verdict_of}
 use Rattle.ixds_run.specs.DueOutcomes.{DueOutcome, IsOutcome, due_of, targets_under, text_of}
 use Rattle.page_plain.specs.Bare.{is_inline}
-use Rattle.targets.specs.Breaches.{PagesComeTo, fault_row, on_page, text_faults}
+use Rattle.targets.specs.Breaches.{PagesComeTo, on_page, text_faults}
 use Rattle.ixds_run.specs.Texts.{breach_line}
 use Rattle.ixds_run.specs.declared.command.Command.{Command}
-use Rattle.ixds_run.specs.declared.command.Command.TheVariants.{Extract, Check, Sample, Plain}
+use Rattle.ixds_run.specs.declared.command.Command.TheVariants.{Extract, Check, Sample, Plain, Trace}
 use Rattle.ixds_run.specs.declared.verdict.Verdict.{Verdict}
+use Rattle.ixds_run.specs.declared.verdict.Verdict.TheVariants.{Printed}
 use Rattle.ixds_run.specs.declared.status.Status.TheVariants as status
 
 -- what is due of what a set comes to
@@ -105,16 +107,6 @@ module _
         let rest = one_trees bs ts us h.1 k.1 in
         λ i. first i ∷ rest i
 
-    no_row : (n : ℕ) (b : List ℕ) (t : Tree) (o : Option Fault) → w b 256 ≡ o → page b 256 t → fault_row n o ≡ []
-    no_row n b t None e h = refl
-    no_row n b t (Some f) e h = absurd (none b 256 f t e h)
-
-    no_faults : (n : ℕ) (bs : List (List ℕ)) (ts : List Tree) → AreTrees bs ts → text_faults n bs ≡ []
-    no_faults n [] ts h = refl
-    no_faults n (b ∷ bs) [] h = absurd h
-    no_faults n (b ∷ bs) (t ∷ ts) h =
-        ap (λ (r : List Found). r ++ text_faults (suc n) bs) (no_row n b t (w b 256) refl h.0) ∙ no_faults (suc n) bs ts h.1
-
     one_said : (bases : Located → List ℕ) (es : List Located) (e : Located) (i j : Item) → SaysItem bases es e i → SaysItem bases es e j → i ≡ j
     one_said bases es e i j h k =
         let both : Ok i ≡ Ok j = says bases (asks es) e (Ok i) (Ok j) h k in
@@ -175,8 +167,8 @@ module _
     same_saying dir number base names bs o p (inl (rule, set, report)) (inr (kept, more)) = absurd (let z = kept in cc)
     same_saying dir number base names bs o p (inr (kept, more)) (inl (rule, set, report)) = absurd (let z = kept in cc)
     same_saying dir number base names bs o p (inr (kept, inl (some, report))) (inr (kept', inl (some', report'))) = same_report dir number names (text_faults 0 bs) o p report report'
-    same_saying dir number base names bs o p (inr (kept, inl (some, report))) (inr (kept', inr (ts, trees, made))) = absurd (some (no_faults 0 bs ts trees))
-    same_saying dir number base names bs o p (inr (kept, inr (ts, trees, made))) (inr (kept', inl (some, report))) = absurd (some (no_faults 0 bs ts trees))
+    same_saying dir number base names bs o p (inr (kept, inl (some, report))) (inr (kept', inr (ts, trees, made))) = absurd (some (no_faults none 0 bs ts trees))
+    same_saying dir number base names bs o p (inr (kept, inr (ts, trees, made))) (inr (kept', inl (some, report))) = absurd (some (no_faults none 0 bs ts trees))
     same_saying dir number base names bs o p (inr (kept, inr (ts, trees, made))) (inr (kept', inr (us, trees', made'))) =
         same_set dir number (record { base = base; pages = paged names ts }) o p made
         (subst (λ (xs : List Tree). ComesTo (page_set base names xs) p) (one_trees bs us ts trees' trees) made')
@@ -199,8 +191,8 @@ module _
     same_shown dir number names bs v w (inl (rule, set, report)) (inr (kept, more)) = absurd (let z = kept in cc)
     same_shown dir number names bs v w (inr (kept, more)) (inl (rule, set, report)) = absurd (let z = kept in cc)
     same_shown dir number names bs v w (inr (kept, inl (some, report))) (inr (kept', inl (some', report'))) = same_reports dir number names (text_faults 0 bs) v w report report'
-    same_shown dir number names bs v w (inr (kept, inl (some, report))) (inr (kept', inr (root, trees, shown))) = absurd (some (no_faults 0 bs (root ∷ []) trees))
-    same_shown dir number names bs v w (inr (kept, inr (root, trees, shown))) (inr (kept', inl (some, report))) = absurd (some (no_faults 0 bs (root ∷ []) trees))
+    same_shown dir number names bs v w (inr (kept, inl (some, report))) (inr (kept', inr (root, trees, shown))) = absurd (some (no_faults none 0 bs (root ∷ []) trees))
+    same_shown dir number names bs v w (inr (kept, inr (root, trees, shown))) (inr (kept', inl (some, report))) = absurd (some (no_faults none 0 bs (root ∷ []) trees))
     same_shown dir number names bs v w (inr (kept, inr (root, trees, shown))) (inr (kept', inr (other, trees', shown'))) =
         let same : other ∷ [] ≡ root ∷ [] = one_trees bs (other ∷ []) (root ∷ []) trees' trees in
         let z : other ≡ root = cc in
@@ -211,12 +203,27 @@ module _
     same_of_set dir number base names bs v w (o, says, is) (p, says', is') =
         ap (due_of dir number) is ∙ same_saying dir number base names bs o p says says' ∙ sym (ap (due_of dir number) is')
 
+    same_traced_by : (dir : Option (List ℕ)) (number : Option ℕ) (names bs : List (List ℕ)) (o p : Outcome) (v w : Verdict) → due_at dir number o ≡ due_at dir number p
+        → IsTracedBy o names bs v → IsTracedBy p names bs w → due_of dir number v ≡ due_of dir number w
+    same_traced_by dir number names bs (Broken r) (Broken s) v w same h k = ap (due_of dir number) h ∙ same ∙ sym (ap (due_of dir number) k)
+    same_traced_by dir number names bs (Broken r) (Whole ts) v w same h k = absurd (let z : status.Broken ≡ status.Done = ap (λ (d : DueOutcome). d.status) same in cc)
+    same_traced_by dir number names bs (Whole ts) (Broken r) v w same h k = absurd (let z : status.Done ≡ status.Broken = ap (λ (d : DueOutcome). d.status) same in cc)
+    same_traced_by dir number names bs (Whole ts) (Whole us) v w same (trees, are, is) (others, are', is') =
+        let alike : others ≡ trees = one_trees bs others trees are' are in
+        ap (due_of dir number) (is ∙ ap (λ (xs : List Tree). Printed (trace_text names bs xs)) (sym alike) ∙ sym is')
+
+    same_traced : (dir : Option (List ℕ)) (number : Option ℕ) (base : List ℕ) (names bs : List (List ℕ)) (v w : Verdict) → IsTraced base names bs v → IsTraced base names bs w
+        → due_of dir number v ≡ due_of dir number w
+    same_traced dir number base names bs v w (o, says, by) (p, says', by') =
+        same_traced_by dir number names bs o p v w (same_saying dir number base names bs o p says says') by by'
+
     same_made : (dir : Option (List ℕ)) (number : Option ℕ) (c : Command) (names bs : List (List ℕ)) (v w : Verdict) → PagesMake c names bs v → PagesMake c names bs w
         → due_of dir number v ≡ due_of dir number w
     same_made dir number (Extract base to pages) names bs v w h k = same_of_set dir number base names bs v w h k
     same_made dir number (Check base pages) names bs v w h k = same_of_set dir number base names bs v w h k
     same_made dir number (Sample facts) names bs v w h k = same_of_set dir number sample_base names bs v w h k
     same_made dir number (Plain page) names bs v w h k = same_shown dir number names bs v w h k
+    same_made dir number (Trace base pages) names bs v w h k = same_traced dir number base names bs v w h k
 
     pub outcome_one : (c : Command) (bs : List (List ℕ)) (due other : DueOutcome) → IsOutcome c bs due → IsOutcome c bs other → due ≡ other
     outcome_one c bs due other h k =

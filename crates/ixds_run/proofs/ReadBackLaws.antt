@@ -21,9 +21,9 @@ use Rattle.ix_base.specs.declared.rule.Rule.TheVariants.{P1}
 use Rattle.page_plain.specs.Bare.{is_inline}
 use Rattle.ixds_run.specs.DueOutcomes.{AreReadBack}
 use Rattle.ixds_run.specs.Sample.{sample_base}
-use Rattle.ixds_run.specs.Verdicts.{IsOfSet, IsShown, IsShownBy, PagesMake, Reports, verdict_of}
+use Rattle.ixds_run.specs.Verdicts.{IsOfSet, IsShown, IsShownBy, IsTracedBy, PagesMake, Reports, verdict_of}
 use Rattle.ixds_run.specs.declared.command.Command.{Command}
-use Rattle.ixds_run.specs.declared.command.Command.TheVariants.{Extract, Check, Sample, Plain}
+use Rattle.ixds_run.specs.declared.command.Command.TheVariants.{Extract, Check, Sample, Plain, Trace}
 use Rattle.ixds_run.specs.declared.verdict.Verdict.{Verdict}
 use Rattle.targets.specs.Breaches.{PagesComeTo, on_page, text_faults}
 use Rattle.ixds_run.proofs.SoundPages.{sound_pages}
@@ -45,6 +45,11 @@ shown_back : (names bs : List (List ℕ)) (v : Verdict) → IsShown names bs v �
 shown_back names bs v (inl (rule, set, report)) = of_reports names (on_page 0 0 rule ∷ []) v report
 shown_back names bs v (inr (kept, inl (some, report))) = of_reports names (text_faults 0 bs) v report
 shown_back names bs v (inr (kept, inr (root, trees, shown))) = by_root (is_inline root.head.name) names root v shown
+
+-- nor have items that are shown where they stand
+traced_back : (o : Outcome) (names bs : List (List ℕ)) (v : Verdict) → IsTracedBy o names bs v → AreReadBack v
+traced_back (Broken report) names bs v h = subst (λ (w : Verdict). AreReadBack w) (sym h) tt
+traced_back (Whole ts) names bs v (trees, are, is) = subst (λ (w : Verdict). AreReadBack w) (sym is) tt
 
 module _
     (sound : (b : List ℕ) (n : ℕ) (t : Tree) → page b n t → IsSoundTree t n)
@@ -69,3 +74,4 @@ module _
     made_back (Check base pages) names bs v h = set_back base names bs v h
     made_back (Sample number) names bs v h = set_back sample_base names bs v h
     made_back (Plain page) names bs v h = shown_back names bs v h
+    made_back (Trace base pages) names bs v (o, says, by) = traced_back o names bs v by

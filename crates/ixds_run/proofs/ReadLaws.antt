@@ -3,10 +3,9 @@ use Rattle.std.proofs.Common.{◌≡◌, ◌∙◌, ap, sym, refl, ℕ, ◌+◌,
 use Rattle.std.proofs.lemmas.List.{take-append-drop, length-take-le}
 use Rattle.std.proofs.lemmas.List.Sums.{sum_by-append}
 use Rattle.ix_base.specs.Outside.{ReadsFrom}
-use Rattle.page_tree.specs.Standing.{StandsFor}
-use Rattle.page_tree.specs.declared.builder.TreeBuilder.{TreeBuilder}
 use Rattle.targets.specs.Breaches.{tags_in}
-use Rattle.ixds_run.specs.Reading.{HasFed, IsReadWhole}
+use Rattle.ixds_run.specs.Reading.{HasFed, Holds, IsReadWhole}
+use Rattle.ixds_run.specs.declared.reading.OpenPage.{OpenPage}
 use Rattle.ixds_run.specs.declared.reading.Sums.{Sums}
 
 tags-append : (xs ys : List ℕ) → tags_in (xs ++ ys) ≡ tags_in xs + tags_in ys
@@ -24,9 +23,9 @@ told_on (Some b) left left' front buf n piece next t =
     (drop n t.0, t.1 ∙ ap (λ x. front ++ x) (sym split) ∙ sym (append_assoc front (take n buf) (drop n t.0)), next ∙ ap (option_map (drop n)) t.2)
 
 -- a piece was read, and the builder took it
-pub read_on : (page left left' : Option (List ℕ)) (t t' : TreeBuilder) (before s s' : Sums) (buf : List ℕ) (n : ℕ)
+pub read_on : (page left left' : Option (List ℕ)) (t t' : OpenPage) (before s s' : Sums) (buf : List ℕ) (n : ℕ)
     → n ≤ length buf → IfSome left (λ rest. ReadsFrom rest buf n) → left' ≡ option_map (drop n) left
-    → ((b : List ℕ) → StandsFor t b → StandsFor t' (b ++ take n buf)) → s'.bytes ≡ s.bytes + n → s'.tags ≡ s.tags + tags_in (take n buf)
+    → ((b : List ℕ) → Holds t b → Holds t' (b ++ take n buf)) → s'.bytes ≡ s.bytes + n → s'.tags ≡ s.tags + tags_in (take n buf)
     → HasFed page left t before s → HasFed page left' t' before s'
 read_on page left left' t t' before s s' buf n within piece next takes bytes tags h =
     let size : length (take n buf) ≡ n = length-take-le n buf within in
@@ -49,7 +48,7 @@ read_end None left' buf n none piece next = rw next tt
 read_end (Some rest) left' buf n none piece next = rw (next, none) (piece.end none)
 
 -- nothing was read yet
-pub fed_nothing : (o left : Option (List ℕ)) (t : TreeBuilder) (s : Sums) → left ≡ o → StandsFor t [] → HasFed o left t s s
+pub fed_nothing : (o left : Option (List ℕ)) (t : OpenPage) (s : Sums) → left ≡ o → Holds t [] → HasFed o left t s s
 fed_nothing o left t s at built =
     record { front = []; built = built; bytes = sym (add-zero s.bytes); tags = sym (add-zero s.tags); told = told_nothing o left at }
   where
@@ -64,7 +63,7 @@ told_end (Some b) left front end t =
     t.2 ∙ ap Some (subst (λ (l : Option (List ℕ)). IfSome l (λ rest. rest ≡ [])) t.2 end)
 
 -- all of it was read
-pub whole_at_end : (page left : Option (List ℕ)) (t : TreeBuilder) (before s : Sums) → HasFed page left t before s → IfSome left (λ rest. rest ≡ []) → IsReadWhole page left s
+pub whole_at_end : (page left : Option (List ℕ)) (t : OpenPage) (before s : Sums) → HasFed page left t before s → IfSome left (λ rest. rest ≡ []) → IsReadWhole page left s
 whole_at_end page left t before s h end = λ most. told_end page left h.front end h.told
 
 -- more was read than pages may have

@@ -1,8 +1,10 @@
 -- Pages that are handed over in another order say the same.
 use Rattle.std.proofs.Common.{◌≡◌, ◌≢◌, ◌∙◌, ◌++◌, ◌+◌, ◌<◌, ap, inl, inr, refl, subst, sym, ⊎_elim, ℕ, suc, Bool, true, false, List, [], ◌∷◌, length, map, Option, Some, None, arith}
 use Rattle.std.specs.Prelude.{nat_lt, if◌then◌else◌}
+use Rattle.std.specs.List.{flat_map}
 use Rattle.std.specs.List.Sorted.{IsPermutation}
-use Rattle.std.proofs.lemmas.List.Sorted.{IsPermutation-append, IsPermutation-append_comm, IsPermutation-cons, IsPermutation-refl}
+use Rattle.std.proofs.lemmas.List.Elements.{All-cons, All-nil}
+use Rattle.std.proofs.lemmas.List.Sorted.{IsPermutation-append, IsPermutation-append_comm, IsPermutation-cons, IsPermutation-refl, IsPermutation-trans}
 use Rattle.ix_base.specs.declared.breach.Class.TheVariants as class
 use Rattle.ix_base.specs.declared.breach.Found.{Found}
 use Rattle.ix_base.specs.declared.rule.Rule.{Rule}
@@ -19,14 +21,21 @@ use Rattle.targets.specs.declared.outcome.Outcome.TheVariants.{Broken, Whole}
 use Rattle.targets.specs.Forest.{AreTrees, page_set, paged}
 use Rattle.targets.specs.SetOutcomes.{IsReport, ComesTo}
 use Rattle.targets.specs.Breaches.{PagesComeTo, size_rule, tags_in, all_tags_in, bytes_in, fault_row, on_page, set_rule, text_fault, text_faults}
-use Rattle.ixds_run.specs.Commands.{pages_of, with_pages}
+use Rattle.fact_trace.specs.Held.{AreNew}
+use Rattle.fact_trace.specs.Spans.{Source, traces}
+use Rattle.fact_trace.specs.Unbroken.{BreakNoRule, HaveTrees}
+use Rattle.targets.specs.declared.outcome.Target.{Target}
+use Rattle.ixds_run.specs.Commands.{IsGiven, pages_of, with_pages}
 use Rattle.ixds_run.specs.Rearrangement.{Handed, IsRearranged, names_of, bytes_of}
 use Rattle.ixds_run.specs.Sample.{sample_base}
-use Rattle.ixds_run.specs.Verdicts.{CommandMakes, IsShown, PagesMake}
+use Rattle.ixds_run.specs.Texts.{trace_line}
+use Rattle.ixds_run.specs.Verdicts.{CommandMakes, IsShown, IsTraced, PagesMake, sources}
 use Rattle.ixds_run.specs.declared.command.Command.{Command}
-use Rattle.ixds_run.specs.declared.command.Command.TheVariants.{Extract, Check, Sample, Plain}
+use Rattle.ixds_run.specs.declared.command.Command.TheVariants.{Extract, Check, Sample, Plain, Trace}
 use Rattle.ixds_run.specs.declared.verdict.Verdict.{Verdict}
+use Rattle.ixds_run.specs.declared.verdict.Verdict.TheVariants.{Printed}
 use Rattle.ixds_run.proofs.SoundPages.{sound_pages}
+use Rattle.ixds_run.proofs.TraceLaws.{are_new}
 use Rattle.targets.proofs.Exchanged.{exchanged, numbered, said_at, swap_at}
 use Rattle.targets.proofs.FaultsMoved.{found_moved}
 use Rattle.targets.proofs.Rearranged.{rearranged}
@@ -106,6 +115,18 @@ trees-exchanged (p ∷ front) back a b (t ∷ ts) h =
     let next = trees-exchanged front back a b ts h.1 in
     (t ∷ next.0, (h.0, next.1), IsPermutation-cons (record { name = p.name; tree = t }) (paged (names_of (front ++ a ∷ b ∷ back)) ts) (paged (names_of (front ++ b ∷ a ∷ back)) next.0) next.2)
 
+-- the sources of pages with these trees
+abbrev sources_of : List Handed → List Tree → List Source
+sources_of ps ts = sources (names_of ps) (bytes_of ps) ts
+
+-- sources of these pages, which are those sources in another order
+abbrev Sources : List Source → List Handed → Type 0
+Sources all ps = (trees : List Tree) × AreTrees (bytes_of ps) trees × IsPermutation all (sources_of ps trees)
+
+-- items of sources are the same in every order
+abbrev InAnyOrder : Type 0
+InAnyOrder = (ps qs : List Source) → HaveTrees ps → AreNew (map (λ p. p.name) ps) → BreakNoRule ps → IsPermutation ps qs → traces ps ≡ traces qs
+
 -- All.
 
 module _ (sound : (b : List ℕ) (n : ℕ) (t : Tree) → page b n t → IsSoundTree t n) where
@@ -136,38 +157,106 @@ module _ (sound : (b : List ℕ) (n : ℕ) (t : Tree) → page b n t → IsSound
     pub says-rearranged : (ps qs : List Handed) → IsPermutation ps qs → Say ps → Say qs
     says-rearranged ps qs m h = by_exchanges Say says-exchanged ps qs m h
 
+  -- sources in another order
+
+  sources-exchanged : (front back : List Handed) (a b : Handed) (ts : List Tree) → AreTrees (bytes_of (front ++ a ∷ b ∷ back)) ts
+      → Sources (sources_of (front ++ a ∷ b ∷ back) ts) (front ++ b ∷ a ∷ back)
+  sources-exchanged [] back a b [] h = absurd h
+  sources-exchanged [] back a b (t ∷ []) h = absurd h.1
+  sources-exchanged [] back a b (t ∷ u ∷ ts) h =
+      let one : Source = record { name = a.name; bytes = a.bytes; tree = t } in
+      let two : Source = record { name = b.name; bytes = b.bytes; tree = u } in
+      let rest = sources_of back ts in (
+        u ∷ t ∷ ts,
+        (h.1.0, (h.0, h.1.1)),
+        IsPermutation-append (one ∷ two ∷ []) (two ∷ one ∷ []) rest rest (IsPermutation-append_comm (one ∷ []) (two ∷ [])) (IsPermutation-refl rest),
+      )
+  sources-exchanged (p ∷ front) back a b [] h = absurd h
+  sources-exchanged (p ∷ front) back a b (t ∷ ts) h =
+      let next = sources-exchanged front back a b ts h.1 in (
+        t ∷ next.0,
+        (h.0, next.1),
+        IsPermutation-cons (record { name = p.name; bytes = p.bytes; tree = t }) (sources_of (front ++ a ∷ b ∷ back) ts) (sources_of (front ++ b ∷ a ∷ back) next.0) next.2,
+      )
+
+  sources-moved : (ps qs : List Handed) (ts : List Tree) → IsPermutation ps qs → AreTrees (bytes_of ps) ts → Sources (sources_of ps ts) qs
+  sources-moved ps qs ts m h =
+      by_exchanges (λ (xs : List Handed). Sources (sources_of ps ts) xs)
+      (λ front back a b s.
+      (let next = sources-exchanged front back a b s.0 s.1 in
+      (next.0, next.1, IsPermutation-trans (sources_of ps ts) (sources_of (front ++ a ∷ b ∷ back) s.0) (sources_of (front ++ b ∷ a ∷ back) next.0) s.2 next.2)))
+      ps qs m (ts, h, IsPermutation-refl (sources_of ps ts))
+
+  have-trees : (ps : List Handed) (ts : List Tree) → AreTrees (bytes_of ps) ts → HaveTrees (sources_of ps ts)
+  have-trees [] ts h = All-nil (λ (s : Source). page s.bytes 256 s.tree)
+  have-trees (p ∷ ps) [] h = absurd h
+  have-trees (p ∷ ps) (t ∷ ts) h =
+      All-cons (λ (s : Source). page s.bytes 256 s.tree) (record { name = p.name; bytes = p.bytes; tree = t }) (sources_of ps ts) h.0 (have-trees ps ts h.1)
+
+  source-names : (ps : List Handed) (ts : List Tree) → AreTrees (bytes_of ps) ts → map (λ s. s.name) (sources_of ps ts) ≡ names_of ps
+  source-names [] ts h = refl
+  source-names (p ∷ ps) [] h = absurd h
+  source-names (p ∷ ps) (t ∷ ts) h = ap (λ l. p.name ∷ l) (source-names ps ts h.1)
+
+  source-bytes : (ps : List Handed) (ts : List Tree) → AreTrees (bytes_of ps) ts → map (λ s. s.bytes) (sources_of ps ts) ≡ bytes_of ps
+  source-bytes [] ts h = refl
+  source-bytes (p ∷ ps) [] h = absurd h
+  source-bytes (p ∷ ps) (t ∷ ts) h = ap (λ l. p.bytes ∷ l) (source-bytes ps ts h.1)
+
+  unbroken : (base : List ℕ) (targets : List Target) (ps : List Handed) (ts : List Tree) → AreTrees (bytes_of ps) ts → PagesComeTo base (names_of ps) (bytes_of ps) (Whole targets)
+      → BreakNoRule (sources_of ps ts)
+  unbroken base targets ps ts h come = record {
+    base = base;
+    targets = targets;
+    come = subst (λ (ns : List (List ℕ)). PagesComeTo base ns (map (λ s. s.bytes) (sources_of ps ts)) (Whole targets)) (sym (source-names ps ts h))
+        (subst (λ (bs : List (List ℕ)). PagesComeTo base (names_of ps) bs (Whole targets)) (sym (source-bytes ps ts h)) come);
+  }
+
   -- a page that is shown is alone
   two-at-least : (front back : List Handed) (a b : Handed) → 1 < length (names_of (front ++ a ∷ b ∷ back))
   two-at-least [] back a b = omega arith
   two-at-least (p ∷ front) back a b = let more = two-at-least front back a b in omega arith
 
-  pages-made : (c : Command) (v : Verdict) (ps qs : List Handed) → IsPermutation ps qs → pages_of (with_pages c (names_of ps)) ≡ names_of ps
+  traced-moved : InAnyOrder → (base : List ℕ) (v : Verdict) (ps qs : List Handed) → IsPermutation ps qs → AreNew (names_of ps)
+      → IsTraced base (names_of ps) (bytes_of ps) v → IsTraced base (names_of qs) (bytes_of qs) v
+  traced-moved order base v ps qs m new (Broken report, says, by) = (Broken report, says-rearranged base (Broken report) ps qs m says, by)
+  traced-moved order base v ps qs m new (Whole targets, says, (ts, are, is)) =
+      let next = sources-moved ps qs ts m are in
+      let apart = subst AreNew (sym (source-names ps ts are)) new in
+      let same = order (sources_of ps ts) (sources_of qs next.0) (have-trees ps ts are) apart (unbroken base targets ps ts are says) next.2 in
+      (Whole targets, says-rearranged base (Whole targets) ps qs m says, (next.0, next.1, is ∙ ap (λ l. Printed (flat_map trace_line l)) same))
+
+  pages-made : InAnyOrder → (c : Command) (v : Verdict) (ps qs : List Handed) → IsPermutation ps qs → AreNew (names_of ps) → pages_of (with_pages c (names_of ps)) ≡ names_of ps
       → pages_of (with_pages c (names_of qs)) ≡ names_of qs → PagesMake c (names_of ps) (bytes_of ps) v → PagesMake c (names_of qs) (bytes_of qs) v
-  pages-made (Extract base dir pages) v ps qs m own other (o, says, is) = (o, says-rearranged base o ps qs m says, is)
-  pages-made (Check base pages) v ps qs m own other (o, says, is) = (o, says-rearranged base o ps qs m says, is)
-  pages-made (Sample number) v ps qs m own other (o, says, is) = (o, says-rearranged sample_base o ps qs m says, is)
-  pages-made (Plain page) v ps qs m own other shown =
-      by_exchanges (λ (xs : List Handed). page ∷ [] ≡ names_of xs → IsShown (names_of xs) (bytes_of xs) v)
+  pages-made order (Extract base dir pages) v ps qs m new own other (o, says, is) = (o, says-rearranged base o ps qs m says, is)
+  pages-made order (Check base pages) v ps qs m new own other (o, says, is) = (o, says-rearranged base o ps qs m says, is)
+  pages-made order (Sample number) v ps qs m new own other (o, says, is) = (o, says-rearranged sample_base o ps qs m says, is)
+  pages-made order (Trace base pages) v ps qs m new own other h = traced-moved order base v ps qs m new h
+  pages-made order (Plain name) v ps qs m new own other h =
+      by_exchanges (λ (xs : List Handed). name ∷ [] ≡ names_of xs → IsShown (names_of xs) (bytes_of xs) v)
       (λ front back a b h one. absurd (let many = two-at-least front back b a in let z : 1 ≡ length (names_of (front ++ b ∷ a ∷ back)) = ap length one in omega arith))
-      ps qs m (λ e. shown) other
+      ps qs m (λ e. h) other
 
   with-other : (c : Command) (names others bs : List (List ℕ)) (v : Verdict) → PagesMake c names bs v → PagesMake (with_pages c others) names bs v
   with-other (Extract base dir pages) names others bs v h = h
   with-other (Check base pages) names others bs v h = h
   with-other (Sample number) names others bs v h = h
-  with-other (Plain page) names others bs v h = h
+  with-other (Plain name) names others bs v h = h
+  with-other (Trace base pages) names others bs v h = h
 
   own-pages : (c : Command) (names : List (List ℕ)) → pages_of c ≡ names → pages_of (with_pages c names) ≡ names
   own-pages (Extract base dir pages) names e = refl
   own-pages (Check base pages) names e = refl
   own-pages (Sample number) names e = e
-  own-pages (Plain page) names e = e
+  own-pages (Plain name) names e = e
+  own-pages (Trace base pages) names e = refl
 
-  pub made-rearranged : (c d : Command) (bs cs : List (List ℕ)) (v : Verdict) → IsRearranged c bs d cs → CommandMakes c bs v → CommandMakes d cs v
-  made-rearranged c d bs cs v r h =
+  pub made-rearranged : InAnyOrder → (c d : Command) (bs cs : List (List ℕ)) (v : Verdict) → IsGiven c → IsRearranged c bs d cs → CommandMakes c bs v → CommandMakes d cs v
+  made-rearranged order c d bs cs v given r h =
+      let new = subst AreNew r.names (are_new (pages_of c) given.pages.once) in
       let named : PagesMake c (names_of r.pages) bs v = subst (λ (ns : List (List ℕ)). PagesMake c ns bs v) r.names h in
       let here : PagesMake c (names_of r.pages) (bytes_of r.pages) v = subst (λ (xs : List (List ℕ)). PagesMake c (names_of r.pages) xs v) r.bytes named in
-      let there = pages-made c v r.pages r.others r.order (own-pages c (names_of r.pages) r.names) (ap pages_of (sym r.command) ∙ r.other_names) here in
+      let there = pages-made order c v r.pages r.others r.order new (own-pages c (names_of r.pages) r.names) (ap pages_of (sym r.command) ∙ r.other_names) here in
       let asked = with-other c (names_of r.others) (names_of r.others) (bytes_of r.others) v there in
       let asked-by : PagesMake d (names_of r.others) (bytes_of r.others) v
       = subst (λ (k : Command). PagesMake k (names_of r.others) (bytes_of r.others) v) (sym r.command) asked in

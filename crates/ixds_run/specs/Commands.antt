@@ -1,12 +1,12 @@
 -- What the words of a command line ask for.
-use Rattle.std.specs.Prelude.{◌≡◌, ℕ, ◌<◌, ◌≤◌, true, false, All, IfSome, ◌&&◌, nat_lt, List, [], ◌∷◌, length, bytes_eq, codes, Option, Some, None, option_and_then, option_map, if◌then◌else◌}
+use Rattle.std.specs.Prelude.{◌≡◌, ℕ, ◌<◌, ◌≤◌, Bool, true, false, All, IfSome, ◌&&◌, nat_lt, List, [], ◌∷◌, length, bytes_eq, codes, Option, Some, None, option_and_then, option_map, if◌then◌else◌}
 use Rattle.clap.specs.Walk.{Row, all_of, first_of}
 use Rattle.ixds_run.specs.declared.command.Command.{Command}
-use Rattle.ixds_run.specs.declared.command.Command.TheVariants.{Extract, Check, Sample, Plain}
+use Rattle.ixds_run.specs.declared.command.Command.TheVariants.{Extract, Check, Sample, Plain, Trace}
 use Rattle.ixds_run.specs.Bases.{is_base}
 use Rattle.ixds_run.specs.Names.{are_pages, has_repeat}
 use Rattle.ixds_run.specs.Sample.{sample_base, sample_names, sample_number}
-use Rattle.ixds_run.specs.Simple.{check_app, extract_app, rows_taken}
+use Rattle.ixds_run.specs.Simple.{check_app, extract_app, rows_taken, trace_app}
 
 -- the extraction with this base, directory and pages, where they may stand for these
 abbrev pub extract_from : Option (List ℕ) → Option (List ℕ) → Option (List (List ℕ)) → Option Command
@@ -16,16 +16,23 @@ extract_from (Some base) (Some dir) None = None
 extract_from (Some base) (Some dir) (Some pages) =
     if is_base base && nat_lt 0 (length dir) && are_pages pages then Some (Extract base dir pages) else None
 
-abbrev pub check_from : Option (List ℕ) → Option (List (List ℕ)) → Option Command
-check_from None pages = None
-check_from (Some base) None = None
-check_from (Some base) (Some pages) = if is_base base && are_pages pages then Some (Check base pages) else None
+-- the base and the pages, where they may stand for these
+abbrev pub pages_from : Option (List ℕ) → Option (List (List ℕ)) → Option (List ℕ × List (List ℕ))
+pages_from None pages = None
+pages_from (Some base) None = None
+pages_from (Some base) (Some pages) = if is_base base && are_pages pages then Some (base, pages) else None
 
 abbrev pub extract_in : List Row → Option Command
 extract_in rows = extract_from (first_of (codes "base") rows) (first_of (codes "out") rows) (all_of (codes "PAGE") rows)
 
+abbrev pub pages_in : List Row → Option (List ℕ × List (List ℕ))
+pages_in rows = pages_from (first_of (codes "base") rows) (all_of (codes "PAGE") rows)
+
 abbrev pub check_in : List Row → Option Command
-check_in rows = check_from (first_of (codes "base") rows) (all_of (codes "PAGE") rows)
+check_in rows = option_map (λ p. Check p.0 p.1) (pages_in rows)
+
+abbrev pub trace_in : List Row → Option Command
+trace_in rows = option_map (λ p. Trace p.0 p.1) (pages_in rows)
 
 -- the sample that the words behind `sample` ask for: one number
 abbrev pub sample_in : List (List ℕ) → Option Command
@@ -43,7 +50,8 @@ command_by first rest =
     if bytes_eq first (codes "extract") then option_and_then extract_in (rows_taken extract_app (first ∷ rest))
     else (if bytes_eq first (codes "check") then option_and_then check_in (rows_taken check_app (first ∷ rest))
     else (if bytes_eq first (codes "sample") then sample_in rest
-    else (if bytes_eq first (codes "plain") then plain_in rest else None)))
+    else (if bytes_eq first (codes "plain") then plain_in rest
+    else (if bytes_eq first (codes "trace") then option_and_then trace_in (rows_taken trace_app (first ∷ rest)) else None))))
 
 -- the command that the words give, where they give one
 unfoldable pub command_of : List (List ℕ) → Option Command
@@ -56,6 +64,7 @@ pages_of (Extract base dir pages) = pages
 pages_of (Check base pages) = pages
 pages_of (Sample number) = sample_names
 pages_of (Plain page) = page ∷ []
+pages_of (Trace base pages) = pages
 
 -- the base that links are joined to, where the command has one
 abbrev pub base_of : Command → Option (List ℕ)
@@ -63,6 +72,7 @@ base_of (Extract base dir pages) = Some base
 base_of (Check base pages) = Some base
 base_of (Sample number) = Some sample_base
 base_of (Plain page) = None
+base_of (Trace base pages) = Some base
 
 -- the directory word, where the command has one
 abbrev pub dir_of : Command → Option (List ℕ)
@@ -70,6 +80,7 @@ dir_of (Extract base dir pages) = Some dir
 dir_of (Check base pages) = None
 dir_of (Sample number) = None
 dir_of (Plain page) = None
+dir_of (Trace base pages) = None
 
 -- how many facts a sample has, whose pages are made and not read
 abbrev pub number_of : Command → Option ℕ
@@ -77,6 +88,7 @@ number_of (Extract base dir pages) = None
 number_of (Check base pages) = None
 number_of (Sample number) = Some number
 number_of (Plain page) = None
+number_of (Trace base pages) = None
 
 -- the same command over other pages, where it names pages; a plain page stays the one that it is
 abbrev pub with_pages : Command → List (List ℕ) → Command
@@ -84,6 +96,15 @@ with_pages (Extract base dir pages) others = Extract base dir others
 with_pages (Check base pages) others = Check base others
 with_pages (Sample number) others = Sample number
 with_pages (Plain page) others = Plain page
+with_pages (Trace base pages) others = Trace base others
+
+-- a command for which the bytes of pages are kept as they are read
+abbrev pub keeps_pages : Command → Bool
+keeps_pages (Extract base dir pages) = false
+keeps_pages (Check base pages) = false
+keeps_pages (Sample number) = false
+keeps_pages (Plain page) = false
+keeps_pages (Trace base pages) = true
 
 -- Names of pages as a command has them: few enough, none too long for a source, and none twice.
 pub record AreNames (names : List (List ℕ)) : Type 0 where

@@ -1,5 +1,5 @@
 -- Reading pages one behind another, each piece by piece.
-use Rattle.std.specs.Prelude.{◌≡◌, ◌⊎◌, ℕ, suc, ◌+◌, ◌≤◌, ◌<◌, Bool, IsTrue, List, [], ◌∷◌, ◌++◌, length, Option, Some, None, IfSome, Result, Ok, Err}
+use Rattle.std.specs.Prelude.{◌≡◌, ◌⊎◌, ℕ, suc, ◌+◌, ◌≤◌, ◌<◌, Bool, true, IsTrue, List, [], ◌∷◌, ◌++◌, length, map, Option, Some, None, IfSome, Result, Ok, Err}
 use Rattle.std.specs.Borrow.{Bor}
 use Rattle.ix_base.specs.Elements.{pages_of}
 use Rattle.ix_base.specs.Trees.{tree_of}
@@ -8,13 +8,13 @@ use Rattle.page_tree.specs.Page.{page as page_with}
 use Rattle.page_tree.specs.Break.{w}
 use Rattle.page_tree.specs.Stacks.{AreAll}
 use Rattle.page_tree.specs.Standing.{StandsFor}
-use Rattle.page_tree.specs.declared.builder.TreeBuilder.{TreeBuilder}
 use Rattle.targets.specs.Breaches.{size_rule, tags_in, all_tags_in, bytes_in, set_rule, text_fault, text_faults}
 use Rattle.ixds_run.specs.Texts.{cannot_read_line}
 use Rattle.ixds_run.specs.Sources.{IsTelling, told}
 use Rattle.ixds_run.specs.declared.forest.Forest.{Forest}
 use Rattle.ixds_run.specs.declared.forest.Stopped.{Stopped}
 use Rattle.ixds_run.specs.declared.forest.Stopped.TheVariants as stopped
+use Rattle.ixds_run.specs.declared.reading.OpenPage.{OpenPage}
 use Rattle.ixds_run.specs.declared.reading.ReadError.{ReadError}
 use Rattle.ixds_run.specs.declared.reading.ReadError.TheVariants as read_error
 use Rattle.ixds_run.specs.declared.reading.Sums.{Sums}
@@ -31,11 +31,16 @@ HasReadCause before now (Ok x) = now ≡ before
 HasReadCause before now (Err read_error.Failed) = before < now
 HasReadCause before now (Err read_error.NoMemory) = now ≡ before
 
--- Of a page a front was read, which the builder was given and by which the sums grew. Where the source tells the page, it
+-- An open page was given these bytes: its builder stands for them, and where bytes are kept, these are.
+pub record Holds (t : OpenPage) (b : List ℕ) : Type 0 where
+  pub built : StandsFor t.tree b
+  pub kept : t.keeps ≡ true → t.bytes.items ≡ b
+
+-- Of a page a front was read, which it was given and by which the sums grew. Where the source tells the page, it
 -- is that page's front, and the rest is left.
-pub record HasFed (page left : Option (List ℕ)) (t : TreeBuilder) (before now : Sums) : Type 0 where
+pub record HasFed (page left : Option (List ℕ)) (t : OpenPage) (before now : Sums) : Type 0 where
   pub front : List ℕ
-  pub built : StandsFor t front
+  pub built : Holds t front
   pub bytes : now.bytes ≡ before.bytes + length front
   pub tags : now.tags ≡ before.tags + tags_in front
   pub told : IfSome page (λ b. (rest : List ℕ) × (b ≡ front ++ rest) × (left ≡ Some rest))
@@ -54,10 +59,20 @@ AreRoots n [] [] = Unit {0}
 AreRoots n (b ∷ bs) (e ∷ es) = IsRoot n b e × AreRoots (suc n) bs es
 AreRoots n bs es = ⊥
 
--- the forest gained the page of this number with these bytes: its root or its break
-pub record HasGained (n : ℕ) (b : List ℕ) (old new : Forest) : Type 0 where
+-- the texts of pages that a forest keeps
+abbrev pub kept_texts : Forest → List (List ℕ)
+kept_texts f = map (λ t. t.now) f.texts.items
+
+-- the forest gained the tree of the page of this number with these bytes: its root or its break
+pub record HasGainedTree (n : ℕ) (b : List ℕ) (old new : Forest) : Type 0 where
   pub found : new.found ≡ old.found ++ text_fault n b
   pub root : w b 256 ≡ None → (e : Bor Element) × (new.roots.items ≡ old.roots.items ++ e ∷ []) × IsRoot n b e
+
+-- and the bytes of the page, where it keeps them
+pub record HasGained (n : ℕ) (b : List ℕ) (old new : Forest) : Type 0 where
+  pub tree : HasGainedTree n b old new
+  pub keeps : new.keeps ≡ old.keeps
+  pub texts : old.keeps ≡ true → kept_texts new ≡ kept_texts old ++ b ∷ []
 
 -- pages of these bytes were read, whole and no others
 pub record HasRead (bs : List (List ℕ)) (f : Forest) : Type 0 where
@@ -65,6 +80,7 @@ pub record HasRead (bs : List (List ℕ)) (f : Forest) : Type 0 where
   pub tags : f.sums.tags ≡ all_tags_in bs
   pub found : f.found ≡ text_faults 0 bs
   pub roots : text_faults 0 bs ≡ [] → AreRoots 0 bs f.roots.items
+  pub texts : f.keeps ≡ true → kept_texts f ≡ bs
 
 -- Of a page a front was read, and it was built in, unless the bytes read are more than pages may have.
 pub record ReadsOn (page left : Option (List ℕ)) (n : ℕ) (old new : Forest) : Type 0 where

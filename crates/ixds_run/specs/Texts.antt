@@ -1,6 +1,9 @@
 -- The texts that `out` takes, each line with its line feed.
-use Rattle.std.specs.Prelude.{ℕ, List, [], ◌∷◌, ◌++◌, codes}
+use Rattle.std.specs.Prelude.{ℕ, Bool, true, false, List, [], ◌∷◌, ◌++◌, codes}
 use Rattle.std.specs.Fmt.{decimal}
+use Rattle.std.specs.List.{flat_map}
+use Rattle.fact_trace.specs.declared.span.Span.{Span}
+use Rattle.fact_trace.specs.declared.span.Traced.{Traced}
 use Rattle.ix_base.specs.Breaches.{class_of}
 use Rattle.ix_base.specs.Rules.{code_of as rule_code, text_of as rule_text}
 use Rattle.ix_base.specs.declared.breach.Breach.{Breach}
@@ -9,7 +12,7 @@ use Rattle.ix_base.specs.declared.breach.Class.TheVariants as class
 
 -- how the program is used
 unfoldable pub usage_text : List ℕ
-usage_text = codes "usage: ixds extract --base URL --out DIR PAGE...\n       ixds check --base URL PAGE...\n       ixds sample N\n       ixds plain PAGE\n"
+usage_text = codes "usage: ixds extract --base URL --out DIR PAGE...\n       ixds check --base URL PAGE...\n       ixds sample N\n       ixds plain PAGE\n       ixds trace --base URL PAGE...\n"
 
 unfoldable pub cannot_read_line : List ℕ → List ℕ
 cannot_read_line page = codes "ixds: cannot read " ++ (page ++ 10 ∷ [])
@@ -22,6 +25,27 @@ place_text c b = b.page ++ 58 ∷ decimal b.offset
 abbrev pub breach_line : Breach → List ℕ
 breach_line b =
     place_text (class_of b.rule) b ++ (codes ": " ++ (rule_code b.rule ++ (32 ∷ (rule_text b.rule ++ 10 ∷ []))))
+
+-- where a span stands
+abbrev pub span_text : Span → List ℕ
+span_text s = s.page ++ 58 ∷ (decimal s.start ++ 45 ∷ decimal s.end)
+
+abbrev pub next_span : Span → List ℕ
+next_span s = codes ", " ++ span_text s
+
+-- the spans of an item, or that it is nil
+abbrev pub spans_text : Bool → List Span → List ℕ
+spans_text true spans = codes " nil"
+spans_text false [] = []
+spans_text false (s ∷ more) = 32 ∷ (span_text s ++ flat_map next_span more)
+
+-- where an item stands, and its name
+abbrev pub item_text : Traced → List ℕ
+item_text t = t.page ++ 58 ∷ (decimal t.offset ++ (codes " {" ++ (t.name.ns ++ 125 ∷ t.name.local)))
+
+-- its line, with where its text stands
+abbrev pub trace_line : Traced → List ℕ
+trace_line t = item_text t ++ 58 ∷ (spans_text t.nil t.spans ++ 10 ∷ [])
 
 -- the line of the number of a sample, and that of the length of its instance
 abbrev pub number_line : ℕ → List ℕ

@@ -1,9 +1,11 @@
 -- What the pages of a command come to: a report of the rules that they break, targets, or a text.
 use Rattle.std.specs.Prelude.{◌≡◌, ◌≢◌, ◌⊎◌, ℕ, All, Bool, true, false, List, [], ◌∷◌, Some, None}
+use Rattle.std.specs.List.{flat_map}
 use Rattle.ix_base.specs.declared.breach.Found.{Found}
 use Rattle.ix_base.specs.declared.rule.Rule.{Rule}
 use Rattle.ix_base.specs.declared.rule.Rule.TheVariants.{P1}
 use Rattle.ix_base.specs.Trees.{Tree}
+use Rattle.fact_trace.specs.Spans.{Source, traces}
 use Rattle.instance_out.specs.Writable.{IsWritable}
 use Rattle.page_plain.specs.Bare.{bare, is_inline, spell}
 use Rattle.targets.specs.Breaches.{PagesComeTo, on_page, set_rule, text_faults}
@@ -13,8 +15,9 @@ use Rattle.targets.specs.declared.outcome.Outcome.{Outcome}
 use Rattle.targets.specs.declared.outcome.Outcome.TheVariants.{Broken, Whole}
 use Rattle.ixds_run.specs.Commands.{pages_of}
 use Rattle.ixds_run.specs.Sample.{sample_base}
+use Rattle.ixds_run.specs.Texts.{trace_line}
 use Rattle.ixds_run.specs.declared.command.Command.{Command}
-use Rattle.ixds_run.specs.declared.command.Command.TheVariants.{Extract, Check, Sample, Plain}
+use Rattle.ixds_run.specs.declared.command.Command.TheVariants.{Extract, Check, Sample, Plain, Trace}
 use Rattle.ixds_run.specs.declared.verdict.Verdict.{Verdict}
 use Rattle.ixds_run.specs.declared.verdict.Verdict.TheVariants.{Reported, Extracted, Printed}
 
@@ -44,12 +47,33 @@ IsShown names bs v =
     × (((text_faults 0 bs ≢ []) × Reports names (text_faults 0 bs) v)
     ⊎ ((root : Tree) × AreTrees bs (root ∷ []) × IsShownBy (is_inline root.head.name) names root v)))
 
+-- pages of these names with these bytes and trees, as many as there are of all three
+abbrev pub sources : List (List ℕ) → List (List ℕ) → List Tree → List Source
+sources [] bs trees = []
+sources (name ∷ names) [] trees = []
+sources (name ∷ names) (b ∷ bs) [] = []
+sources (name ∷ names) (b ∷ bs) (tree ∷ trees) = record { name = name; bytes = b; tree = tree } ∷ sources names bs trees
+
+-- the lines of the items of these pages
+abbrev pub trace_text : List (List ℕ) → List (List ℕ) → List Tree → List ℕ
+trace_text names bs trees = flat_map trace_line (traces (sources names bs trees))
+
+-- a set that breaks a rule is reported; of any other the lines of its items are printed
+abbrev pub IsTracedBy : Outcome → List (List ℕ) → List (List ℕ) → Verdict → Type 0
+IsTracedBy (Broken report) names bs v = v ≡ Reported report
+IsTracedBy (Whole targets) names bs v = (trees : List Tree) × AreTrees bs trees × (v ≡ Printed (trace_text names bs trees))
+
+-- what pages of these names and bytes come to under this base whose facts are to be shown where they stand
+abbrev pub IsTraced : List ℕ → List (List ℕ) → List (List ℕ) → Verdict → Type 0
+IsTraced base names bs v = (o : Outcome) × PagesComeTo base names bs o × IsTracedBy o names bs v
+
 -- what pages of these names and bytes come to under a command, whatever pages it names itself
 abbrev pub PagesMake : Command → List (List ℕ) → List (List ℕ) → Verdict → Type 0
 PagesMake (Extract base dir pages) names bs v = IsOfSet base names bs v
 PagesMake (Check base pages) names bs v = IsOfSet base names bs v
 PagesMake (Sample number) names bs v = IsOfSet sample_base names bs v
 PagesMake (Plain page) names bs v = IsShown names bs v
+PagesMake (Trace base pages) names bs v = IsTraced base names bs v
 
 -- what the pages of a command come to that have these bytes
 abbrev pub CommandMakes : Command → List (List ℕ) → Verdict → Type 0

@@ -1,7 +1,7 @@
 //! What the words of a command line ask for.
 ghost use Rattle.std.specs.Prelude.{◌≡◌, IfOk, IfSome, Some, map, option_and_then, option_map};
 ghost use Rattle.ixds_run.specs.Commands as spec;
-ghost use Rattle.ixds_run.specs.Simple.{check_app, extract_app, rows_of_matches, rows_taken};
+ghost use Rattle.ixds_run.specs.Simple.{check_app, extract_app, rows_of_matches, rows_taken, trace_app};
 
 use crate::sample::{SAMPLE_BASE, sample_names};
 use base::is_base;
@@ -9,7 +9,7 @@ use clap::ArgMatches;
 use ix_base::{List, NoMemory, Text};
 use names::are_pages;
 use number::sample_number;
-use simple::{check_words, extract_words, matched};
+use simple::{check_words, extract_words, matched, trace_words};
 use std::alloc::Global;
 use std::slice::from_ref;
 
@@ -29,6 +29,8 @@ pub enum Command {
     Sample(u32),
     /// To print a page without its inline markup: the name of the page.
     Plain(Text),
+    /// To tell where the text of each fact stands: the base, and the names of the pages.
+    Trace(Text, List<Text>),
 }
 
 impl Command {
@@ -41,6 +43,7 @@ impl Command {
             Command::Check(_, pages) => copied(alloc, pages.as_slice()),
             Command::Sample(_) => sample_names(alloc),
             Command::Plain(page) => copied(alloc, from_ref(page)),
+            Command::Trace(_, pages) => copied(alloc, pages.as_slice()),
         }
     }
 
@@ -53,6 +56,7 @@ impl Command {
             Command::Check(base, _) => Some(base.as_str()),
             Command::Sample(_) => Some(SAMPLE_BASE),
             Command::Plain(_) => None,
+            Command::Trace(base, _) => Some(base.as_str()),
         }
     }
 
@@ -65,6 +69,7 @@ impl Command {
             Command::Check(_, _) => None,
             Command::Sample(_) => None,
             Command::Plain(_) => None,
+            Command::Trace(_, _) => None,
         }
     }
 
@@ -77,6 +82,7 @@ impl Command {
             Command::Check(_, _) => None,
             Command::Sample(number) => Some(*number),
             Command::Plain(_) => None,
+            Command::Trace(_, _) => None,
         }
     }
 }
@@ -123,15 +129,19 @@ fn extract_from(
     Ok(None)
 }
 
-/// The check that these words name, where they may stand for its parts.
-fn check_from(alloc: Global, base: &str, words: &[&str]) -> Result<Option<Command>, NoMemory>
-    ensures { IfOk result (λ r. r ≡ spec.check_from (Some base.now) (Some (map (λ s. s.now) words.now))) }
+/// The base and the pages that these words name, where they may stand for them.
+fn pages_from(
+    alloc: Global,
+    base: &str,
+    words: &[&str],
+) -> Result<Option<(Text, List<Text>)>, NoMemory>
+    ensures { IfOk result (λ r. r ≡ spec.pages_from (Some base.now) (Some (map (λ s. s.now) words.now))) }
 {
     let is_base = is_base(alloc, base)?;
     let pages = texts_of(alloc, words)?;
     if is_base && are_pages(pages.as_slice()) {
         let base = Text::of(alloc, base)?;
-        return Ok(Some(Command::Check(base, List::of(pages))));
+        return Ok(Some((base, List::of(pages))));
     }
     Ok(None)
 }
@@ -152,9 +162,9 @@ fn extract_in(alloc: Global, matches: &ArgMatches) -> Result<Option<Command>, No
     extract_from(alloc, base, dir, pages)
 }
 
-/// What the matches of `check` ask for.
-fn check_in(alloc: Global, matches: &ArgMatches) -> Result<Option<Command>, NoMemory>
-    ensures { IfOk result (λ r. r ≡ spec.check_in (rows_of_matches matches.now)) }
+/// The base and the pages that matches have.
+fn pages_in(alloc: Global, matches: &ArgMatches) -> Result<Option<(Text, List<Text>)>, NoMemory>
+    ensures { IfOk result (λ r. r ≡ spec.pages_in (rows_of_matches matches.now)) }
 {
     let Some(base) = matches.get_str("base") else {
         return Ok(None);
@@ -162,7 +172,27 @@ fn check_in(alloc: Global, matches: &ArgMatches) -> Result<Option<Command>, NoMe
     let Some(pages) = matches.get_strs("PAGE") else {
         return Ok(None);
     };
-    check_from(alloc, base, pages)
+    pages_from(alloc, base, pages)
+}
+
+/// What the matches of `check` ask for.
+fn check_in(alloc: Global, matches: &ArgMatches) -> Result<Option<Command>, NoMemory>
+    ensures { IfOk result (λ r. r ≡ spec.check_in (rows_of_matches matches.now)) }
+{
+    match pages_in(alloc, matches)? {
+        Some((base, pages)) => Ok(Some(Command::Check(base, pages))),
+        None => Ok(None),
+    }
+}
+
+/// What the matches of `trace` ask for.
+fn trace_in(alloc: Global, matches: &ArgMatches) -> Result<Option<Command>, NoMemory>
+    ensures { IfOk result (λ r. r ≡ spec.trace_in (rows_of_matches matches.now)) }
+{
+    match pages_in(alloc, matches)? {
+        Some((base, pages)) => Ok(Some(Command::Trace(base, pages))),
+        None => Ok(None),
+    }
 }
 
 fn extract_of<'a>(alloc: Global, words: &'a [Text]) -> Result<Option<Command>, NoMemory>
@@ -181,6 +211,16 @@ fn check_of<'a>(alloc: Global, words: &'a [Text]) -> Result<Option<Command>, NoM
     let command = check_words(alloc)?;
     match matched(command, words)? {
         Some(matches) => check_in(alloc, &matches),
+        None => Ok(None),
+    }
+}
+
+fn trace_of<'a>(alloc: Global, words: &'a [Text]) -> Result<Option<Command>, NoMemory>
+    ensures { IfOk result (λ r. r ≡ option_and_then spec.trace_in (rows_taken trace_app words.entry.now)) }
+{
+    let command = trace_words(alloc)?;
+    match matched(command, words)? {
+        Some(matches) => trace_in(alloc, &matches),
         None => Ok(None),
     }
 }
@@ -227,6 +267,9 @@ fn picked(alloc: Global, words: &[Text]) -> Result<Option<Command>, NoMemory>
     }
     if first.as_str() == "plain" {
         return plain_in(alloc, rest);
+    }
+    if first.as_str() == "trace" {
+        return trace_of(alloc, words);
     }
     Ok(None)
 }

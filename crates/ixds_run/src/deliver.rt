@@ -66,7 +66,7 @@ fn put_due<S: TargetSink>(due: &Due, dir: Option<&str>, sink: &mut S) -> Result<
     }
 }
 
-/// Writes the targets that are due, and then the text.
+/// Writes the targets that are due, and then the text, unless that is empty.
 pub fn deliver<S: TargetSink, T: TextSink>(
     due: &Due,
     dir: Option<&str>,
@@ -95,9 +95,13 @@ pub fn deliver<S: TargetSink, T: TextSink>(
         × TextGainsFront due.now.text (T.taken out.old) (T.taken out.new) }
     ensures no_dir { dir.entry ≡ None → sink.new ≡ sink.old }
     ensures none { due.now.targets.items ≡ [] → sink.new ≡ sink.old }
+    ensures silent { due.now.text ≡ [] → out.new ≡ out.old }
 {
     if put_due(due, dir, sink).is_err() {
         return Status::WriteFault;
+    }
+    if due.text.as_str().is_empty() {
+        return due.status();
     }
     match out.put(due.text.as_str().as_bytes()) {
         Ok(()) => due.status(),

@@ -3,7 +3,7 @@ ghost use Rattle.std.specs.Prelude.{◌≡◌, ◌⊎◌, ◌+◌, ◌^◌, ◌<
 ghost use Rattle.ix_base.specs.Outside.{TextGainsFront};
 ghost use Rattle.ixds_run.specs.Answers.{Answers, outside};
 ghost use Rattle.ixds_run.specs.CommandBytes.{AreSome, bytes_told};
-ghost use Rattle.ixds_run.specs.Commands.{IsGiven, number_of, pages_of};
+ghost use Rattle.ixds_run.specs.Commands.{IsGiven, keeps_pages, number_of, pages_of};
 ghost use Rattle.ixds_run.specs.DueTables.{IsDueFrom};
 ghost use Rattle.ixds_run.specs.Gains.{GainsStarts, GainsText};
 ghost use Rattle.ixds_run.specs.Reading.{IsAmong, IsRead, IsSound, StopsInTime, WhyStopped};
@@ -29,6 +29,8 @@ fn due_from<'a>(
 ) -> Result<Due, NoMemory>
     requires given { IsGiven command.now }
     requires sound { IsSound (pages_of command.now) forest }
+    requires keeps { forest.keeps ≡ keeps_pages command.now }
+    requires read { (bs : List (List ℕ)) × IsRead bs forest }
     ensures due { IfOk result (λ due. (bs : List (List ℕ)) → IsRead bs forest.entry → IsDueFrom command.now bs due) }
     ensures none { IfOk result (λ due. due.is_broken ≡ true → due.targets.items ≡ []) }
 {

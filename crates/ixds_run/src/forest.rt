@@ -1,22 +1,19 @@
 //! Reading the pages of a command.
-ghost use Rattle.std.specs.Prelude.{◌≡◌, ◌+◌, ◌^◌, ◌<◌, ◌≤◌, ◌⊎◌, ◌++◌, ◌∷◌, [], ℕ, List, All, length, vec_len, None};
+ghost use Rattle.std.specs.Prelude.{◌≡◌, ◌+◌, ◌^◌, ◌<◌, ◌≤◌, ◌⊎◌, ◌++◌, ◌∷◌, [], ℕ, List, All, length, map, true, vec_len, None};
 ghost use Rattle.std.specs.Prelude.{IfOk, IfErr, IfSome, OnOk, OnErr, option_map};
 ghost use Rattle.ixds_run.specs.Gains.{GainsStarts};
 ghost use Rattle.ixds_run.specs.CommandBytes.{AreSome};
 ghost use Rattle.ix_base.specs.Outside.{TellsAlso};
 ghost use Rattle.page_tree.specs.Standing.{StandsFor, limit, page_number};
-ghost use Rattle.ixds_run.specs.Reading.{HasGained, HasReadCause, IsAmong, IsLastCall, IsRead, IsSound, ReadsOn, StopsAt, StopsInTime, WhyStopped};
+ghost use Rattle.ixds_run.specs.Reading.{HasGained, HasGainedTree, HasReadCause, Holds, IsAmong, IsLastCall, IsRead, IsSound, ReadsOn, StopsAt, StopsInTime, WhyStopped};
 ghost use Rattle.ixds_run.specs.Sources.{told};
 
 use crate::lines::cannot_read;
-use crate::reading::{MOST_BYTES, ReadError, Sums, read_page};
+use crate::reading::{MOST_BYTES, OpenPage, ReadError, Sums, read_page};
 use bumpalo::Bump;
 use ix_base::{Breaches, Element, NoMemory, PageSource, Place, Text};
 use page_tree::{PageFault, TreeBuilder};
 use std::alloc::{AllocError, Global};
-
-/// The most levels of elements of a page.
-pub const DEPTH: u32 = 256;
 
 /// How many bytes a read asks for at most.
 const BUFFER: usize = 65_536;
@@ -27,6 +24,9 @@ pub struct Forest<'a> {
     pub sums: Sums,
     pub roots: Vec<&'a Element<'a>>,
     pub found: Breaches,
+    /// Whether the bytes of pages are kept, and those that are.
+    pub keeps: bool,
+    pub texts: Vec<&'a [u8]>,
 }
 
 /// Why reading ended before its end.
@@ -38,35 +38,50 @@ pub enum Stopped {
 }
 
 /// What stands before the first page.
-pub fn no_pages<'a>(alloc: Global) -> Forest<'a>
+pub fn no_pages<'a>(alloc: Global, keeps: bool) -> Forest<'a>
     ensures bytes { result.sums.bytes ≡ 0 }
     ensures tags { result.sums.tags ≡ 0 }
     ensures found { result.found ≡ [] }
     ensures roots { result.roots.items ≡ [] }
+    ensures keeps { result.keeps ≡ keeps }
+    ensures texts { result.texts.items ≡ [] }
 {
     Forest {
         sums: Sums { bytes: 0, tags: 0 },
         roots: Vec::new(alloc),
         found: Breaches::new(alloc),
+        keeps,
+        texts: Vec::new(alloc),
     }
 }
 
-/// Ends a page, and keeps its root or its break, unless the sums have passed the limit.
-pub fn end_page<'a>(
-    builder: TreeBuilder<'a>,
-    number: u32,
-    forest: &mut Forest<'a>,
+/// Keeps the bytes of a page, where bytes are kept.
+fn keep_text<'a>(
+    arena: &'a Bump,
+    keeps: bool,
+    bytes: &[u8],
+    texts: &mut Vec<&'a [u8]>,
 ) -> Result<(), NoMemory>
-    requires depth { limit builder ≡ 256 }
-    requires page { page_number builder ≡ number }
-    ensures gained { OnOk result (forest.old.sums.bytes ≤ 268435456
-        → (b : List ℕ) → StandsFor builder.entry b → HasGained number b forest.old forest.new) }
-    ensures sums { forest.new.sums ≡ forest.old.sums }
+    ensures { OnOk result (keeps ≡ true → map (λ t. t.now) texts.new.items ≡ map (λ t. t.now) texts.old.items ++ bytes.now ∷ []) }
 {
-    if forest.sums.bytes > MOST_BYTES {
+    if !keeps {
         return Ok(());
     }
-    match builder.finish() {
+    let text: &'a [u8] = arena.try_alloc_slice_copy(bytes)?;
+    texts.push(text)?;
+    Ok(())
+}
+
+/// Ends a tree, and keeps its root or its break.
+fn end_tree<'a>(tree: TreeBuilder<'a>, number: u32, forest: &mut Forest<'a>) -> Result<(), NoMemory>
+    requires depth { limit tree ≡ 256 }
+    requires page { page_number tree ≡ number }
+    ensures gained { OnOk result ((b : List ℕ) → StandsFor tree.entry b → HasGainedTree number b forest.old forest.new) }
+    ensures sums { forest.new.sums ≡ forest.old.sums }
+    ensures keeps { forest.new.keeps ≡ forest.old.keeps }
+    ensures texts { forest.new.texts ≡ forest.old.texts }
+{
+    match tree.finish() {
         Ok(root) => forest.roots.push(root)?,
         Err(PageFault::Broken { offset, rule }) => forest.found.add(
             Place {
@@ -78,6 +93,29 @@ pub fn end_page<'a>(
         Err(PageFault::NoMemory) => return Err(NoMemory),
     }
     Ok(())
+}
+
+/// Ends a page, and keeps its root or its break, and its bytes where bytes are kept, unless the sums have passed the limit.
+pub fn end_page<'a>(
+    arena: &'a Bump,
+    page: OpenPage<'a>,
+    number: u32,
+    forest: &mut Forest<'a>,
+) -> Result<(), NoMemory>
+    requires depth { limit page.tree ≡ 256 }
+    requires page { page_number page.tree ≡ number }
+    requires keeps { page.keeps ≡ forest.old.keeps }
+    ensures gained { OnOk result (forest.old.sums.bytes ≤ 268435456
+        → (b : List ℕ) → Holds page.entry b → HasGained number b forest.old forest.new) }
+    ensures sums { forest.new.sums ≡ forest.old.sums }
+    ensures keeps { forest.new.keeps ≡ forest.old.keeps }
+{
+    if forest.sums.bytes > MOST_BYTES {
+        return Ok(());
+    }
+    let OpenPage { tree, keeps, bytes } = page;
+    keep_text(arena, keeps, bytes.as_slice(), &mut forest.texts)?;
+    end_tree(tree, number, forest)
 }
 
 /// Reads a page and ends it, unless the sums have then passed the limit.
@@ -96,6 +134,7 @@ fn read_on<'a, P: PageSource>(
     requires most { forest.old.sums.bytes ≤ 268435456 }
     requires tags { forest.old.sums.tags ≤ forest.old.sums.bytes }
     ensures reads { OnOk result (ReadsOn (P.page pages.old name.now) (P.left pages.new) number forest.old forest.new) }
+    ensures keeps { OnOk result (forest.new.keeps ≡ forest.old.keeps) }
     ensures most { OnOk result (forest.new.sums.bytes ≤ 268435456 + 65536) }
     ensures tags { OnOk result (forest.new.sums.tags ≤ forest.new.sums.bytes) }
     ensures cause { HasReadCause (P.faults pages.old) (P.faults pages.new) result }
@@ -106,9 +145,9 @@ fn read_on<'a, P: PageSource>(
     ensures told { OnOk result (TellsAlso (P.page pages.old) name.now) }
     ensures numbers { P.numbers pages.new ≡ P.numbers pages.old }
 {
-    let mut builder = TreeBuilder::new(alloc, arena, number, DEPTH);
-    read_page(pages, name, buffer, &mut builder, &mut forest.sums)?;
-    match end_page(builder, number, forest) {
+    let mut page = OpenPage::new(alloc, arena, number, forest.keeps);
+    read_page(pages, name, buffer, &mut page, &mut forest.sums)?;
+    match end_page(arena, page, number, forest) {
         Ok(()) => Ok(()),
         Err(_) => Err(ReadError::NoMemory),
     }
@@ -127,6 +166,7 @@ pub fn read_all<'a, P: PageSource>(
     arena: &'a Bump,
     pages: &mut P,
     names: &[Text],
+    keeps: bool,
 ) -> Result<Forest<'a>, Stopped>
     requires count { P.faults pages.old + 1 < 2 ^ 64 }
     requires some { 0 < length names.now }
@@ -134,6 +174,7 @@ pub fn read_all<'a, P: PageSource>(
     requires short { All (λ n. length n ≤ 4096) names.now }
     ensures reads { IfOk result (λ f. AreSome (told (P.page pages.old) names.now) (λ bs. IsRead bs f)) }
     ensures sound { IfOk result (IsSound names.now) }
+    ensures keeps { IfOk result (λ f. f.keeps ≡ keeps) }
     ensures stops { OnOk result (StopsInTime (P.page pages.old) names.now (P.left pages.new) (P.asked pages.new)) }
     ensures ok { OnOk result (P.faults pages.new ≡ P.faults pages.old) }
     ensures pages { P.page pages.new ≡ P.page pages.old }
@@ -146,7 +187,7 @@ pub fn read_all<'a, P: PageSource>(
     let Ok(mut buffer) = zeros(alloc, BUFFER) else {
         return Err(Stopped::NoMemory);
     };
-    let mut forest = no_pages(alloc);
+    let mut forest = no_pages(alloc, keeps);
     for (number, name) in names.iter().enumerate() {
         read_next(
             alloc,
@@ -182,6 +223,7 @@ fn read_next<'a, P: PageSource>(
     ensures most { OnOk result (forest.new.sums.bytes ≤ 268435456 + 65536) }
     ensures tags { OnOk result (forest.new.sums.tags ≤ forest.new.sums.bytes) }
     ensures reads { OnOk result (ReadsOn (P.page pages.old name.now) (P.left pages.new) number forest.old forest.new) }
+    ensures keeps { OnOk result (forest.new.keeps ≡ forest.old.keeps) }
     ensures named { OnOk result (IfSome (P.asked pages.new) (λ n. n ≡ name.now)) }
     ensures asked { (pages.new ≡ pages.old) ⊎ IfSome (P.asked pages.new) (λ n. n ≡ name.now) }
     ensures started { OnOk result (P.starts pages.new ≡ option_map (λ names. names ++ name.now ∷ []) (P.starts pages.old)) }

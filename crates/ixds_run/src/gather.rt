@@ -1,6 +1,6 @@
 //! The pages of a command.
-ghost use Rattle.std.specs.Prelude.{◌≡◌, ◌+◌, ◌^◌, ◌<◌, ◌≤◌, ◌⊎◌, ℕ, List, None, IfOk, IfErr, IfSome, OnOk};
-ghost use Rattle.ixds_run.specs.Commands.{IsGiven, number_of, pages_of};
+ghost use Rattle.std.specs.Prelude.{◌≡◌, ◌+◌, ◌^◌, ◌<◌, ◌≤◌, ◌⊎◌, ℕ, List, None, false, IfOk, IfErr, IfSome, OnOk};
+ghost use Rattle.ixds_run.specs.Commands.{IsGiven, keeps_pages, number_of, pages_of};
 ghost use Rattle.ixds_run.specs.Gains.{GainsStarts};
 ghost use Rattle.ixds_run.specs.CommandBytes.{AreSome, bytes_told};
 ghost use Rattle.ixds_run.specs.Reading.{IsAmong, IsRead, IsSound, StopsInTime, WhyStopped};
@@ -20,6 +20,7 @@ fn sampled<'a>(alloc: Global, arena: &'a Bump, facts: u32) -> Result<Forest<'a>,
     requires { facts ≤ 200000 }
     ensures reads { IfOk result (IsRead (sample_bytes facts)) }
     ensures sound { IfOk result (IsSound sample_names) }
+    ensures keeps { IfOk result (λ f. f.keeps ≡ false) }
 {
     let pages = sample_pages(alloc, facts)?;
     build_all(alloc, arena, pages.as_slice())
@@ -36,6 +37,7 @@ pub fn gathered<'a, P: PageSource>(
     requires count { P.faults pages.old + 1 < 2 ^ 64 }
     ensures reads { IfOk result (λ f. AreSome (bytes_told (P.page pages.old) command.now) (λ bs. IsRead bs f)) }
     ensures sound { IfOk result (IsSound (pages_of command.now)) }
+    ensures keeps { IfOk result (λ f. f.keeps ≡ keeps_pages command.now) }
     ensures stops { OnOk result (number_of command.now ≡ None
         → StopsInTime (P.page pages.old) (pages_of command.now) (P.left pages.new) (P.asked pages.new)) }
     ensures ok { OnOk result (P.faults pages.new ≡ P.faults pages.old) }
@@ -49,9 +51,10 @@ pub fn gathered<'a, P: PageSource>(
     ensures numbers { P.numbers pages.new ≡ P.numbers pages.old }
 {
     match command {
-        Command::Extract(_, _, names) => read_all(alloc, arena, pages, names.as_slice()),
-        Command::Check(_, names) => read_all(alloc, arena, pages, names.as_slice()),
-        Command::Plain(name) => read_all(alloc, arena, pages, from_ref(name)),
+        Command::Extract(_, _, names) => read_all(alloc, arena, pages, names.as_slice(), false),
+        Command::Check(_, names) => read_all(alloc, arena, pages, names.as_slice(), false),
+        Command::Plain(name) => read_all(alloc, arena, pages, from_ref(name), false),
+        Command::Trace(_, names) => read_all(alloc, arena, pages, names.as_slice(), true),
         Command::Sample(facts) => match sampled(alloc, arena, *facts) {
             Ok(forest) => Ok(forest),
             Err(_) => Err(Stopped::NoMemory),

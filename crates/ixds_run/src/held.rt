@@ -1,12 +1,11 @@
 //! Pages that lie in memory.
-ghost use Rattle.std.specs.Prelude.{◌≤◌, [], Some, length, map, IfOk, OnOk};
+ghost use Rattle.std.specs.Prelude.{◌≡◌, ◌≤◌, [], Some, false, length, map, IfOk, OnOk};
 ghost use Rattle.ixds_run.specs.Reading.{IsRead, IsSound, ReadsOn};
 
-use crate::forest::{DEPTH, Forest, end_page, no_pages};
-use crate::reading::{MOST_BYTES, count_tags};
+use crate::forest::{Forest, end_page, no_pages};
+use crate::reading::{MOST_BYTES, OpenPage, count_tags};
 use bumpalo::Bump;
 use ix_base::{MemPage, NoMemory};
-use page_tree::TreeBuilder;
 use std::alloc::Global;
 
 /// Builds a page in one piece, and ends it as one that was read.
@@ -21,13 +20,14 @@ fn build_page<'a>(
     requires tags { forest.old.sums.tags ≤ forest.old.sums.bytes }
     ensures reads { OnOk result (ReadsOn (Some page.now.bytes) (Some []) number forest.old forest.new) }
     ensures tags { OnOk result (forest.new.sums.tags ≤ forest.new.sums.bytes) }
+    ensures keeps { OnOk result (forest.new.keeps ≡ forest.old.keeps) }
 {
     let bytes = page.bytes.as_slice();
-    let mut builder = TreeBuilder::new(alloc, arena, number, DEPTH);
-    builder.feed(bytes)?;
+    let mut open = OpenPage::new(alloc, arena, number, forest.keeps);
+    open.take(bytes)?;
     forest.sums.bytes += bytes.len() as u64;
     forest.sums.tags += count_tags(bytes);
-    end_page(builder, number, forest)?;
+    end_page(arena, open, number, forest)?;
     Ok(())
 }
 
@@ -40,8 +40,9 @@ pub fn build_all<'a>(
     requires few { length pages.now ≤ 64 }
     ensures reads { IfOk result (IsRead (map (λ p. p.bytes) pages.now)) }
     ensures sound { IfOk result (IsSound (map (λ p. p.name) pages.now)) }
+    ensures keeps { IfOk result (λ f. f.keeps ≡ false) }
 {
-    let mut forest = no_pages(alloc);
+    let mut forest = no_pages(alloc, false);
     for (number, page) in pages.iter().enumerate() {
         build_page(alloc, arena, page, number as u32, &mut forest)?;
         if forest.sums.bytes > MOST_BYTES {

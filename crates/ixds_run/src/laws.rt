@@ -21,6 +21,7 @@ ghost use Rattle.ixds_run.specs.declared.verdict.Verdict.{Verdict};
 ghost use Rattle.ixds_run.specs.Verdicts.{CommandMakes, PagesMake};
 ghost use Rattle.targets.specs.declared.outcome.Outcome.{Outcome};
 
+use fact_trace::laws::traced_in_any_order;
 use facts::laws::one_item;
 use instance_out::read_back;
 use ix_base::{MemPages, MemTargets, MemText, PageSource, TargetSink, TextSink};
@@ -48,10 +49,11 @@ pub fn said_read_back()
 pub fn said_in_any_order()
     ensures set { (base : List ℕ) (o : Outcome) (pages others : List Handed) → IsPermutation pages others
         → PagesComeTo base (names_of pages) (bytes_of pages) o → PagesComeTo base (names_of others) (bytes_of others) o }
-    ensures command { (c d : Command) (bs cs : List (List ℕ)) (v : Verdict) → IsRearranged c bs d cs
+    ensures command { (c d : Command) (bs cs : List (List ℕ)) (v : Verdict) → IsGiven c → IsRearranged c bs d cs
         → CommandMakes c bs v → CommandMakes d cs v }
 {
     sound_tree();
+    traced_in_any_order();
 }
 
 /// For the pages of a command at most one outcome is due.

@@ -22,6 +22,7 @@ mod report;
 mod sample;
 mod status;
 mod summary;
+mod trace;
 mod verdict;
 
 pub use command::{Command, command_of};

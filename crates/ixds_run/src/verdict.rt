@@ -1,6 +1,6 @@
 //! What the pages of a command come to.
 ghost use Rattle.std.specs.Prelude.{◌≡◌, ◌<◌, ◌≤◌, ℕ, List, IfOk, length};
-ghost use Rattle.ixds_run.specs.Commands.{IsGiven, pages_of};
+ghost use Rattle.ixds_run.specs.Commands.{IsGiven, keeps_pages, pages_of};
 ghost use Rattle.ixds_run.specs.Reading.{IsRead, IsSound};
 ghost use Rattle.ixds_run.specs.Verdicts.{AreWritable, CommandMakes, IsOfSet};
 
@@ -9,6 +9,7 @@ use crate::forest::Forest;
 use crate::judge::judge;
 use crate::plain::shown;
 use crate::sample::SAMPLE_BASE;
+use crate::trace::traced;
 use bumpalo::Bump;
 use ix_base::{List, NoMemory, Report, Text};
 use std::alloc::Global;
@@ -54,6 +55,8 @@ pub fn verdict_from<'a>(
 ) -> Result<Verdict, NoMemory>
     requires given { IsGiven command.now }
     requires sound { IsSound (pages_of command.now) forest }
+    requires keeps { forest.keeps ≡ keeps_pages command.now }
+    requires read { (bs : List (List ℕ)) × IsRead bs forest }
     ensures makes { IfOk result (λ v. (bs : List (List ℕ)) → IsRead bs forest.entry → CommandMakes command.now bs v) }
     ensures written { IfOk result AreWritable }
 {
@@ -64,5 +67,6 @@ pub fn verdict_from<'a>(
         Command::Check(base, _) => of_set(alloc, arena, base.as_str(), names, forest),
         Command::Sample(_) => of_set(alloc, arena, SAMPLE_BASE, names, forest),
         Command::Plain(_) => shown(alloc, names, forest),
+        Command::Trace(base, _) => traced(alloc, arena, base.as_str(), names, forest),
     }
 }

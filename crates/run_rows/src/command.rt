@@ -18,6 +18,10 @@ pub(crate) fn command_text(alloc: Global, words: &[Text]) -> Result<String> {
         }
         Some(Command::Sample(number)) => write!(text, "sample|{number}")?,
         Some(Command::Plain(page)) => write!(text, "plain|{}", page.as_str())?,
+        Some(Command::Trace(base, pages)) => {
+            write!(text, "trace|{}", base.as_str())?;
+            push_pages(pages.as_slice(), &mut text)?;
+        }
         None => text.push_str("none")?,
     }
     Ok(text)

@@ -1,7 +1,7 @@
-//! The simple commands that read the words after `extract` and `check`.
+//! The simple commands that read the words after `extract`, `check` and `trace`.
 ghost use Rattle.std.specs.Prelude.{◌≡◌, IfOk, false, true, option_map};
 ghost use Rattle.clap.specs.Words.{app_of, rule_of, is_simple_and_free};
-ghost use Rattle.ixds_run.specs.Simple.{check_app, extract_app, option_rule, page_rule, rows_of_matches, rows_taken};
+ghost use Rattle.ixds_run.specs.Simple.{check_app, extract_app, option_rule, page_rule, rows_of_matches, rows_taken, trace_app};
 
 use clap::error::ErrorKind;
 use clap::{Arg, ArgMatches, Command};
@@ -40,6 +40,16 @@ pub fn check_words<'a>(alloc: Global) -> Result<Command<'a>, NoMemory>
     ensures { IfOk result (λ c. app_of c ≡ check_app) }
 {
     let command = Command::new(alloc, "check")
+        .arg(option(alloc, "base"))?
+        .arg(page_argument(alloc))?;
+    Ok(command)
+}
+
+/// What reads the words from `trace` on.
+pub fn trace_words<'a>(alloc: Global) -> Result<Command<'a>, NoMemory>
+    ensures { IfOk result (λ c. app_of c ≡ trace_app) }
+{
+    let command = Command::new(alloc, "trace")
         .arg(option(alloc, "base"))?
         .arg(page_argument(alloc))?;
     Ok(command)

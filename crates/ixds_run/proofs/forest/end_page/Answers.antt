@@ -1,14 +1,9 @@
 use Rattle.std.proofs.Common.{refl}
-use Rattle.page_tree.specs.Standing.{limit}
-use Rattle.ixds_run.proofs.ForestLaws.{gained_root, gained_fault}
+use Rattle.ixds_run.proofs.ForestLaws.{page_gained}
 use Rattle.ixds_run.proofs.forest.end_page.Goals as goal
 
-pub returns-in_ok-push-in-Ok-clause-gained : goal.returns-in_ok-push-in-Ok-clause-gained
-returns-in_ok-push-in-Ok-clause-gained c most b h =
-    gained_root c.args.number b (limit c.args.builder) _ _ c.in-Ok.root c.requires.depth (c.in-Ok.ensures.verdict b h (λ e. cc)) refl c.in_ok-push-in-Ok.ensures.items
-    (c.in-Ok.ensures.root b h) (c.in-Ok.ensures.page b h) c.requires.page
-
-pub returns-in_ok-add-in-Err-Broken-clause-gained : goal.returns-in_ok-add-in-Err-Broken-clause-gained
-returns-in_ok-add-in-Err-Broken-clause-gained c most b h =
-    let told = rw c.in-Err-Broken.field-0-is at c.in-Err-Broken.ensures.verdict b h (λ e. cc) in
-    gained_fault c.args.number b (limit c.args.builder) _ _ _ _ c.requires.depth told c.in_ok-add-in-Err-Broken.ensures.ok
+pub returns-clause-gained : goal.returns-clause-gained
+returns-clause-gained c =
+    page_gained c.end_tree.result c.args.number 268435456 c.args.page c.args.forest.now (record c.args.forest.now { texts = c.keep_text.new.texts }) c.end_tree.new.forest
+    c.as_slice.result.now refl refl refl c.requires.keeps c.as_slice.ensures.value c.in_ok-keep_text.ensures c.end_tree.ensures.keeps c.end_tree.ensures.texts
+    c.end_tree.ensures.gained

@@ -15,8 +15,9 @@ loop-number-init g c =
       room = search rules;
       most = omega (arith, none.bytes);
       tags = omega (arith, none.bytes, none.tags);
-      read = read_none _ _ _ none.bytes none.tags none.found none.roots;
+      read = read_none _ _ _ none.bytes none.tags none.found none.roots none.texts;
       starts = none_started _;
+      keeps = none.keeps;
       same = λ e. refl;
       stops = inl refl;
     }
@@ -41,6 +42,7 @@ loop-number-preserved g c =
       read = read_more page names name (drop (n + 1) names) n _ _ _ (omega arith) on
           (subst (λ (pg : List ℕ → Option (List ℕ)). TellsAlso pg name) c.loop-number.invariant.page c.in_ok-read_next.ensures.told) h;
       starts = one_started names n name _ _ _ within c.index-names-number.is c.loop-number.invariant.starts c.in_ok-read_next.ensures.started;
+      keeps = c.in_ok-read_next.ensures.keeps ∙ c.loop-number.invariant.keeps;
       same = λ e. absurd (let z : n + 1 ≡ 0 = e in omega arith);
       stops = inr (last_is page names name (drop (n + 1) names) n _ _ _ _ c.loop-number.invariant.most c.in_ok-read_next.ensures.most c.in_ok-read_next.ensures.named on h);
     }

@@ -1,4 +1,4 @@
-use Rattle.std.proofs.Common.{arith}
+use Rattle.std.proofs.Common.{◌∙◌, arith}
 use Rattle.ixds_run.proofs.ForestLaws.{over_is_sound, read_none}
 use Rattle.ixds_run.proofs.HeldLaws.{built_all, built_more, built_over, built_sound}
 use Rattle.ixds_run.proofs.held.build_all.Goals as goal
@@ -9,12 +9,14 @@ loop-number-init c =
     record {
       most = omega (arith, none.bytes);
       tags = omega (arith, none.bytes, none.tags);
-      read = read_none _ _ _ none.bytes none.tags none.found none.roots;
+      keeps = none.keeps;
+      read = read_none _ _ _ none.bytes none.tags none.found none.roots none.texts;
     }
 
 pub loop-number-preserved : goal.loop-number-preserved
 loop-number-preserved c = record {
   most = c.if-forest-gt-MOST_BYTES.false;
+  keeps = c.in_ok-build_page.ensures.keeps ∙ c.loop-number.invariant.keeps;
   tags = c.in_ok-build_page.ensures.tags;
   read = built_more c.args.pages.now c.loop-number.number c.index-pages-number.result c.loop-number.forest c.build_page.new.forest
       (omega arith) c.index-pages-number.is c.in_ok-build_page.ensures.reads c.loop-number.invariant.read c.if-forest-gt-MOST_BYTES.false;

@@ -5,4 +5,4 @@ pub returns-clause-set : goal.returns-clause-set
 returns-clause-set c base o pages others m = says-rearranged c.sound_tree.ensures.tree base o pages others m
 
 pub returns-clause-command : goal.returns-clause-command
-returns-clause-command g = made-rearranged g.sound_tree.ensures.tree
+returns-clause-command g = made-rearranged g.sound_tree.ensures.tree g.traced_in_any_order.ensures

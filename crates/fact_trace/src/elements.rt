@@ -1,0 +1,130 @@
+//! The elements whose text is an item's, and where their text stands.
+ghost use Rattle.std.specs.Prelude.{◌≡◌, ◌++◌, OnOk, IfOk, codes, map, option_map, unwrap_or};
+ghost use Rattle.ix_base.specs.Holding.{is_of};
+ghost use Rattle.ix_base.specs.Namespaces.{ix_namespace};
+ghost use Rattle.ix_base.specs.Trees.{named, nodes_of, tree_of};
+ghost use Rattle.facts.specs.FractionValue as fraction;
+ghost use Rattle.fact_trace.specs.Parts.{left_out_at};
+ghost use Rattle.fact_trace.specs.Spans as spec;
+ghost use Rattle.fact_trace.specs.Spans.{element_spans, span_of};
+ghost use Rattle.fact_trace.specs.Walks.{IsOfPage};
+
+use crate::moves::{Move, step_at};
+use crate::page::Page;
+use crate::span::Span;
+use crate::walk::push_way;
+use ix_base::{Element, List, Name, NoMemory, Node, is_ix};
+use std::alloc::Global;
+
+/// Whether an element of this name is left out of texts.
+fn is_left_out(name: &Name<'_>) -> bool
+    ensures { result ≡ spec.is_left_out (named name.now) }
+{
+    is_ix(name) && name.local == "exclude"
+}
+
+/// Adds the offset of an element that is left out, and those of the ones in it.
+#[cycle(left_out)]
+fn push_left_out(element: &Element<'_>, offsets: &mut Vec<u64>) -> Result<(), NoMemory>
+    ensures { OnOk result (offsets.new.items ≡ offsets.old.items ++ left_out_at (tree_of element.now)) }
+{
+    if is_left_out(&element.name) {
+        offsets.push(element.place.offset)?;
+    }
+    push_all_left_out(element.children, offsets)
+}
+
+/// Adds the offsets of the elements among some nodes and below that are left out, in document order.
+#[cycle(left_out)]
+fn push_all_left_out(nodes: &[Node<'_>], offsets: &mut Vec<u64>) -> Result<(), NoMemory>
+    ensures { OnOk result (offsets.new.items ≡ offsets.old.items ++ spec.left_out (nodes_of nodes.now)) }
+{
+    for node in nodes {
+        match node {
+            Node::Chars(_) => {}
+            Node::Elem(element) => push_left_out(element, offsets)?,
+        }
+    }
+    Ok(())
+}
+
+/// The offsets of the elements in an element that are left out.
+fn left_out_of(alloc: Global, element: &Element<'_>) -> Result<Vec<u64>, NoMemory>
+    ensures { IfOk result (λ v. v.items ≡ spec.left_out (tree_of element.now).children) }
+{
+    let mut offsets = Vec::new(alloc);
+    push_all_left_out(element.children, &mut offsets)?;
+    Ok(offsets)
+}
+
+/// Adds the spans of an element of a page.
+pub(crate) fn push_element(
+    alloc: Global,
+    page: &Page<'_>,
+    element: &Element<'_>,
+    spans: &mut List<Span>,
+) -> Result<(), NoMemory>
+    requires { IsOfPage page.now.bytes.now (tree_of element.now) }
+    ensures { OnOk result (spans.new ≡ spans.old
+        ++ map (span_of page.now.name) (element_spans page.now.bytes.now (tree_of element.now))) }
+{
+    let Some(tag) = step_at(page.bytes, element.place.offset) else {
+        return Ok(());
+    };
+    match tag.does {
+        Move::Opens(_) => {
+            let left_out = left_out_of(alloc, element)?;
+            push_way(alloc, page, left_out.as_slice(), tag.end, spans)
+        }
+        Move::Closes | Move::Says | Move::Passes => Ok(()),
+    }
+}
+
+/// Whether an element of this name is a nonFraction.
+fn is_number(name: &Name<'_>) -> bool
+    ensures { result ≡ is_of (named name.now) ix_namespace (codes "nonFraction") }
+{
+    is_ix(name) && name.local == "nonFraction"
+}
+
+/// The nonFraction whose text is that of a nonFraction: itself, or the innermost in it.
+pub(crate) fn innermost<'a>(e: &'a Element<'a>) -> &'a Element<'a>
+    ensures { tree_of result.now ≡ unwrap_or (spec.nested_in (tree_of e.entry.now).children) (tree_of e.entry.now) }
+{
+    for node in e.children {
+        let Node::Elem(below) = node else {
+            continue;
+        };
+        if is_number(&below.name) {
+            return innermost(below);
+        }
+    }
+    e
+}
+
+/// The part of a fraction that has this local name and stands among some nodes.
+#[cycle(part)]
+pub(crate) fn part_in<'a>(local: &str, nodes: &'a [Node<'a>]) -> Option<&'a Element<'a>>
+    ensures { option_map (λ e. tree_of e.now) result ≡ fraction.part_in local.now (nodes_of nodes.entry.now) }
+{
+    for node in nodes {
+        let Node::Elem(below) = node else {
+            continue;
+        };
+        if let Some(part) = part_at(local, below) {
+            return Some(part);
+        }
+    }
+    None
+}
+
+/// The same of one element: itself, or what it holds.
+#[cycle(part)]
+fn part_at<'a>(local: &str, e: &'a Element<'a>) -> Option<&'a Element<'a>>
+    ensures { option_map (λ e. tree_of e.now) result ≡ fraction.part_at local.now (tree_of e.entry.now) }
+{
+    if !is_ix(&e.name) {
+        return part_in(local, e.children);
+    }
+    if e.name.local == local { Some(e) } else { None }
+}

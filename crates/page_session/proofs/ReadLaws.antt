@@ -1,0 +1,130 @@
+-- Reading a page piece by piece.
+use Rattle.std.proofs.Common.{◌≡◌, ◌∙◌, ap, sym, refl, ℕ, ◌+◌, ◌≤◌, ◌<◌, ◌==◌, cond, List, [], ◌++◌, length, take, drop, Option, Some, None, IfSome, option_map, append_assoc, subst, arith, length-append, add-zero, append-nil, true, false, Bool, ◌&&◌, nat_le, ◌⊎◌, inl, inr, rules}
+use Rattle.std.proofs.lemmas.Bool.{cases_lt}
+use Rattle.page_session.specs.Limits.{may_hold, Passes}
+use Rattle.page_session.specs.Sessions.{IsHeld, OfPage}
+use Rattle.page_session.specs.declared.kept.Held.{Held}
+use Rattle.std.proofs.lemmas.List.{take-append-drop, length-take-le}
+use Rattle.std.proofs.lemmas.List.Sums.{sum_by-append}
+use Rattle.ix_base.specs.Outside.{ReadsFrom}
+use Rattle.page_tree.specs.Standing.{StandsFor}
+use Rattle.page_tree.specs.declared.builder.TreeBuilder.{TreeBuilder}
+use Rattle.targets.specs.Breaches.{tags_in}
+use Rattle.page_session.specs.Reading.{HasFed, IsWhole, is_within}
+use Rattle.page_session.specs.declared.reading.Sums.{Sums}
+
+tags-append : (xs ys : List ℕ) → tags_in (xs ++ ys) ≡ tags_in xs + tags_in ys
+tags-append xs ys = sum_by-append (λ b. cond (b == 60) 1 0) xs ys
+
+-- what is told of a page, once a piece of it was read
+pub told_on : (page left left' : Option (List ℕ)) (front buf : List ℕ) (n : ℕ)
+    → IfSome left (λ rest. ReadsFrom rest buf n) → left' ≡ option_map (drop n) left
+    → IfSome page (λ b. (rest : List ℕ) × (b ≡ front ++ rest) × (left ≡ Some rest))
+    → IfSome page (λ b. (rest : List ℕ) × (b ≡ (front ++ take n buf) ++ rest) × (left' ≡ Some rest))
+told_on None left left' front buf n piece next t = tt
+told_on (Some b) left left' front buf n piece next t =
+    let p : ReadsFrom t.0 buf n = subst (λ (l : Option (List ℕ)). IfSome l (λ rest. ReadsFrom rest buf n)) t.2 piece in
+    let split : take n buf ++ drop n t.0 ≡ t.0 = ap (λ x. x ++ drop n t.0) p.bytes ∙ take-append-drop n t.0 in
+    (drop n t.0, t.1 ∙ ap (λ x. front ++ x) (sym split) ∙ sym (append_assoc front (take n buf) (drop n t.0)), next ∙ ap (option_map (drop n)) t.2)
+
+-- a piece was read, and the builder took it
+pub read_on : (page left left' : Option (List ℕ)) (t t' : TreeBuilder) (before s s' : Sums) (buf : List ℕ) (n : ℕ)
+    → n ≤ length buf → IfSome left (λ rest. ReadsFrom rest buf n) → left' ≡ option_map (drop n) left
+    → ((b : List ℕ) → StandsFor t b → StandsFor t' (b ++ take n buf)) → s'.bytes ≡ s.bytes + n → s'.tags ≡ s.tags + tags_in (take n buf)
+    → HasFed page left t before s → HasFed page left' t' before s'
+read_on page left left' t t' before s s' buf n within piece next takes bytes tags h =
+    let size : length (take n buf) ≡ n = length-take-le n buf within in
+    let sum = length-append h.front (take n buf) in
+    let more = tags-append h.front (take n buf) in
+    let was = h.bytes in
+    let had = h.tags in
+    record {
+      front = h.front ++ take n buf;
+      built = takes h.front h.built;
+      bytes = let goal : s'.bytes ≡ before.bytes + length (h.front ++ take n buf) = omega arith in goal;
+      tags = let goal : s'.tags ≡ before.tags + tags_in (h.front ++ take n buf) = omega arith in goal;
+      told = told_on page left left' h.front buf n piece next h.told;
+    }
+
+-- nothing was read, which is so at the end alone
+pub read_end : (left left' : Option (List ℕ)) (buf : List ℕ) (n : ℕ) → n ≡ 0 → IfSome left (λ rest. ReadsFrom rest buf n) → left' ≡ option_map (drop n) left
+    → IfSome left' (λ rest. rest ≡ [])
+read_end None left' buf n none piece next = rw next tt
+read_end (Some rest) left' buf n none piece next = rw (next, none) (piece.end none)
+
+-- nothing was read yet
+pub fed_nothing : (o left : Option (List ℕ)) (t : TreeBuilder) (s : Sums) → left ≡ o → StandsFor t [] → HasFed o left t s s
+fed_nothing o left t s at built =
+    record { front = []; built = built; bytes = sym (add-zero s.bytes); tags = sym (add-zero s.tags); told = told_nothing o left at }
+  where
+    told_nothing : (o left : Option (List ℕ)) → left ≡ o → IfSome o (λ b. (rest : List ℕ) × (b ≡ [] ++ rest) × (left ≡ Some rest))
+    told_nothing None left at = tt
+    told_nothing (Some b) left at = (b, refl, at)
+
+pub told_end : (page left : Option (List ℕ)) (front : List ℕ) → IfSome left (λ rest. rest ≡ [])
+    → IfSome page (λ b. (rest : List ℕ) × (b ≡ front ++ rest) × (left ≡ Some rest)) → IfSome page (λ b. left ≡ Some [])
+told_end None left front end t = tt
+told_end (Some b) left front end t =
+    t.2 ∙ ap Some (subst (λ (l : Option (List ℕ)). IfSome l (λ rest. rest ≡ [])) t.2 end)
+
+-- all of it was read
+pub whole_at_end : (page left : Option (List ℕ)) (t : TreeBuilder) (before s most : Sums) → HasFed page left t before s → IfSome left (λ rest. rest ≡ [])
+    → IsWhole page left s most
+whole_at_end page left t before s most h end = λ within. told_end page left h.front end h.told
+
+-- more was read than may be
+pub whole_over : (page left : Option (List ℕ)) (s most : Sums) → is_within s most ≡ false → IsWhole page left s most
+whole_over page left s most over = λ within. absurd cc
+
+pub held_bytes : (bytes tags : ℕ) → may_hold bytes tags ≡ true → bytes ≤ 134217728
+held_bytes bytes tags h = by (nat_le bytes 134217728) refl h
+  where
+    by : (v : Bool) → nat_le bytes 134217728 ≡ v → (v && nat_le tags 4194304) ≡ true → bytes ≤ 134217728
+    by true e h = search rules
+    by false e h = absurd cc
+
+pub held_tags : (bytes tags : ℕ) → may_hold bytes tags ≡ true → tags ≤ 4194304
+held_tags bytes tags h = by (nat_le bytes 134217728) refl h
+  where
+    by : (v : Bool) → nat_le bytes 134217728 ≡ v → (v && nat_le tags 4194304) ≡ true → tags ≤ 4194304
+    by true e h = search rules
+    by false e h = absurd cc
+
+pub over_either : (bytes tags : ℕ) → may_hold bytes tags ≡ false → Passes bytes tags
+over_either bytes tags h = by (cases_lt 134217728 bytes) (cases_lt 4194304 tags)
+  where
+    by : (134217728 < bytes) ⊎ (bytes ≤ 134217728) → (4194304 < tags) ⊎ (tags ≤ 4194304) → Passes bytes tags
+    by (inl b) t = inl b
+    by (inr b) (inl t) = inr t
+    by (inr b) (inr t) = absurd (let both : may_hold bytes tags ≡ true = search rules in cc)
+
+-- a front that is over makes the page over
+over_more : (s : Sums) (front rest b : List ℕ) → b ≡ front ++ rest → Passes (s.bytes + length front) (s.tags + tags_in front) → Passes (s.bytes + length b) (s.tags + tags_in b)
+over_more s front rest b e (inl h) = let n : length b ≡ length front + length rest = ap length e ∙ length-append front rest in inl (omega arith)
+over_more s front rest b e (inr h) = let n : tags_in b ≡ tags_in front + tags_in rest = ap (λ x. tags_in x) e ∙ tags-append front rest in inr (omega arith)
+
+-- what was read is over, and so is the page, where the source tells it
+pub page_over : (page left : Option (List ℕ)) (t : TreeBuilder) (before s : Sums) → HasFed page left t before s → may_hold s.bytes s.tags ≡ false
+    → OfPage page (λ b. Passes (before.bytes + length b) (before.tags + tags_in b))
+page_over page left t before s h over = by page h.told
+  where
+    passes : Passes (before.bytes + length h.front) (before.tags + tags_in h.front)
+    passes = subst (λ k. Passes k (before.tags + tags_in h.front)) h.bytes (subst (λ k. Passes s.bytes k) h.tags (over_either s.bytes s.tags over))
+
+    by : (o : Option (List ℕ)) → IfSome o (λ b. (rest : List ℕ) × (b ≡ h.front ++ rest) × (left ≡ Some rest)) → OfPage o (λ b. Passes (before.bytes + length b) (before.tags + tags_in b))
+    by None told = (h.front, tt, passes)
+    by (Some b) told = (b, refl, over_more before h.front told.0 b told.1 passes)
+
+-- all of the page was read, and this is kept of it
+pub page_held : (page left : Option (List ℕ)) (t : TreeBuilder) (before s most : Sums) (k : Held) → HasFed page left t before s → IsWhole page left s most
+    → is_within s most ≡ true → ((b : List ℕ) → StandsFor t b → IsHeld k b)
+    → OfPage page (λ b. IsHeld k b × (s.bytes ≡ before.bytes + length b) × (s.tags ≡ before.tags + tags_in b))
+page_held page left t before s most k h whole within held = (h.front, by page h.told (whole within), (held h.front h.built, h.bytes, h.tags))
+  where
+    by : (o : Option (List ℕ)) → IfSome o (λ b. (rest : List ℕ) × (b ≡ h.front ++ rest) × (left ≡ Some rest)) → IfSome o (λ b. left ≡ Some [])
+        → IfSome o (λ b. b ≡ h.front)
+    by None told end = tt
+    by (Some b) told end =
+        let some : Some told.0 ≡ Some [] = sym told.2 ∙ end in
+        let none : told.0 ≡ [] = cc in
+        told.1 ∙ ap (λ r. h.front ++ r) none ∙ append-nil h.front

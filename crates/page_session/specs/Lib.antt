@@ -1,0 +1,10 @@
+pub mod Course
+pub mod Handed
+pub mod Limits
+pub mod Names
+pub mod Reading
+pub mod Rooted
+pub mod Script
+pub mod Sessions
+pub mod Sources
+pub mod Steps

@@ -1,0 +1,141 @@
+//! Reading a page into a builder of its tree, until sums of what was read pass their numbers.
+ghost use Rattle.std.specs.Prelude.{◌≡◌, ◌+◌, ◌^◌, ◌<◌, ◌≤◌, ◌++◌, ◌∷◌, [], ℕ, List, Option, length, vec_len, true, false};
+ghost use Rattle.std.specs.Prelude.{IsTrue, IfOk, IfSome, OnOk, option_map};
+ghost use Rattle.ix_base.specs.Outside.{TellsAlso};
+ghost use Rattle.page_tree.specs.Standing.{StandsFor, fed_bytes, limit, page_number};
+ghost use Rattle.targets.specs.Breaches.{tags_in};
+ghost use Rattle.page_session.specs.Reading.{HasFed, HasReadCause, IsLastCall, IsWhole, is_within};
+ghost use Rattle.page_session.specs.declared.reading.Sums.{Sums as SumsOf};
+
+use ix_base::PageSource;
+use page_tree::TreeBuilder;
+use std::alloc::{AllocError, Global};
+use thiserror::Error;
+
+/// Why a page was not read.
+#[derive(Debug, Drop, Error)]
+pub enum ReadError {
+    #[error("a page can't be read")]
+    Failed,
+    #[error("no memory is left")]
+    NoMemory,
+}
+
+/// How many bytes were read, and how many of them are `<`.
+#[derive(Clone, Copy)]
+pub struct Sums {
+    pub bytes: u64,
+    pub tags: u64,
+}
+
+impl Sums {
+    /// Whether neither sum is above its number.
+    pub fn is_within(self, most: Sums) -> bool
+        ensures { result ≡ is_within self most }
+    {
+        self.bytes <= most.bytes && self.tags <= most.tags
+    }
+}
+
+/// How many bytes a read asks for at most.
+const BUFFER: usize = 65_536;
+
+/// Room for what a read gives.
+pub(crate) fn buffer(alloc: Global) -> Result<Vec<u8>, AllocError>
+    ensures { IfOk result (λ v. vec_len v ≡ 65536) }
+{
+    vec![in alloc; 0u8; BUFFER]
+}
+
+/// How many bytes of a piece are `<`.
+pub fn count_tags(piece: &[u8]) -> u64
+    ensures value { result ≡ tags_in piece.now }
+    ensures most { result ≤ length piece.now }
+{
+    piece.iter().filter(|b| **b == b'<').count() as u64
+}
+
+/// Reads a piece, gives it to the builder and adds to the sums. It answers whether there was any.
+fn read_piece<P: PageSource>(
+    pages: &mut P,
+    buffer: &mut [u8],
+    builder: &mut TreeBuilder<'_>,
+    sums: &mut Sums,
+) -> Result<bool, ReadError>
+    requires count { P.faults pages.old + 1 < 2 ^ 64 }
+    requires started { IsTrue (P.started pages.old) }
+    requires room { 0 < length buffer.old }
+    requires fed { fed_bytes builder.old ≤ sums.old.bytes }
+    requires tags { sums.old.tags ≤ sums.old.bytes }
+    requires most { sums.old.bytes + length buffer.old < 2 ^ 64 }
+    ensures reads { OnOk result ((page : Option (List ℕ)) (before : SumsOf) → HasFed page (P.left pages.old) builder.old before sums.old
+        → HasFed page (P.left pages.new) builder.new before sums.new) }
+    ensures end { IfOk result (λ more. more ≡ false → IfSome (P.left pages.new) (λ rest. rest ≡ [])) }
+    ensures grows { IfOk result (λ more. more ≡ true → sums.old.bytes < sums.new.bytes) }
+    ensures most { OnOk result (sums.new.bytes ≤ sums.old.bytes + length buffer.old) }
+    ensures fed { OnOk result (fed_bytes builder.new ≤ sums.new.bytes) }
+    ensures tags { OnOk result (sums.new.tags ≤ sums.new.bytes) }
+    ensures limit { OnOk result (limit builder.new ≡ limit builder.old) }
+    ensures page { OnOk result (page_number builder.new ≡ page_number builder.old) }
+    ensures started { OnOk result (P.started pages.new ≡ P.started pages.old) }
+    ensures asked { P.asked pages.new ≡ P.asked pages.old }
+    ensures starts { P.starts pages.new ≡ P.starts pages.old }
+    ensures pages { P.page pages.new ≡ P.page pages.old }
+    ensures cause { HasReadCause (P.faults pages.old) (P.faults pages.new) result }
+    ensures failed { IsLastCall (P.last_failed pages.new) result }
+    ensures numbers { P.numbers pages.new ≡ P.numbers pages.old }
+{
+    let n = match pages.read(buffer) {
+        Ok(n) => n,
+        Err(_) => return Err(ReadError::Failed),
+    };
+    let piece = &buffer[..n];
+    let Ok(()) = builder.feed(piece) else {
+        return Err(ReadError::NoMemory);
+    };
+    sums.bytes += n as u64;
+    sums.tags += count_tags(piece);
+    Ok(n > 0)
+}
+
+/// Reads a page into a builder that was given nothing, and adds to the sums. It stops once one of these is above its number.
+pub fn read_page<P: PageSource>(
+    pages: &mut P,
+    name: &str,
+    buffer: &mut [u8],
+    builder: &mut TreeBuilder<'_>,
+    sums: &mut Sums,
+    most: Sums,
+) -> Result<(), ReadError>
+    requires count { P.faults pages.old + 1 < 2 ^ 64 }
+    requires name { length name.now ≤ 4096 }
+    requires room { length buffer.old ≡ 65536 }
+    requires fresh { StandsFor builder.old [] }
+    requires fed { fed_bytes builder.old ≡ 0 }
+    requires least { sums.old.bytes ≤ most.bytes }
+    requires fits { most.bytes + 65536 < 2 ^ 64 }
+    requires tags { sums.old.tags ≤ sums.old.bytes }
+    ensures reads { OnOk result (HasFed (P.page pages.old name.now) (P.left pages.new) builder.new sums.old sums.new) }
+    ensures whole { OnOk result (IsWhole (P.page pages.old name.now) (P.left pages.new) sums.new most) }
+    ensures most { OnOk result (sums.new.bytes ≤ most.bytes + 65536) }
+    ensures tags { OnOk result (sums.new.tags ≤ sums.new.bytes) }
+    ensures limit { OnOk result (limit builder.new ≡ limit builder.old) }
+    ensures page { OnOk result (page_number builder.new ≡ page_number builder.old) }
+    ensures named { IfSome (P.asked pages.new) (λ n. n ≡ name.now) }
+    ensures starts { P.starts pages.new ≡ option_map (λ names. names ++ name.now ∷ []) (P.starts pages.old) }
+    ensures pages { P.page pages.new ≡ P.page pages.old }
+    ensures cause { HasReadCause (P.faults pages.old) (P.faults pages.new) result }
+    ensures failed { IsLastCall (P.last_failed pages.new) result }
+    ensures numbers { P.numbers pages.new ≡ P.numbers pages.old }
+    ensures told { OnOk result (TellsAlso (P.page pages.old) name.now) }
+{
+    if pages.start(name).is_err() {
+        return Err(ReadError::Failed);
+    }
+    while sums.is_within(most) {
+        if !read_piece(pages, buffer, builder, sums)? {
+            break;
+        }
+    }
+    Ok(())
+}
