@@ -12,8 +12,10 @@ DESTDIR =
 BUILD = ./ixds
 
 NAME = ixds-$(VERSION)-linux-x86_64
-HELPERS = $(wildcard lines/ixds-lines view/ixds-view)
+HELPERS = lines/ixds-lines view/ixds-view
+PARTS = view/ixds_view
 BIN = $(DESTDIR)$(PREFIX)/bin
+SHARE = $(DESTDIR)$(PREFIX)/share/ixds
 MAN = $(DESTDIR)$(PREFIX)/share/man/man1
 COMPLETION = $(DESTDIR)$(PREFIX)/share/bash-completion/completions
 PROGRAM = crates/ixds_cli/out/ixds_cli
@@ -30,14 +32,18 @@ install: program
 	install -d "$(BIN)" "$(MAN)" "$(COMPLETION)"
 	install -m 755 $(PROGRAM) "$(BIN)/ixds"
 	install -m 755 $(HELPERS) "$(BIN)"
+	install -d "$(SHARE)/$(notdir $(PARTS))"
+	install -m 644 $(PARTS)/*.py "$(SHARE)/$(notdir $(PARTS))"
 	sed 's/@VERSION@/$(VERSION)/' install/ixds.1 >"$(MAN)/ixds.1"
 	chmod 644 "$(MAN)/ixds.1"
 	install -m 644 install/ixds.bash "$(COMPLETION)/ixds"
 	ln -sf ixds "$(COMPLETION)/ixds-lines"
+	ln -sf ixds "$(COMPLETION)/ixds-view"
 
 uninstall:
 	rm -f "$(BIN)/ixds" $(addprefix "$(BIN)"/,$(notdir $(HELPERS)))
-	rm -f "$(MAN)/ixds.1" "$(COMPLETION)/ixds" "$(COMPLETION)/ixds-lines"
+	rm -rf "$(SHARE)"
+	rm -f "$(MAN)/ixds.1" "$(COMPLETION)/ixds" "$(COMPLETION)/ixds-lines" "$(COMPLETION)/ixds-view"
 
 # What was proved is said by the commit and by the kit that proved it, which must be there.
 dist: program

@@ -1,4 +1,4 @@
-# Completion for bash of ixds and ixds-lines.
+# Completion for bash of ixds, ixds-lines and ixds-view.
 
 _ixds() {
     local word=${COMP_WORDS[COMP_CWORD]} before=${COMP_WORDS[COMP_CWORD - 1]} command=${COMP_WORDS[1]}
@@ -46,5 +46,18 @@ _ixds_lines() {
     mapfile -t COMPREPLY < <(compgen -W '--caret' -- "${COMP_WORDS[COMP_CWORD]}")
 }
 
+# Its words are those of `ixds extract`, and the program that it runs.
+_ixds_view() {
+    local words=(ixds extract "${COMP_WORDS[@]:1}")
+    if [ "${COMP_WORDS[COMP_CWORD - 1]}" = --ixds ]; then
+        mapfile -t COMPREPLY < <(compgen -f -- "${COMP_WORDS[COMP_CWORD]}")
+        compopt -o filenames
+        return
+    fi
+    local COMP_WORDS=("${words[@]}") COMP_CWORD=$((COMP_CWORD + 1))
+    _ixds
+}
+
 complete -F _ixds ixds
 complete -F _ixds_lines ixds-lines
+complete -F _ixds_view ixds-view
