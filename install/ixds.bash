@@ -4,11 +4,11 @@ _ixds() {
     local word=${COMP_WORDS[COMP_CWORD]} before=${COMP_WORDS[COMP_CWORD - 1]} command=${COMP_WORDS[1]}
     COMPREPLY=()
     if [ "$COMP_CWORD" -eq 1 ]; then
-        mapfile -t COMPREPLY < <(compgen -W 'extract check sample plain trace' -- "$word")
+        mapfile -t COMPREPLY < <(compgen -W 'extract check sample plain trace session' -- "$word")
         return
     fi
     case "$command" in
-    extract | check | trace) ;;
+    extract | check | trace | session) ;;
     plain) [ "$COMP_CWORD" -eq 2 ] || return ;;
     *) return ;;
     esac
@@ -28,14 +28,18 @@ _ixds() {
     -*)
         [ "$command" != plain ] || return
         local options='--base'
-        [ "$command" != extract ] || options='--base --out'
+        [[ $command != @(extract|session) ]] || options='--base --out'
         mapfile -t COMPREPLY < <(compgen -W "$options" -- "$word")
         ;;
     *)
         local IFS=$'\n' extglob
         extglob=$(shopt -p extglob)
         shopt -s extglob
-        mapfile -t COMPREPLY < <(compgen -d -- "$word"; compgen -f -X '!*.@(html|htm|xhtml|xml)' -- "$word")
+        if [ "$command" = session ]; then
+            mapfile -t COMPREPLY < <(compgen -f -- "$word")
+        else
+            mapfile -t COMPREPLY < <(compgen -d -- "$word"; compgen -f -X '!*.@(html|htm|xhtml|xml)' -- "$word")
+        fi
         $extglob
         compopt -o filenames
         ;;

@@ -3,7 +3,8 @@
 #![tactic(auto)]
 
 ghost use Rattle.std.specs.Prelude.{◌≡◌, ◌⊎◌, ◌+◌, ◌^◌, ◌<◌, IfSome, None};
-ghost use Rattle.ixds_run.specs.Answers.{Answers, outside};
+ghost use Rattle.ixds_run.specs.Answers.{outside};
+ghost use Rattle.ixds_run.specs.SessionAnswers.{Answered};
 ghost use Rattle.ixds_cli.specs.Complaints.{Tells, blame, complaint};
 ghost use Rattle.ixds_cli.specs.Ending.{EndsWith};
 ghost use Rattle.ixds_cli.specs.Words.{words_in, command_in};
@@ -59,7 +60,7 @@ fn run_handed<P: PageSource + Blamed, S: TargetSink + Blamed, T: TextSink + Blam
     requires pages { P.faults pages.old + 1 < 2 ^ 64 }
 
     // What a run of these words answers.
-    ensures answers { Answers (command_in handed)
+    ensures answers { Answered (command_in handed)
         (outside P.PageSource S.TargetSink T.TextSink pages.old sink.old out.old)
         (outside P.PageSource S.TargetSink T.TextSink pages.new sink.new out.new)
         (pages.new ≡ pages.old) (sink.new ≡ sink.old) (out.new ≡ out.old) result }
@@ -101,7 +102,7 @@ fn run_words<P: PageSource + Blamed, S: TargetSink + Blamed, T: TextSink + Blame
     requires out { T.faults out.old + 1 < 2 ^ 64 }
 
     // What a run of these words answers, with the code of its status.
-    ensures answers { (status : Status) × EndsWith result status × Answers (command_in handed)
+    ensures answers { (status : Status) × EndsWith result status × Answered (command_in handed)
         (outside P.PageSource S.TargetSink T.TextSink pages.old sink.old out.old)
         (outside P.PageSource S.TargetSink T.TextSink pages.new sink.new out.new)
         (pages.new ≡ pages.old) (sink.new ≡ sink.old) (out.new ≡ out.old) status }

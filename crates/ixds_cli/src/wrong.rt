@@ -18,7 +18,7 @@ struct Wrong<'a> {
     behind: &'static str,
 }
 
-/// What stands behind `extract`, `check` or `trace`.
+/// What stands behind `extract`, `check`, `trace` or `session`.
 #[derive(Drop)]
 struct Parts<'a> {
     base: Option<&'a str>,
@@ -35,6 +35,13 @@ impl<'a> Wrong<'a> {
             behind,
         }
     }
+}
+
+/// Which parts stand behind a command.
+#[derive(Clone, Copy)]
+struct Takes {
+    out: bool,
+    script: bool,
 }
 
 /// Whether a word can't be a value.
@@ -86,6 +93,17 @@ impl<'a> Parts<'a> {
         }
         if self.out == Some("") {
             return Ok(Some(Wrong::new("", "--out", " is empty")));
+        }
+        Ok(None)
+    }
+
+    /// What is wrong with the script.
+    fn wrong_script(&self, alloc: Global) -> Result<Option<Wrong<'a>>, NoMemory> {
+        let [script] = self.pages.as_slice() else {
+            return Ok(Some(Wrong::new("", "", "session takes one script")));
+        };
+        if !is_page(alloc, script)? {
+            return Ok(Some(Wrong::new("no script can be named ", script, "")));
         }
         Ok(None)
     }
@@ -159,11 +177,11 @@ impl<'a> Reader<'a> {
     }
 }
 
-/// What is wrong with the words behind `extract`, `check` or `trace`: the first word that is, or else the first part.
+/// What is wrong with the words behind `extract`, `check`, `trace` or `session`: the first word that is, or else the first part.
 fn wrong_part<'a>(
     alloc: Global,
     words: &'a [Text],
-    takes_out: bool,
+    takes: Takes,
 ) -> Result<Option<Wrong<'a>>, NoMemory> {
     let parts = Parts {
         base: None,
@@ -172,7 +190,7 @@ fn wrong_part<'a>(
     };
     let mut reader = Reader {
         parts,
-        takes_out,
+        takes_out: takes.out,
         waits: None,
         is_ended: false,
     };
@@ -185,9 +203,12 @@ fn wrong_part<'a>(
     if let Some(option) = reader.waits {
         return Ok(Some(Wrong::new("the value of ", option, " is missing")));
     }
-    let found = reader.parts.wrong_value(alloc, takes_out)?;
+    let found = reader.parts.wrong_value(alloc, takes.out)?;
     if found.is_some() {
         return Ok(found);
+    }
+    if takes.script {
+        return reader.parts.wrong_script(alloc);
     }
     reader.parts.wrong_page(alloc)
 }
@@ -200,14 +221,30 @@ fn wrong_plain(words: &[Text]) -> Wrong<'_> {
     }
 }
 
+const EXTRACT: Takes = Takes {
+    out: true,
+    script: false,
+};
+
+const CHECK: Takes = Takes {
+    out: false,
+    script: false,
+};
+
+const SESSION: Takes = Takes {
+    out: true,
+    script: true,
+};
+
 /// What is wrong with words that give no command.
 fn wrong_word<'a>(alloc: Global, words: &'a [Text]) -> Result<Option<Wrong<'a>>, NoMemory> {
     let [first, rest @ ..] = words else {
         return Ok(Some(Wrong::new("", "", "no words are given, or one isn't UTF-8")));
     };
     match first.as_str() {
-        "extract" => wrong_part(alloc, rest, true),
-        "check" | "trace" => wrong_part(alloc, rest, false),
+        "extract" => wrong_part(alloc, rest, EXTRACT),
+        "check" | "trace" => wrong_part(alloc, rest, CHECK),
+        "session" => wrong_part(alloc, rest, SESSION),
         "sample" => Ok(Some(Wrong::new("", "", "a sample takes one number, from 1 to 200000"))),
         "plain" => Ok(Some(wrong_plain(rest))),
         word => Ok(Some(Wrong::new("", word, " is no command"))),

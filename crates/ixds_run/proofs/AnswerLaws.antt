@@ -66,7 +66,7 @@ memory_answer o old new A B C b d page faults numbers sample starts asked = reco
 }
 
 -- a status that is one of two is no other
-not_one : (s x y z : Status) → (s ≡ x) ⊎ (s ≡ y) → (x ≡ z → ⊥) → (y ≡ z → ⊥) → s ≡ z → ⊥
+pub not_one : (s x y z : Status) → (s ≡ x) ⊎ (s ≡ y) → (x ≡ z → ⊥) → (y ≡ z → ⊥) → s ≡ z → ⊥
 not_one s x y z (inl e) p q f = p (sym e ∙ f)
 not_one s x y z (inr e) p q f = q (sym e ∙ f)
 

@@ -1,5 +1,5 @@
 -- What is ready of targets.
-use Rattle.std.proofs.Common.{◌≡◌, ◌⊎◌, ◌∙◌, ap, sym, refl, ℕ, ◌+◌, ◌<◌, ◌≤◌, ◌==◌, cond, Bool, true, false, List, [], ◌∷◌, length, drop, get_or, map, Option, Some, None, Result, Ok, Err, IfOk, inl, inr, option_map, arith}
+use Rattle.std.proofs.Common.{◌≡◌, ◌⊎◌, ◌∙◌, ap, sym, refl, ℕ, ◌+◌, ◌<◌, ◌≤◌, ◌==◌, cond, Bool, true, false, List, [], ◌∷◌, ◌++◌, length, drop, get_or, map, Option, Some, None, Result, Ok, Err, IfOk, inl, inr, option_map, arith}
 use Rattle.std.specs.Borrow.{Bor}
 use Rattle.std.specs.List.{concat}
 use Rattle.std.proofs.lemmas.Bool.{ne_eqb}
@@ -12,18 +12,20 @@ use Rattle.ixds_run.specs.declared.status.Status.TheVariants as status
 use Rattle.ixds_run.specs.declared.status.Status.TheVariants.{Broken, Done, ReadFault, Usage, WriteFault}
 use Rattle.ixds_run.specs.Commands.{IsGiven, dir_of, number_of, pages_of, with_pages}
 use Rattle.ixds_run.specs.declared.command.Command.{Command}
-use Rattle.ixds_run.specs.declared.command.Command.TheVariants.{Extract, Check, Sample, Plain, Trace}
+use Rattle.ixds_run.specs.declared.command.Command.TheVariants.{Extract, Check, Sample, Plain, Trace, Session}
 use Rattle.ixds_run.specs.declared.verdict.Verdict.{Verdict}
 use Rattle.ixds_run.specs.declared.verdict.Verdict.TheVariants.{Reported, Extracted, Printed}
-use Rattle.ixds_run.specs.Rearrangement.{IsRearranged, names_of}
+use Rattle.page_session.specs.Handed.{names_of}
+use Rattle.ixds_run.specs.Rearrangement.{IsRearranged}
 use Rattle.ixds_run.specs.DueOutcomes.{AreReadBack, InstanceLines, DueOutcome, HasBreach, instance_lines, default_len, due_of, targets_under, whole_target}
 use Rattle.ixds_run.specs.DueTables.{IsDueFrom, status_of, ready_lines, outcome_of, ready, ready_under}
+use Rattle.ixds_run.specs.SessionOutcomes.{behind}
 use Rattle.ixds_run.specs.Verdicts.{CommandMakes, PagesMake}
 use Rattle.ixds_run.specs.Reading.{IsRead}
 use Rattle.ixds_run.specs.declared.due.Due.{Due}
 use Rattle.ixds_run.specs.declared.forest.Forest.{Forest}
 use Rattle.ixds_run.specs.declared.due.DueTarget.{DueTarget}
-use Rattle.ixds_run.proofs.MadeLaws.{cut_at}
+use Rattle.page_session.proofs.MadeLaws.{cut_at}
 use Rattle.targets.specs.declared.outcome.Target.{Target}
 
 abbrev under : List ℕ → InstanceLines → Begun
@@ -76,6 +78,7 @@ same_dir (Check base pages) names = refl
 same_dir (Sample number) names = refl
 same_dir (Plain page) names = refl
 same_dir (Trace base pages) names = refl
+same_dir (Session base dir script) names = refl
 
 same_number : (c : Command) (names : List (List ℕ)) → number_of (with_pages c names) ≡ number_of c
 same_number (Extract base dir pages) names = refl
@@ -83,6 +86,7 @@ same_number (Check base pages) names = refl
 same_number (Sample number) names = refl
 same_number (Plain page) names = refl
 same_number (Trace base pages) names = refl
+same_number (Session base dir script) names = refl
 
 -- nothing is due to be written where a rule is broken
 none_due : (due : Due) (c : Command) (bs : List (List ℕ)) (v : Verdict) → CommandMakes c bs v → status_of due.is_broken ≡ (due_of None None v).status
@@ -140,3 +144,8 @@ no_want b s either e = either_other b s status.NoMemory either (λ z. cc) (λ z.
 pub dir_none : (o : Option (Bor (List ℕ))) → option_map (λ t. t.now) o ≡ None → o ≡ None
 dir_none None e = refl
 dir_none (Some d) e = cc
+
+-- what is ready is due behind a text where that stands in front of its own
+pub due_behind : (dir front whole : List ℕ) (due : Due) (d : DueOutcome) → whole ≡ front ++ due.text → outcome_of (Some dir) due ≡ d
+    → outcome_of (Some dir) (record due { text = whole }) ≡ behind front d
+due_behind dir front whole due d is same = ap (λ (t : List ℕ). record (outcome_of (Some dir) due) { text = t }) is ∙ ap (behind front) same

@@ -1,7 +1,7 @@
 -- Reading pages one behind another.
-use Rattle.std.proofs.Common.{◌≡◌, ◌⊎◌, inl, inr, ◌∙◌, ap, sym, refl, ℕ, suc, ◌+◌, ◌≤◌, ◌<◌, nat_lt, Bool, cond, List, [], ◌∷◌, ◌++◌, length, drop, take, Option, Some, None, IfSome, IsTrue, OnOk, Result, Ok, Err, is_some, true, map, option_map, append_assoc, append-nil, subst, arith, length-append, add-zero, add_assoc, zero-add, add-one, get_or}
+use Rattle.std.proofs.Common.{◌≡◌, ◌⊎◌, inl, inr, ◌∙◌, ap, sym, refl, ℕ, suc, ◌+◌, ◌≤◌, ◌<◌, nat_le, nat_lt, Bool, cond, List, [], ◌∷◌, ◌++◌, length, drop, take, Option, Some, None, IfSome, IsTrue, OnOk, Result, Ok, Err, is_some, true, map, option_map, append_assoc, append-nil, subst, arith, length-append, add-zero, add_assoc, zero-add, add-one, get_or}
 use Rattle.std.proofs.Math.Seq.{drop-cons, take-suc}
-use Rattle.std.proofs.lemmas.Bool.{lt-ltb}
+use Rattle.std.proofs.lemmas.Bool.{and_from, le-leb, lt-ltb}
 use Rattle.std.specs.Borrow.{Bor}
 use Rattle.ix_base.specs.Elements.{pages_of}
 use Rattle.ix_base.specs.Trees.{tree_of}
@@ -12,17 +12,20 @@ use Rattle.page_tree.specs.Page.{page as page_with}
 use Rattle.page_tree.specs.Stacks.{AreAll}
 use Rattle.page_tree.specs.Standing.{StandsFor}
 use Rattle.ix_base.specs.declared.NoMemory.{NoMemory}
+use Rattle.page_session.specs.Reading.{HasFed, IsWhole}
+use Rattle.page_session.specs.Sources.{IsTelling, told, told_both}
+use Rattle.page_session.specs.declared.reading.Sums.{Sums}
 use Rattle.ixds_run.specs.Gains.{GainsStarts}
 use Rattle.ixds_run.specs.CommandBytes.{AreSome}
 use Rattle.ix_base.specs.Outside.{TellsAlso}
-use Rattle.ixds_run.specs.Reading.{HasFed, Holds, IsReadWhole, HasGained, HasGainedTree, HasRead, HasReadSome, IsRead, IsRoot, AreRoots, IsSound, IsAmong, IsLast, ReadsOn, StopsInTime, kept_texts}
+use Rattle.ixds_run.specs.Reading.{Holds, IsReadWhole, HasGained, HasGainedTree, HasRead, HasReadSome, IsRead, IsRoot, AreRoots, IsSound, IsAmong, IsLast, ReadsOn, StopsAt, StopsInTime, WhyStopped, kept_texts}
+use Rattle.ixds_run.specs.declared.forest.Stopped.{Stopped}
+use Rattle.ixds_run.specs.declared.forest.Stopped.TheVariants as stopped
 use Rattle.ixds_run.specs.declared.reading.OpenPage.{OpenPage}
-use Rattle.ixds_run.specs.Sources.{IsTelling, told, told_both}
 use Rattle.ix_base.specs.declared.rule.Rule.TheVariants.{S1, S2}
 use Rattle.page_tree.specs.Break.{Fault}
 use Rattle.targets.specs.Breaches.{size_rule, tags_in, all_tags_in, bytes_in, fault_row, on_page, text_fault, text_faults}
 use Rattle.ixds_run.specs.declared.forest.Forest.{Forest}
-use Rattle.ixds_run.specs.declared.reading.Sums.{Sums}
 
 -- a page that has a tree was ended
 pub gained_root : (n : ℕ) (b : List ℕ) (limit : ℕ) (f f' : Forest) (e : Bor Element) {k : ℕ} → limit ≡ 256 → None ≡ w b limit → f'.found ≡ f.found
@@ -64,17 +67,17 @@ page_gained (Ok u) n most p f m g text found roots keeps same is kept keeps' tex
 page_gained (Err x) n most p f m g text found roots keeps same is kept keeps' texts tree = tt
 
 -- a page was read and ended
-pub reads_on : (page left : Option (List ℕ)) (n : ℕ) (t : OpenPage) (sums : Sums) (f g : Forest)
-    → HasFed page left t f.sums sums → IsReadWhole page left sums → g.sums ≡ sums
+pub reads_on : (took : List ℕ → Type 0) (page left : Option (List ℕ)) (n : ℕ) (t : OpenPage) (sums : Sums) (f g : Forest)
+    → ((b : List ℕ) → took b → Holds t b) → HasFed took page left f.sums sums → IsReadWhole page left sums → g.sums ≡ sums
     → (sums.bytes ≤ 268435456 → (b : List ℕ) → Holds t b → HasGained n b (record f { sums = sums }) g) → ReadsOn page left n f g
-reads_on page left n t sums f g fed whole same gained = record {
+reads_on took page left n t sums f g holds fed whole same gained = record {
   front = fed.front;
   bytes = ap (λ (s : Sums). s.bytes) same ∙ fed.bytes;
   tags = ap (λ (s : Sums). s.tags) same ∙ fed.tags;
   told = fed.told;
   whole = λ most. whole (subst (λ (s : Sums). s.bytes ≤ 268435456) same most);
   gained = λ most.
-      let h = gained (subst (λ (s : Sums). s.bytes ≤ 268435456) same most) fed.front fed.built in
+      let h = gained (subst (λ (s : Sums). s.bytes ≤ 268435456) same most) fed.front (holds fed.front fed.taken) in
       record { tree = record { found = h.tree.found; root = h.tree.root }; keeps = h.keeps; texts = h.texts };
 }
 
@@ -83,9 +86,15 @@ pub built_on : (b : List ℕ) (n : ℕ) (t : OpenPage) (sums : Sums) (f g : Fore
     → Holds t b → sums.bytes ≡ f.sums.bytes + length b → sums.tags ≡ f.sums.tags + tags_in b → g.sums ≡ sums
     → (sums.bytes ≤ 268435456 → (c : List ℕ) → Holds t c → HasGained n c (record f { sums = sums }) g) → ReadsOn (Some b) (Some []) n f g
 built_on b n t sums f g built bytes tags same gained =
-    let fed : HasFed (Some b) (Some []) t f.sums sums =
-    record { front = b; built = built; bytes = bytes; tags = tags; told = ([], sym (append-nil b), refl) } in
-    reads_on (Some b) (Some []) n t sums f g fed (λ most. refl) same gained
+    let fed : HasFed (Holds t) (Some b) (Some []) f.sums sums =
+    record { front = b; taken = built; bytes = bytes; tags = tags; told = ([], sym (append-nil b), refl) } in
+    reads_on (Holds t) (Some b) (Some []) n t sums f g (λ c h. h) fed (λ most. refl) same gained
+
+-- a page is read whole whose bytes are within the limit, since its bytes `<` are no more
+pub whole_read : (page left : Option (List ℕ)) (s : Sums) → s.tags ≤ s.bytes
+    → IsWhole page left s (record { bytes = 268435456; tags = 18446744073709551615 }) → IsReadWhole page left s
+whole_read page left s tags whole = λ most.
+    whole (and_from (nat_le s.bytes 268435456) (nat_le s.tags 18446744073709551615) (le-leb s.bytes 268435456 most) (le-leb s.tags 18446744073709551615 (omega arith)))
 
 -- what is told of names and one more
 told_more : (page : List ℕ → Option (List ℕ)) (xs : List (List ℕ)) (n : List ℕ)
@@ -133,7 +142,7 @@ tags-append : (bs cs : List (List ℕ)) → all_tags_in (bs ++ cs) ≡ all_tags_
 tags-append [] cs = sym (zero-add (all_tags_in cs))
 tags-append (b ∷ bs) cs = ap (λ k. tags_in b + k) (tags-append bs cs) ∙ sym (add_assoc (tags_in b) (all_tags_in bs) (all_tags_in cs))
 
-bytes-more : (bs : List (List ℕ)) (b : List ℕ) → bytes_in (bs ++ b ∷ []) ≡ bytes_in bs + length b
+pub bytes-more : (bs : List (List ℕ)) (b : List ℕ) → bytes_in (bs ++ b ∷ []) ≡ bytes_in bs + length b
 bytes-more bs b = bytes-append bs (b ∷ []) ∙ ap (λ k. bytes_in bs + k) (add-zero (length b))
 
 tags-more : (bs : List (List ℕ)) (b : List ℕ) → all_tags_in (bs ++ b ∷ []) ≡ all_tags_in bs + tags_in b
@@ -197,7 +206,7 @@ told_snoc page (x ∷ xs) n h k = step (page x) (told page xs) (told page (xs ++
     step (Some b) (Some bs) None h on = absurd (let z = on refl in cc)
     step (Some b) (Some bs) (Some cs) h on = refl
 
-telling_more : (page : List ℕ → Option (List ℕ)) (xs : List (List ℕ)) (n : List ℕ) → IsTelling page xs → TellsAlso page n → IsTelling page (xs ++ n ∷ [])
+pub telling_more : (page : List ℕ → Option (List ℕ)) (xs : List (List ℕ)) (n : List ℕ) → IsTelling page xs → TellsAlso page n → IsTelling page (xs ++ n ∷ [])
 telling_more page xs n all one = λ m some. told_snoc page xs n (all m some) (one m some)
 
 -- one more page was read, and the limit isn't passed
@@ -369,6 +378,14 @@ last_among page names back left asked l =
 pub stops_among : (page : List ℕ → Option (List ℕ)) (names : List (List ℕ)) (left asked : Option (List ℕ)) → StopsInTime page names left asked
     → (name : List ℕ) × IsAmong page names asked name
 stops_among page names left asked s = last_among page names s.0 left asked s.1
+
+-- the next page wasn't read
+pub next_stopped : (page : List ℕ → Option (List ℕ)) (names : List (List ℕ)) (name : List ℕ) (rest : List (List ℕ)) (n : ℕ) (asked : Option (List ℕ)) (f : Forest)
+    (before mid now : ℕ) (failed : Bool) (why : Stopped) → f.sums.bytes ≤ 268435456 → mid ≡ before → HasReadSome page names (name ∷ rest) n f
+    → StopsAt name asked mid now failed why → WhyStopped page names asked before now failed why
+next_stopped page names name rest n asked f before mid now failed (stopped.Failed line) most same h s =
+    (subst (λ k. k < now) same s.0, (name, next_among page names name rest n asked f most s.1 h, s.2, s.3))
+next_stopped page names name rest n asked f before mid now failed stopped.NoMemory most same h s = s ∙ same
 
 -- the name at this index and those behind it
 pub next_of : (names : List (List ℕ)) (n : ℕ) (name : List ℕ) → n < length names → name ≡ get_or names n name → drop n names ≡ name ∷ drop (n + 1) names

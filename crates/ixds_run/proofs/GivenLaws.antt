@@ -10,12 +10,13 @@ use Rattle.url.proofs.OnLiterals.{url_on_literals}
 use Rattle.clap.specs.Walk.{Row, all_of, first_of}
 use Rattle.ix_base.specs.Decimals.{number_in}
 use Rattle.ixds_run.specs.Bases.{is_base, is_web_scheme}
-use Rattle.ixds_run.specs.Commands.{command_of, extract_from, extract_in, pages_from, pages_in, check_in, plain_in, sample_in, trace_in, AreNames, IsGiven}
-use Rattle.ixds_run.specs.Names.{are_pages, has_repeat, is_page_name, may_stand_in_name}
+use Rattle.ixds_run.specs.Commands.{command_of, extract_from, extract_in, pages_from, pages_in, check_in, plain_in, sample_in, session_from, session_in, trace_in, AreNames, IsGiven}
+use Rattle.page_session.specs.Names.{has_repeat, is_page_name, may_stand_in_name}
+use Rattle.ixds_run.specs.Names.{are_pages}
 use Rattle.ixds_run.specs.Sample.{is_number, sample_names, sample_number}
-use Rattle.ixds_run.specs.Simple.{check_app, extract_app, rows_taken, trace_app}
+use Rattle.ixds_run.specs.Simple.{check_app, extract_app, rows_taken, session_app, trace_app}
 use Rattle.ixds_run.specs.declared.command.Command.{Command}
-use Rattle.ixds_run.specs.declared.command.Command.TheVariants.{Extract, Check, Sample, Plain, Trace}
+use Rattle.ixds_run.specs.declared.command.Command.TheVariants.{Extract, Check, Sample, Plain, Trace, Session}
 
 both : (a b : Bool) → (a && b) ≡ true → (a ≡ true) × (b ≡ true)
 both true b e = (refl, e)
@@ -58,6 +59,18 @@ given_extract (Some base) (Some dir) (Some pages) c e =
     let all = both (is_base base && nat_lt 0 (length dir)) (are_pages pages) h.0 in
     let two = both (is_base base) (nat_lt 0 (length dir)) all.0 in
     subst IsGiven h.1 (record { base = two.0; dir = ltb-true 0 (length dir) two.1; pages = are_names pages all.1; number = tt })
+
+given_session : (b d : Option (List ℕ)) (p : Option (List (List ℕ))) (c : Command) → session_from b d p ≡ Some c → IsGiven c
+given_session None d p c e = cc
+given_session (Some base) None p c e = cc
+given_session (Some base) (Some dir) None c e = cc
+given_session (Some base) (Some dir) (Some []) c e = cc
+given_session (Some base) (Some dir) (Some (script ∷ other ∷ more)) c e = cc
+given_session (Some base) (Some dir) (Some (script ∷ [])) c e =
+    let h = where_holds (is_base base && nat_lt 0 (length dir) && are_pages (script ∷ [])) (Session base dir script) c e in
+    let all = both (is_base base && nat_lt 0 (length dir)) (are_pages (script ∷ [])) h.0 in
+    let two = both (is_base base) (nat_lt 0 (length dir)) all.0 in
+    subst IsGiven h.1 (record { base = two.0; dir = ltb-true 0 (length dir) two.1; pages = are_names (script ∷ []) all.1; number = tt })
 
 -- a base and pages as they are given
 record AreGiven (p : List ℕ × List (List ℕ)) : Type 0 where
@@ -134,10 +147,12 @@ given (first ∷ rest) c e =
     (given_pages (first_of (codes "base") rows) (all_of (codes "PAGE") rows))) (rows_taken check_app (first ∷ rest)) c)
     (either (bytes_eq first (codes "sample")) (sample_in rest) _ c (given_sample rest c)
     (either (bytes_eq first (codes "plain")) (plain_in rest) _ c (given_plain rest c)
-    (either (bytes_eq first (codes "trace")) (option_and_then trace_in (rows_taken trace_app (first ∷ rest))) None c
+    (either (bytes_eq first (codes "trace")) (option_and_then trace_in (rows_taken trace_app (first ∷ rest))) _ c
     (given_rows trace_in (λ rows d. given_made (λ q. Trace q.0 q.1) (λ q h. record { base = h.base; dir = tt; pages = h.names; number = tt }) (pages_in rows) d
     (given_pages (first_of (codes "base") rows) (all_of (codes "PAGE") rows))) (rows_taken trace_app (first ∷ rest)) c)
-    (none_given c))))) e
+    (either (bytes_eq first (codes "session")) (option_and_then session_in (rows_taken session_app (first ∷ rest))) None c
+    (given_rows session_in (λ rows. given_session (first_of (codes "base") rows) (first_of (codes "out") rows) (all_of (codes "SCRIPT") rows)) (rows_taken session_app (first ∷ rest)) c)
+    (none_given c)))))) e
 
 pub given_of : (o : Option Command) (words : List (List ℕ)) → o ≡ command_of words → IfSome o IsGiven
 given_of None words e = tt

@@ -4,7 +4,7 @@ use Rattle.clap.proofs.OnLiterals.{clap_on_literals}
 use Rattle.url.proofs.OnLiterals.{url_on_literals}
 use Rattle.ixds_run.specs.Bases.{is_web_scheme}
 use Rattle.ixds_run.specs.Commands.{command_of}
-use Rattle.ixds_run.specs.Names.{has_repeat}
+use Rattle.page_session.specs.Names.{has_repeat}
 use Rattle.ixds_run.specs.Simple.{rows_taken}
 use Rattle.ixds_run.specs.declared.command.Command.TheVariants.{Extract, Check, Sample}
 

@@ -21,9 +21,9 @@ use Rattle.ixds_run.specs.Deliveries.{Gives, GivesFront, GivesPart}
 use Rattle.ixds_run.specs.Gains.{IsCut}
 use Rattle.ixds_run.specs.InMemory.{AreFit, memory_outside}
 use Rattle.ixds_run.specs.Reading.{IsAmong}
-use Rattle.ixds_run.specs.Sources.{told, told_both}
+use Rattle.page_session.specs.Sources.{told, told_both}
 use Rattle.ixds_run.specs.declared.command.Command.{Command}
-use Rattle.ixds_run.specs.declared.command.Command.TheVariants.{Extract, Check, Sample, Plain, Trace}
+use Rattle.ixds_run.specs.declared.command.Command.TheVariants.{Extract, Check, Sample, Plain, Trace, Session}
 use Rattle.ixds_run.specs.declared.status.Status.{Status}
 use Rattle.ixds_run.specs.declared.status.Status.TheVariants.{Done, Broken, Usage, ReadFault, WriteFault, NoMemory}
 use Rattle.ixds_run.proofs.HeldLaws.{some_is}
@@ -121,6 +121,7 @@ module _ (c : Command) (bs : List (List ℕ)) (p p' : MemPages) (s s' : MemTarge
   no-fault (Check base names) name all among failed page numbers same rose = absent names name all among failed page numbers
   no-fault (Sample number) name all among failed page numbers same rose =
       let level : pages_faults p' ≡ pages_faults p = ap pages_faults same in omega arith
+  no-fault (Session base dir script) name all among failed page_same numbers same rose = absent (script ∷ []) name all among failed page_same numbers
   no-fault (Trace base names) name all among failed page numbers same rose = absent names name all among failed page numbers
   no-fault (Plain page) name all among failed page_same numbers same rose = absent (page ∷ []) name all among failed page_same numbers
 

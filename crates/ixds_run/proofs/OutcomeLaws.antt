@@ -35,7 +35,7 @@ use Rattle.page_plain.specs.Bare.{is_inline}
 use Rattle.targets.specs.Breaches.{PagesComeTo, on_page, text_faults}
 use Rattle.ixds_run.specs.Texts.{breach_line}
 use Rattle.ixds_run.specs.declared.command.Command.{Command}
-use Rattle.ixds_run.specs.declared.command.Command.TheVariants.{Extract, Check, Sample, Plain, Trace}
+use Rattle.ixds_run.specs.declared.command.Command.TheVariants.{Extract, Check, Sample, Plain, Trace, Session}
 use Rattle.ixds_run.specs.declared.verdict.Verdict.{Verdict}
 use Rattle.ixds_run.specs.declared.verdict.Verdict.TheVariants.{Printed}
 use Rattle.ixds_run.specs.declared.status.Status.TheVariants as status
@@ -224,6 +224,7 @@ module _
     same_made dir number (Sample facts) names bs v w h k = same_of_set dir number sample_base names bs v w h k
     same_made dir number (Plain page) names bs v w h k = same_shown dir number names bs v w h k
     same_made dir number (Trace base pages) names bs v w h k = same_traced dir number base names bs v w h k
+    same_made dir number (Session base to script) names bs v w h k = absurd h
 
     pub outcome_one : (c : Command) (bs : List (List ℕ)) (due other : DueOutcome) → IsOutcome c bs due → IsOutcome c bs other → due ≡ other
     outcome_one c bs due other h k =

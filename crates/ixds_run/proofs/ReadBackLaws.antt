@@ -23,7 +23,7 @@ use Rattle.ixds_run.specs.DueOutcomes.{AreReadBack}
 use Rattle.ixds_run.specs.Sample.{sample_base}
 use Rattle.ixds_run.specs.Verdicts.{IsOfSet, IsShown, IsShownBy, IsTracedBy, PagesMake, Reports, verdict_of}
 use Rattle.ixds_run.specs.declared.command.Command.{Command}
-use Rattle.ixds_run.specs.declared.command.Command.TheVariants.{Extract, Check, Sample, Plain, Trace}
+use Rattle.ixds_run.specs.declared.command.Command.TheVariants.{Extract, Check, Sample, Plain, Trace, Session}
 use Rattle.ixds_run.specs.declared.verdict.Verdict.{Verdict}
 use Rattle.targets.specs.Breaches.{PagesComeTo, on_page, text_faults}
 use Rattle.ixds_run.proofs.SoundPages.{sound_pages}
@@ -75,3 +75,4 @@ module _
     made_back (Sample number) names bs v h = set_back sample_base names bs v h
     made_back (Plain page) names bs v h = shown_back names bs v h
     made_back (Trace base pages) names bs v (o, says, by) = traced_back o names bs v by
+    made_back (Session base dir script) names bs v h = absurd h

@@ -26,12 +26,13 @@ use Rattle.fact_trace.specs.Spans.{Source, traces}
 use Rattle.fact_trace.specs.Unbroken.{BreakNoRule, HaveTrees}
 use Rattle.targets.specs.declared.outcome.Target.{Target}
 use Rattle.ixds_run.specs.Commands.{IsGiven, pages_of, with_pages}
-use Rattle.ixds_run.specs.Rearrangement.{Handed, IsRearranged, names_of, bytes_of}
+use Rattle.page_session.specs.Handed.{Handed, bytes_of, names_of}
+use Rattle.ixds_run.specs.Rearrangement.{IsRearranged}
 use Rattle.ixds_run.specs.Sample.{sample_base}
 use Rattle.ixds_run.specs.Texts.{trace_line}
 use Rattle.ixds_run.specs.Verdicts.{CommandMakes, IsShown, IsTraced, PagesMake, sources}
 use Rattle.ixds_run.specs.declared.command.Command.{Command}
-use Rattle.ixds_run.specs.declared.command.Command.TheVariants.{Extract, Check, Sample, Plain, Trace}
+use Rattle.ixds_run.specs.declared.command.Command.TheVariants.{Extract, Check, Sample, Plain, Trace, Session}
 use Rattle.ixds_run.specs.declared.verdict.Verdict.{Verdict}
 use Rattle.ixds_run.specs.declared.verdict.Verdict.TheVariants.{Printed}
 use Rattle.ixds_run.proofs.SoundPages.{sound_pages}
@@ -232,6 +233,7 @@ module _ (sound : (b : List ℕ) (n : ℕ) (t : Tree) → page b n t → IsSound
   pages-made order (Check base pages) v ps qs m new own other (o, says, is) = (o, says-rearranged base o ps qs m says, is)
   pages-made order (Sample number) v ps qs m new own other (o, says, is) = (o, says-rearranged sample_base o ps qs m says, is)
   pages-made order (Trace base pages) v ps qs m new own other h = traced-moved order base v ps qs m new h
+  pages-made order (Session base dir script) v ps qs m new own other h = absurd h
   pages-made order (Plain name) v ps qs m new own other h =
       by_exchanges (λ (xs : List Handed). name ∷ [] ≡ names_of xs → IsShown (names_of xs) (bytes_of xs) v)
       (λ front back a b h one. absurd (let many = two-at-least front back b a in let z : 1 ≡ length (names_of (front ++ b ∷ a ∷ back)) = ap length one in omega arith))
@@ -243,6 +245,7 @@ module _ (sound : (b : List ℕ) (n : ℕ) (t : Tree) → page b n t → IsSound
   with-other (Sample number) names others bs v h = h
   with-other (Plain name) names others bs v h = h
   with-other (Trace base pages) names others bs v h = h
+  with-other (Session base dir script) names others bs v h = h
 
   own-pages : (c : Command) (names : List (List ℕ)) → pages_of c ≡ names → pages_of (with_pages c names) ≡ names
   own-pages (Extract base dir pages) names e = refl
@@ -250,6 +253,7 @@ module _ (sound : (b : List ℕ) (n : ℕ) (t : Tree) → page b n t → IsSound
   own-pages (Sample number) names e = e
   own-pages (Plain name) names e = e
   own-pages (Trace base pages) names e = refl
+  own-pages (Session base dir script) names e = e
 
   pub made-rearranged : InAnyOrder → (c d : Command) (bs cs : List (List ℕ)) (v : Verdict) → IsGiven c → IsRearranged c bs d cs → CommandMakes c bs v → CommandMakes d cs v
   made-rearranged order c d bs cs v given r h =

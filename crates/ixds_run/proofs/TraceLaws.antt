@@ -20,7 +20,7 @@ use Rattle.targets.specs.Forest.{trees_of}
 use Rattle.targets.specs.declared.outcome.Outcome.{Outcome}
 use Rattle.targets.specs.declared.outcome.Outcome.TheVariants.{Broken, Whole}
 use Rattle.targets.specs.declared.outcome.Target.{Target}
-use Rattle.ixds_run.specs.Names.{has_repeat}
+use Rattle.page_session.specs.Names.{has_repeat}
 use Rattle.ixds_run.specs.Reading.{AreRoots, IsRead, IsRoot, IsSound, kept_texts}
 use Rattle.ixds_run.specs.Verdicts.{IsTraced, sources, trace_text}
 use Rattle.ixds_run.specs.declared.forest.Forest.{Forest}

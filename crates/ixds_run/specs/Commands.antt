@@ -2,11 +2,12 @@
 use Rattle.std.specs.Prelude.{◌≡◌, ℕ, ◌<◌, ◌≤◌, Bool, true, false, All, IfSome, ◌&&◌, nat_lt, List, [], ◌∷◌, length, bytes_eq, codes, Option, Some, None, option_and_then, option_map, if◌then◌else◌}
 use Rattle.clap.specs.Walk.{Row, all_of, first_of}
 use Rattle.ixds_run.specs.declared.command.Command.{Command}
-use Rattle.ixds_run.specs.declared.command.Command.TheVariants.{Extract, Check, Sample, Plain, Trace}
+use Rattle.ixds_run.specs.declared.command.Command.TheVariants.{Extract, Check, Sample, Plain, Trace, Session}
 use Rattle.ixds_run.specs.Bases.{is_base}
-use Rattle.ixds_run.specs.Names.{are_pages, has_repeat}
+use Rattle.page_session.specs.Names.{has_repeat}
+use Rattle.ixds_run.specs.Names.{are_pages}
 use Rattle.ixds_run.specs.Sample.{sample_base, sample_names, sample_number}
-use Rattle.ixds_run.specs.Simple.{check_app, extract_app, rows_taken, trace_app}
+use Rattle.ixds_run.specs.Simple.{check_app, extract_app, rows_taken, session_app, trace_app}
 
 -- the extraction with this base, directory and pages, where they may stand for these
 abbrev pub extract_from : Option (List ℕ) → Option (List ℕ) → Option (List (List ℕ)) → Option Command
@@ -34,6 +35,15 @@ check_in rows = option_map (λ p. Check p.0 p.1) (pages_in rows)
 abbrev pub trace_in : List Row → Option Command
 trace_in rows = option_map (λ p. Trace p.0 p.1) (pages_in rows)
 
+-- the session with this base and directory and this one script, where they may stand for these
+abbrev pub session_from : Option (List ℕ) → Option (List ℕ) → Option (List (List ℕ)) → Option Command
+session_from (Some base) (Some dir) (Some (script ∷ [])) =
+    if is_base base && nat_lt 0 (length dir) && are_pages (script ∷ []) then Some (Session base dir script) else None
+session_from base dir words = None
+
+abbrev pub session_in : List Row → Option Command
+session_in rows = session_from (first_of (codes "base") rows) (first_of (codes "out") rows) (all_of (codes "SCRIPT") rows)
+
 -- the sample that the words behind `sample` ask for: one number
 abbrev pub sample_in : List (List ℕ) → Option Command
 sample_in (number ∷ []) = option_map Sample (sample_number number)
@@ -51,20 +61,22 @@ command_by first rest =
     else (if bytes_eq first (codes "check") then option_and_then check_in (rows_taken check_app (first ∷ rest))
     else (if bytes_eq first (codes "sample") then sample_in rest
     else (if bytes_eq first (codes "plain") then plain_in rest
-    else (if bytes_eq first (codes "trace") then option_and_then trace_in (rows_taken trace_app (first ∷ rest)) else None))))
+    else (if bytes_eq first (codes "trace") then option_and_then trace_in (rows_taken trace_app (first ∷ rest))
+    else (if bytes_eq first (codes "session") then option_and_then session_in (rows_taken session_app (first ∷ rest)) else None)))))
 
 -- the command that the words give, where they give one
 unfoldable pub command_of : List (List ℕ) → Option Command
 command_of [] = None
 command_of (first ∷ rest) = command_by first rest
 
--- the names of the pages of a command
+-- the names of the pages that a command names; a session names its script, which names the others
 abbrev pub pages_of : Command → List (List ℕ)
 pages_of (Extract base dir pages) = pages
 pages_of (Check base pages) = pages
 pages_of (Sample number) = sample_names
 pages_of (Plain page) = page ∷ []
 pages_of (Trace base pages) = pages
+pages_of (Session base dir script) = script ∷ []
 
 -- the base that links are joined to, where the command has one
 abbrev pub base_of : Command → Option (List ℕ)
@@ -73,6 +85,7 @@ base_of (Check base pages) = Some base
 base_of (Sample number) = Some sample_base
 base_of (Plain page) = None
 base_of (Trace base pages) = Some base
+base_of (Session base dir script) = Some base
 
 -- the directory word, where the command has one
 abbrev pub dir_of : Command → Option (List ℕ)
@@ -81,6 +94,7 @@ dir_of (Check base pages) = None
 dir_of (Sample number) = None
 dir_of (Plain page) = None
 dir_of (Trace base pages) = None
+dir_of (Session base dir script) = Some dir
 
 -- how many facts a sample has, whose pages are made and not read
 abbrev pub number_of : Command → Option ℕ
@@ -89,14 +103,16 @@ number_of (Check base pages) = None
 number_of (Sample number) = Some number
 number_of (Plain page) = None
 number_of (Trace base pages) = None
+number_of (Session base dir script) = None
 
--- the same command over other pages, where it names pages; a plain page stays the one that it is
+-- the same command over other pages, where it names pages; a plain page and a script stay what they are
 abbrev pub with_pages : Command → List (List ℕ) → Command
 with_pages (Extract base dir pages) others = Extract base dir others
 with_pages (Check base pages) others = Check base others
 with_pages (Sample number) others = Sample number
 with_pages (Plain page) others = Plain page
 with_pages (Trace base pages) others = Trace base others
+with_pages (Session base dir script) others = Session base dir script
 
 -- a command for which the bytes of pages are kept as they are read
 abbrev pub keeps_pages : Command → Bool
@@ -105,6 +121,16 @@ keeps_pages (Check base pages) = false
 keeps_pages (Sample number) = false
 keeps_pages (Plain page) = false
 keeps_pages (Trace base pages) = true
+keeps_pages (Session base dir script) = false
+
+-- a command that follows a script
+abbrev pub is_session : Command → Bool
+is_session (Extract base dir pages) = false
+is_session (Check base pages) = false
+is_session (Sample number) = false
+is_session (Plain page) = false
+is_session (Trace base pages) = false
+is_session (Session base dir script) = true
 
 -- Names of pages as a command has them: few enough, none too long for a source, and none twice.
 pub record AreNames (names : List (List ℕ)) : Type 0 where

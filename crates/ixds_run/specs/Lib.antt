@@ -1,4 +1,5 @@
 pub mod Answers
+pub mod Asking
 pub mod Bases
 pub mod CommandBytes
 pub mod Commands
@@ -6,14 +7,17 @@ pub mod Deliveries
 pub mod DueOutcomes
 pub mod DueTables
 pub mod ExitCodes
+pub mod Following
 pub mod Gains
 pub mod InMemory
 pub mod Names
 pub mod Reading
 pub mod Rearrangement
 pub mod Sample
+pub mod SessionAnswers
+pub mod SessionBytes
+pub mod SessionOutcomes
 pub mod Simple
-pub mod Sources
 pub mod Summary
 pub mod Texts
 pub mod Verdicts

@@ -1,5 +1,5 @@
 -- Reading pages one behind another, each piece by piece.
-use Rattle.std.specs.Prelude.{◌≡◌, ◌⊎◌, ℕ, suc, ◌+◌, ◌≤◌, ◌<◌, Bool, true, IsTrue, List, [], ◌∷◌, ◌++◌, length, map, Option, Some, None, IfSome, Result, Ok, Err}
+use Rattle.std.specs.Prelude.{◌≡◌, ◌⊎◌, ℕ, suc, ◌+◌, ◌≤◌, ◌<◌, Bool, true, IsTrue, List, [], ◌∷◌, ◌++◌, length, map, Option, Some, None, IfSome}
 use Rattle.std.specs.Borrow.{Bor}
 use Rattle.ix_base.specs.Elements.{pages_of}
 use Rattle.ix_base.specs.Trees.{tree_of}
@@ -7,45 +7,29 @@ use Rattle.ix_base.specs.declared.tree.Element.{Element}
 use Rattle.page_tree.specs.Page.{page as page_with}
 use Rattle.page_tree.specs.Break.{w}
 use Rattle.page_tree.specs.Stacks.{AreAll}
-use Rattle.page_tree.specs.Standing.{StandsFor}
+use Rattle.page_tree.specs.Standing.{StandsFor, limit, page_number}
+use Rattle.page_session.specs.Sources.{IsTelling, told}
+use Rattle.page_session.specs.declared.reading.Sums.{Sums}
 use Rattle.targets.specs.Breaches.{size_rule, tags_in, all_tags_in, bytes_in, set_rule, text_fault, text_faults}
 use Rattle.ixds_run.specs.Texts.{cannot_read_line}
-use Rattle.ixds_run.specs.Sources.{IsTelling, told}
 use Rattle.ixds_run.specs.declared.forest.Forest.{Forest}
 use Rattle.ixds_run.specs.declared.forest.Stopped.{Stopped}
 use Rattle.ixds_run.specs.declared.forest.Stopped.TheVariants as stopped
 use Rattle.ixds_run.specs.declared.reading.OpenPage.{OpenPage}
-use Rattle.ixds_run.specs.declared.reading.ReadError.{ReadError}
-use Rattle.ixds_run.specs.declared.reading.ReadError.TheVariants as read_error
-use Rattle.ixds_run.specs.declared.reading.Sums.{Sums}
-
--- a read that failed was the last call
-abbrev pub IsLastCall : {X : Type 0} → (failed : Bool) → Result X ReadError → Type 0
-IsLastCall failed (Ok x) = Unit {0}
-IsLastCall failed (Err read_error.Failed) = IsTrue failed
-IsLastCall failed (Err read_error.NoMemory) = Unit {0}
-
--- A read that failed raised the count of faults; any other answer left it.
-abbrev pub HasReadCause : {X : Type 0} → (before now : ℕ) → Result X ReadError → Type 0
-HasReadCause before now (Ok x) = now ≡ before
-HasReadCause before now (Err read_error.Failed) = before < now
-HasReadCause before now (Err read_error.NoMemory) = now ≡ before
 
 -- An open page was given these bytes: its builder stands for them, and where bytes are kept, these are.
 pub record Holds (t : OpenPage) (b : List ℕ) : Type 0 where
   pub built : StandsFor t.tree b
   pub kept : t.keeps ≡ true → t.bytes.items ≡ b
 
--- Of a page a front was read, which it was given and by which the sums grew. Where the source tells the page, it
--- is that page's front, and the rest is left.
-pub record HasFed (page left : Option (List ℕ)) (t : OpenPage) (before now : Sums) : Type 0 where
-  pub front : List ℕ
-  pub built : Holds t front
-  pub bytes : now.bytes ≡ before.bytes + length front
-  pub tags : now.tags ≡ before.tags + tags_in front
-  pub told : IfSome page (λ b. (rest : List ℕ) × (b ≡ front ++ rest) × (left ≡ Some rest))
+-- the open page p is what the page fresh, of which nothing was read, became by these bytes
+pub record HasTaken (fresh : OpenPage) (b : List ℕ) (p : OpenPage) : Type 0 where
+  pub holds : Holds p b
+  pub limit_is : limit p.tree ≡ limit fresh.tree
+  pub page_is : page_number p.tree ≡ page_number fresh.tree
+  pub keeps_is : p.keeps ≡ fresh.keeps
 
--- That front is the whole page, unless the bytes read are more than pages may have.
+-- What was read of a page is all of it, unless the bytes read are more than pages may have.
 abbrev pub IsReadWhole : Option (List ℕ) → Option (List ℕ) → Sums → Type 0
 IsReadWhole page left sums = sums.bytes ≤ 268435456 → IfSome page (λ b. left ≡ Some [])
 

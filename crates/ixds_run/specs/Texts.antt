@@ -12,7 +12,7 @@ use Rattle.ix_base.specs.declared.breach.Class.TheVariants as class
 
 -- how the program is used
 unfoldable pub usage_text : List ℕ
-usage_text = codes "usage: ixds extract --base URL --out DIR PAGE...\n       ixds check --base URL PAGE...\n       ixds sample N\n       ixds plain PAGE\n       ixds trace --base URL PAGE...\n"
+usage_text = codes "usage: ixds extract --base URL --out DIR PAGE...\n       ixds check --base URL PAGE...\n       ixds sample N\n       ixds plain PAGE\n       ixds trace --base URL PAGE...\n       ixds session --base URL --out DIR SCRIPT\n"
 
 unfoldable pub cannot_read_line : List ℕ → List ℕ
 cannot_read_line page = codes "ixds: cannot read " ++ (page ++ 10 ∷ [])

@@ -17,7 +17,7 @@ use Rattle.ixds_run.specs.Commands.{pages_of}
 use Rattle.ixds_run.specs.Sample.{sample_base}
 use Rattle.ixds_run.specs.Texts.{trace_line}
 use Rattle.ixds_run.specs.declared.command.Command.{Command}
-use Rattle.ixds_run.specs.declared.command.Command.TheVariants.{Extract, Check, Sample, Plain, Trace}
+use Rattle.ixds_run.specs.declared.command.Command.TheVariants.{Extract, Check, Sample, Plain, Trace, Session}
 use Rattle.ixds_run.specs.declared.verdict.Verdict.{Verdict}
 use Rattle.ixds_run.specs.declared.verdict.Verdict.TheVariants.{Reported, Extracted, Printed}
 
@@ -67,13 +67,14 @@ IsTracedBy (Whole targets) names bs v = (trees : List Tree) × AreTrees bs trees
 abbrev pub IsTraced : List ℕ → List (List ℕ) → List (List ℕ) → Verdict → Type 0
 IsTraced base names bs v = (o : Outcome) × PagesComeTo base names bs o × IsTracedBy o names bs v
 
--- what pages of these names and bytes come to under a command, whatever pages it names itself
+-- what pages of these names and bytes come to under a command, whatever pages it names itself; a session's script comes to nothing by itself
 abbrev pub PagesMake : Command → List (List ℕ) → List (List ℕ) → Verdict → Type 0
 PagesMake (Extract base dir pages) names bs v = IsOfSet base names bs v
 PagesMake (Check base pages) names bs v = IsOfSet base names bs v
 PagesMake (Sample number) names bs v = IsOfSet sample_base names bs v
 PagesMake (Plain page) names bs v = IsShown names bs v
 PagesMake (Trace base pages) names bs v = IsTraced base names bs v
+PagesMake (Session base dir script) names bs v = ⊥
 
 -- what the pages of a command come to that have these bytes
 abbrev pub CommandMakes : Command → List (List ℕ) → Verdict → Type 0

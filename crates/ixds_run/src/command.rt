@@ -9,6 +9,7 @@ use clap::ArgMatches;
 use ix_base::{List, NoMemory, Text};
 use names::are_pages;
 use number::sample_number;
+use session::session_of;
 use simple::{check_words, extract_words, matched, trace_words};
 use std::alloc::Global;
 use std::slice::from_ref;
@@ -16,6 +17,7 @@ use std::slice::from_ref;
 mod base;
 mod names;
 mod number;
+mod session;
 mod simple;
 
 /// What the words of a command line ask for.
@@ -31,10 +33,12 @@ pub enum Command {
     Plain(Text),
     /// To tell where the text of each fact stands: the base, and the names of the pages.
     Trace(Text, List<Text>),
+    /// To follow a script: the base, the directory, and the name of the script.
+    Session(Text, Text, Text),
 }
 
 impl Command {
-    /// The names of the pages.
+    /// The names of the pages. Those of a session are named by its script.
     pub fn names(&self, alloc: Global) -> Result<Vec<Text>, NoMemory>
         ensures { IfOk result (λ v. v.items ≡ spec.pages_of self.now) }
     {
@@ -44,6 +48,7 @@ impl Command {
             Command::Sample(_) => sample_names(alloc),
             Command::Plain(page) => copied(alloc, from_ref(page)),
             Command::Trace(_, pages) => copied(alloc, pages.as_slice()),
+            Command::Session(_, _, script) => copied(alloc, from_ref(script)),
         }
     }
 
@@ -57,6 +62,7 @@ impl Command {
             Command::Sample(_) => Some(SAMPLE_BASE),
             Command::Plain(_) => None,
             Command::Trace(base, _) => Some(base.as_str()),
+            Command::Session(base, _, _) => Some(base.as_str()),
         }
     }
 
@@ -70,6 +76,7 @@ impl Command {
             Command::Sample(_) => None,
             Command::Plain(_) => None,
             Command::Trace(_, _) => None,
+            Command::Session(_, dir, _) => Some(dir.as_str()),
         }
     }
 
@@ -83,6 +90,7 @@ impl Command {
             Command::Sample(number) => Some(*number),
             Command::Plain(_) => None,
             Command::Trace(_, _) => None,
+            Command::Session(_, _, _) => None,
         }
     }
 }
@@ -270,6 +278,9 @@ fn picked(alloc: Global, words: &[Text]) -> Result<Option<Command>, NoMemory>
     }
     if first.as_str() == "trace" {
         return trace_of(alloc, words);
+    }
+    if first.as_str() == "session" {
+        return session_of(alloc, words);
     }
     Ok(None)
 }

@@ -1,5 +1,5 @@
 //! Writing what is due.
-ghost use Rattle.std.specs.Prelude.{◌≡◌, ◌⊎◌, ◌+◌, ◌^◌, ◌<◌, ◌∷◌, [], List, ℕ, map, Option, None, Some, option_map, OnOk, OnErr, IfSome, IsTrue, length};
+ghost use Rattle.std.specs.Prelude.{◌≡◌, ◌⊎◌, ◌+◌, ◌^◌, ◌<◌, ◌∷◌, [], map, Option, None, Some, option_map, OnOk, OnErr, IfSome, IsTrue, length};
 ghost use Rattle.ix_base.specs.Outside.{TextGainsFront};
 ghost use Rattle.ixds_run.specs.Gains.{GainsAll, GainsCut, GainsPart, GainsText, words_asked};
 ghost use Rattle.ixds_run.specs.DueTables.{ready, status_of, targets_due};

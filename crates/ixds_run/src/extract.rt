@@ -1,12 +1,14 @@
 //! A command, from its pages to its answer.
-ghost use Rattle.std.specs.Prelude.{◌≡◌, ◌⊎◌, ◌+◌, ◌^◌, ◌<◌, [], true, ℕ, IsTrue, List, IfErr, IfOk, IfSome, None, OnOk, Some};
+ghost use Rattle.std.specs.Prelude.{◌≡◌, ◌⊎◌, ◌+◌, ◌^◌, ◌<◌, [], true, false, ℕ, IsTrue, List, IfOk, Some};
 ghost use Rattle.ix_base.specs.Outside.{TextGainsFront};
+ghost use Rattle.page_session.specs.Sources.{source_told};
 ghost use Rattle.ixds_run.specs.Answers.{Answers, outside};
+ghost use Rattle.ixds_run.specs.Asking.{AreGathered};
 ghost use Rattle.ixds_run.specs.CommandBytes.{AreSome, bytes_told};
-ghost use Rattle.ixds_run.specs.Commands.{IsGiven, keeps_pages, number_of, pages_of};
+ghost use Rattle.ixds_run.specs.Commands.{IsGiven, is_session, keeps_pages, pages_of};
 ghost use Rattle.ixds_run.specs.DueTables.{IsDueFrom};
-ghost use Rattle.ixds_run.specs.Gains.{GainsStarts, GainsText};
-ghost use Rattle.ixds_run.specs.Reading.{IsAmong, IsRead, IsSound, StopsInTime, WhyStopped};
+ghost use Rattle.ixds_run.specs.Gains.{GainsText};
+ghost use Rattle.ixds_run.specs.Reading.{IsRead, IsSound};
 
 use crate::Status;
 use crate::command::Command;
@@ -28,6 +30,7 @@ fn due_from<'a>(
     forest: Forest<'a>,
 ) -> Result<Due, NoMemory>
     requires given { IsGiven command.now }
+    requires session { is_session command.now ≡ false }
     requires sound { IsSound (pages_of command.now) forest }
     requires keeps { forest.keeps ≡ keeps_pages command.now }
     requires read { (bs : List (List ℕ)) × IsRead bs forest }
@@ -43,20 +46,12 @@ fn due_from<'a>(
 /// Reads the command's pages, or makes them, and makes ready what is due of them.
 fn prepared<P: PageSource>(alloc: Global, command: &Command, pages: &mut P) -> Result<Due, Stopped>
     requires given { IsGiven command.now }
+    requires session { is_session command.now ≡ false }
     requires count { P.faults pages.old + 1 < 2 ^ 64 }
     ensures due { IfOk result (λ due. AreSome (bytes_told (P.page pages.old) command.now) (λ bs. IsDueFrom command.now bs due)) }
     ensures none { IfOk result (λ due. due.is_broken ≡ true → due.targets.items ≡ []) }
-    ensures stops { OnOk result (number_of command.now ≡ None
-        → StopsInTime (P.page pages.old) (pages_of command.now) (P.left pages.new) (P.asked pages.new)) }
-    ensures ok { OnOk result (P.faults pages.new ≡ P.faults pages.old) }
-    ensures pages { P.page pages.new ≡ P.page pages.old }
-    ensures sample { IfSome (number_of command.now) (λ n. pages.new ≡ pages.old) }
-    ensures asked { (pages.new ≡ pages.old)
-        ⊎ ((name : List ℕ) × IsAmong (P.page pages.old) (pages_of command.now) (P.asked pages.new) name) }
-    ensures starts { GainsStarts (pages_of command.now) (P.starts pages.old) (P.starts pages.new) }
-    ensures stopped { IfErr result (λ why. WhyStopped (P.page pages.old) (pages_of command.now) (P.asked pages.new) (P.faults pages.old)
-        (P.faults pages.new) (P.last_failed pages.new) why) }
-    ensures numbers { P.numbers pages.new ≡ P.numbers pages.old }
+    ensures gathered { AreGathered command.now (source_told P.PageSource pages.old) (source_told P.PageSource pages.new)
+        (pages.new ≡ pages.old) result }
 {
     let arena = Bump::new(alloc);
     let forest = gathered(alloc, &arena, command, pages)?;
@@ -75,6 +70,7 @@ pub fn extract<P: PageSource, S: TargetSink, T: TextSink>(
     out: &mut T,
 ) -> Status
     requires given { IsGiven command.now }
+    requires session { is_session command.now ≡ false }
     requires pages { P.faults pages.old + 1 < 2 ^ 64 }
     requires sink { S.faults sink.old + 1 < 2 ^ 64 }
     requires out { T.faults out.old + 1 < 2 ^ 64 }
@@ -91,7 +87,7 @@ pub fn extract<P: PageSource, S: TargetSink, T: TextSink>(
 }
 
 /// Puts the line of a page that can't be read.
-fn put_read_fault<T: TextSink>(line: &[u8], out: &mut T) -> Status
+pub fn put_read_fault<T: TextSink>(line: &[u8], out: &mut T) -> Status
     requires out { T.faults out.old + 1 < 2 ^ 64 }
     ensures either { (result ≡ Status.ReadFault) ⊎ (result ≡ Status.WriteFault) }
     ensures read { result ≡ Status.ReadFault → GainsText line.now (T.taken out.old) (T.taken out.new) }

@@ -1,22 +1,21 @@
 //! Reading the pages of a command.
-ghost use Rattle.std.specs.Prelude.{◌≡◌, ◌+◌, ◌^◌, ◌<◌, ◌≤◌, ◌⊎◌, ◌++◌, ◌∷◌, [], ℕ, List, All, length, map, true, vec_len, None};
-ghost use Rattle.std.specs.Prelude.{IfOk, IfErr, IfSome, OnOk, OnErr, option_map};
-ghost use Rattle.ixds_run.specs.Gains.{GainsStarts};
-ghost use Rattle.ixds_run.specs.CommandBytes.{AreSome};
+ghost use Rattle.std.specs.Prelude.{◌≡◌, ◌+◌, ◌^◌, ◌<◌, ◌≤◌, ◌⊎◌, ◌++◌, ◌∷◌, [], ℕ, List, All, length, map, true};
+ghost use Rattle.std.specs.Prelude.{IfOk, IfErr, IfSome, OnOk, option_map};
 ghost use Rattle.ix_base.specs.Outside.{TellsAlso};
 ghost use Rattle.page_tree.specs.Standing.{StandsFor, limit, page_number};
-ghost use Rattle.ixds_run.specs.Reading.{HasGained, HasGainedTree, HasReadCause, Holds, IsAmong, IsLastCall, IsRead, IsSound, ReadsOn, StopsAt, StopsInTime, WhyStopped};
-ghost use Rattle.ixds_run.specs.Sources.{told};
+ghost use Rattle.page_session.specs.Reading.{HasReadCause, IsLastCall};
+ghost use Rattle.page_session.specs.Sources.{source_told, told};
+ghost use Rattle.ixds_run.specs.Asking.{AreAsked};
+ghost use Rattle.ixds_run.specs.CommandBytes.{AreSome};
+ghost use Rattle.ixds_run.specs.Reading.{HasGained, HasGainedTree, Holds, IsRead, IsSound, ReadsOn, StopsAt, StopsInTime};
 
 use crate::lines::cannot_read;
-use crate::reading::{MOST_BYTES, OpenPage, ReadError, Sums, read_page};
+use crate::reading::{MOST, MOST_BYTES, OpenPage};
 use bumpalo::Bump;
 use ix_base::{Breaches, Element, NoMemory, PageSource, Place, Text};
+use page_session::reading::{ReadError, Sums, buffer, read_page};
 use page_tree::{PageFault, TreeBuilder};
-use std::alloc::{AllocError, Global};
-
-/// How many bytes a read asks for at most.
-const BUFFER: usize = 65_536;
+use std::alloc::Global;
 
 /// What was read of pages: their sums, the roots of those that have a tree, and the breaks of the others.
 #[derive(Drop)]
@@ -146,17 +145,11 @@ fn read_on<'a, P: PageSource>(
     ensures numbers { P.numbers pages.new ≡ P.numbers pages.old }
 {
     let mut page = OpenPage::new(alloc, arena, number, forest.keeps);
-    read_page(pages, name, buffer, &mut page, &mut forest.sums)?;
+    read_page(pages, name, buffer, &mut page, &mut forest.sums, MOST)?;
     match end_page(arena, page, number, forest) {
         Ok(()) => Ok(()),
         Err(_) => Err(ReadError::NoMemory),
     }
-}
-
-fn zeros(alloc: Global, n: usize) -> Result<Vec<u8>, AllocError>
-    ensures { IfOk result (λ v. vec_len v ≡ n) }
-{
-    vec![in alloc; 0u8; n]
 }
 
 /// Reads the pages of these names, in this order. It stops as soon as they have more bytes than pages may have. The line for
@@ -176,15 +169,10 @@ pub fn read_all<'a, P: PageSource>(
     ensures sound { IfOk result (IsSound names.now) }
     ensures keeps { IfOk result (λ f. f.keeps ≡ keeps) }
     ensures stops { OnOk result (StopsInTime (P.page pages.old) names.now (P.left pages.new) (P.asked pages.new)) }
-    ensures ok { OnOk result (P.faults pages.new ≡ P.faults pages.old) }
-    ensures pages { P.page pages.new ≡ P.page pages.old }
-    ensures asked { (pages.new ≡ pages.old) ⊎ ((name : List ℕ) × IsAmong (P.page pages.old) names.now (P.asked pages.new) name) }
-    ensures starts { GainsStarts names.now (P.starts pages.old) (P.starts pages.new) }
-    ensures stopped { IfErr result (λ why. WhyStopped (P.page pages.old) names.now (P.asked pages.new) (P.faults pages.old)
-        (P.faults pages.new) (P.last_failed pages.new) why) }
-    ensures numbers { P.numbers pages.new ≡ P.numbers pages.old }
+    ensures asks { AreAsked names.now (source_told P.PageSource pages.old) (source_told P.PageSource pages.new)
+        (pages.new ≡ pages.old) result }
 {
-    let Ok(mut buffer) = zeros(alloc, BUFFER) else {
+    let Ok(mut buffer) = buffer(alloc) else {
         return Err(Stopped::NoMemory);
     };
     let mut forest = no_pages(alloc, keeps);

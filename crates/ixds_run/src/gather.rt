@@ -1,9 +1,10 @@
 //! The pages of a command.
-ghost use Rattle.std.specs.Prelude.{◌≡◌, ◌+◌, ◌^◌, ◌<◌, ◌≤◌, ◌⊎◌, ℕ, List, None, false, IfOk, IfErr, IfSome, OnOk};
-ghost use Rattle.ixds_run.specs.Commands.{IsGiven, keeps_pages, number_of, pages_of};
-ghost use Rattle.ixds_run.specs.Gains.{GainsStarts};
+ghost use Rattle.std.specs.Prelude.{◌≡◌, ◌+◌, ◌^◌, ◌<◌, ◌≤◌, false, IfOk};
+ghost use Rattle.page_session.specs.Sources.{source_told};
+ghost use Rattle.ixds_run.specs.Asking.{AreGathered};
+ghost use Rattle.ixds_run.specs.Commands.{IsGiven, keeps_pages, pages_of};
 ghost use Rattle.ixds_run.specs.CommandBytes.{AreSome, bytes_told};
-ghost use Rattle.ixds_run.specs.Reading.{IsAmong, IsRead, IsSound, StopsInTime, WhyStopped};
+ghost use Rattle.ixds_run.specs.Reading.{IsRead, IsSound};
 ghost use Rattle.ixds_run.specs.Sample.{sample_bytes, sample_names};
 
 use crate::command::Command;
@@ -38,22 +39,14 @@ pub fn gathered<'a, P: PageSource>(
     ensures reads { IfOk result (λ f. AreSome (bytes_told (P.page pages.old) command.now) (λ bs. IsRead bs f)) }
     ensures sound { IfOk result (IsSound (pages_of command.now)) }
     ensures keeps { IfOk result (λ f. f.keeps ≡ keeps_pages command.now) }
-    ensures stops { OnOk result (number_of command.now ≡ None
-        → StopsInTime (P.page pages.old) (pages_of command.now) (P.left pages.new) (P.asked pages.new)) }
-    ensures ok { OnOk result (P.faults pages.new ≡ P.faults pages.old) }
-    ensures pages { P.page pages.new ≡ P.page pages.old }
-    ensures sample { IfSome (number_of command.now) (λ n. pages.new ≡ pages.old) }
-    ensures asked { (pages.new ≡ pages.old)
-        ⊎ ((name : List ℕ) × IsAmong (P.page pages.old) (pages_of command.now) (P.asked pages.new) name) }
-    ensures starts { GainsStarts (pages_of command.now) (P.starts pages.old) (P.starts pages.new) }
-    ensures stopped { IfErr result (λ why. WhyStopped (P.page pages.old) (pages_of command.now) (P.asked pages.new) (P.faults pages.old)
-        (P.faults pages.new) (P.last_failed pages.new) why) }
-    ensures numbers { P.numbers pages.new ≡ P.numbers pages.old }
+    ensures gathered { AreGathered command.now (source_told P.PageSource pages.old) (source_told P.PageSource pages.new)
+        (pages.new ≡ pages.old) result }
 {
     match command {
         Command::Extract(_, _, names) => read_all(alloc, arena, pages, names.as_slice(), false),
         Command::Check(_, names) => read_all(alloc, arena, pages, names.as_slice(), false),
         Command::Plain(name) => read_all(alloc, arena, pages, from_ref(name), false),
+        Command::Session(_, _, script) => read_all(alloc, arena, pages, from_ref(script), false),
         Command::Trace(_, names) => read_all(alloc, arena, pages, names.as_slice(), true),
         Command::Sample(facts) => match sampled(alloc, arena, *facts) {
             Ok(forest) => Ok(forest),

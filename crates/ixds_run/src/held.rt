@@ -3,9 +3,11 @@ ghost use Rattle.std.specs.Prelude.{◌≡◌, ◌≤◌, [], Some, false, lengt
 ghost use Rattle.ixds_run.specs.Reading.{IsRead, IsSound, ReadsOn};
 
 use crate::forest::{Forest, end_page, no_pages};
-use crate::reading::{MOST_BYTES, OpenPage, count_tags};
+use crate::reading::{MOST_BYTES, OpenPage};
 use bumpalo::Bump;
 use ix_base::{MemPage, NoMemory};
+use page_session::reading::count_tags;
+use page_session::taking::PageTaker;
 use std::alloc::Global;
 
 /// Builds a page in one piece, and ends it as one that was read.

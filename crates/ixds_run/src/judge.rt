@@ -1,17 +1,17 @@
 //! What pages that were read say, or the rules that they break.
-ghost use Rattle.std.specs.Prelude.{◌≡◌, ◌∷◌, [], ◌<◌, ◌≤◌, ℕ, List, All, None, length, map, IfOk, ◌≢◌};
-ghost use Rattle.std.specs.Borrow.{Bor};
-ghost use Rattle.ix_base.specs.Trees.{Tree, tree_of};
+ghost use Rattle.std.specs.Prelude.{◌≡◌, ◌∷◌, [], ◌<◌, ◌≤◌, ℕ, List, None, length, IfOk, ◌≢◌};
+ghost use Rattle.ix_base.specs.Trees.{Tree};
 ghost use Rattle.targets.specs.Breaches.{size_rule, PagesComeTo, on_page, text_faults};
 ghost use Rattle.targets.specs.Forest.{AreTrees, page_set};
 ghost use Rattle.targets.specs.SetOutcomes.{ComesTo, CanBeWritten, IsReport};
 ghost use Rattle.ixds_run.specs.Reading.{HasRead, IsRead, IsSound};
 
 use crate::forest::Forest;
-use crate::made::{made, reported};
-use crate::reading::{MOST_BYTES, Sums};
+use crate::reading::MOST_BYTES;
 use bumpalo::Bump;
 use ix_base::{Breaches, NoMemory, Place, Rule, Text};
+use page_session::made::{made, reported};
+use page_session::reading::Sums;
 use page_tree::laws::sound_tree;
 use std::alloc::Global;
 use targets::Outcome;

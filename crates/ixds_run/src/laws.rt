@@ -12,7 +12,8 @@ ghost use Rattle.ixds_run.specs.DueOutcomes.{AreReadBack, DueOutcome, IsOutcome}
 ghost use Rattle.targets.specs.Breaches.{PagesComeTo};
 ghost use Rattle.ixds_run.specs.Deliveries.{Gives};
 ghost use Rattle.ixds_run.specs.InMemory.{AreFit, memory_outside};
-ghost use Rattle.ixds_run.specs.Rearrangement.{Handed, IsRearranged, bytes_of, names_of};
+ghost use Rattle.page_session.specs.Handed.{Handed, bytes_of, names_of};
+ghost use Rattle.ixds_run.specs.Rearrangement.{IsRearranged};
 ghost use Rattle.ixds_run.specs.Texts.{breach_line};
 ghost use Rattle.ixds_run.specs.declared.command.Command.{Command};
 ghost use Rattle.ixds_run.specs.declared.status.Status.{Status};

@@ -2,31 +2,34 @@
 #![tactic(auto)]
 
 ghost use Rattle.std.specs.Prelude.{◌≡◌, ◌+◌, ◌^◌, ◌<◌};
-ghost use Rattle.ixds_run.specs.Answers.{Answers, outside};
+ghost use Rattle.ixds_run.specs.Answers.{outside};
 ghost use Rattle.ixds_run.specs.Commands.{command_of};
+ghost use Rattle.ixds_run.specs.SessionAnswers.{Answered};
 
+mod answer;
 mod command;
 mod deliver;
 mod due;
 mod extract;
+mod follow;
 mod forest;
 mod gather;
 mod held;
 mod judge;
 pub mod laws;
 mod lines;
-mod made;
 mod plain;
 mod reading;
 mod report;
 mod sample;
+mod session;
 mod status;
 mod summary;
 mod trace;
 mod verdict;
 
+use answer::answer;
 pub use command::{Command, command_of};
-use extract::extract;
 use ix_base::{PageSource, TargetSink, Text, TextSink};
 use lines::put_usage;
 pub use sample::sample_pages;
@@ -47,7 +50,7 @@ pub fn run<P: PageSource, S: TargetSink, T: TextSink>(
     requires pages { P.faults pages.old + 1 < 2 ^ 64 }
     requires sink { S.faults sink.old + 1 < 2 ^ 64 }
     requires out { T.faults out.old + 1 < 2 ^ 64 }
-    ensures { Answers (command_of words.now)
+    ensures { Answered (command_of words.now)
         (outside P.PageSource S.TargetSink T.TextSink pages.old sink.old out.old)
         (outside P.PageSource S.TargetSink T.TextSink pages.new sink.new out.new)
         (pages.new ≡ pages.old) (sink.new ≡ sink.old) (out.new ≡ out.old) result }
@@ -55,6 +58,6 @@ pub fn run<P: PageSource, S: TargetSink, T: TextSink>(
     match command::command_of(alloc, words) {
         Err(_) => Status::NoMemory,
         Ok(None) => put_usage(out),
-        Ok(Some(command)) => extract(alloc, &command, pages, sink, out),
+        Ok(Some(command)) => answer(alloc, &command, pages, sink, out),
     }
 }

@@ -35,6 +35,15 @@ fn push_line(alloc: Global, text: &mut Text, breach: &Breach) -> Result<(), NoMe
     text.push("\n")
 }
 
+/// The line of a breach.
+pub fn line_of(alloc: Global, breach: &Breach) -> Result<Text, NoMemory>
+    ensures { IfOk result (λ t. t ≡ breach_line breach.now) }
+{
+    let mut text = Text::of(alloc, "")?;
+    push_line(alloc, &mut text, breach)?;
+    Ok(text)
+}
+
 /// The lines of a report, each with its line feed.
 pub fn lines_of(alloc: Global, report: &Report) -> Result<Text, NoMemory>
     ensures { IfOk result (λ t. t ≡ flat_map breach_line report.now.lines) }

@@ -1,13 +1,12 @@
 //! Where the text of each fact of a set of pages stands.
-ghost use Rattle.std.specs.Prelude.{◌≡◌, ◌++◌, ◌<◌, ◌≤◌, ◌∷◌, [], ℕ, List as Items, false, true, length, map, IfOk, OnOk};
-ghost use Rattle.std.specs.Fmt.{decimal};
+ghost use Rattle.std.specs.Prelude.{◌≡◌, ◌++◌, ◌<◌, ◌≤◌, ℕ, List as Items, false, true, length, map, IfOk, OnOk};
 ghost use Rattle.std.specs.List.{flat_map};
 ghost use Rattle.fact_trace.specs.Spans.{traces};
 ghost use Rattle.targets.specs.Breaches.{PagesComeTo};
 ghost use Rattle.targets.specs.Forest.{trees_of};
 ghost use Rattle.targets.specs.declared.outcome.Outcome.TheVariants.{Whole};
 ghost use Rattle.targets.specs.declared.outcome.Target.{Target as TargetOf};
-ghost use Rattle.ixds_run.specs.Names.{has_repeat};
+ghost use Rattle.page_session.specs.Names.{has_repeat};
 ghost use Rattle.ixds_run.specs.Reading.{AreRoots, IsRead, IsSound};
 ghost use Rattle.ixds_run.specs.Texts.{item_text, next_span, span_text, spans_text, trace_line};
 ghost use Rattle.ixds_run.specs.declared.verdict.Verdict.TheVariants.{Printed};

@@ -1,14 +1,14 @@
 //! What the pages of a command come to.
-ghost use Rattle.std.specs.Prelude.{◌≡◌, ◌<◌, ◌≤◌, ℕ, List, IfOk, length};
-ghost use Rattle.ixds_run.specs.Commands.{IsGiven, keeps_pages, pages_of};
+ghost use Rattle.std.specs.Prelude.{◌≡◌, ℕ, List, IfOk, false};
+ghost use Rattle.ixds_run.specs.Commands.{IsGiven, is_session, keeps_pages, pages_of};
 ghost use Rattle.ixds_run.specs.Reading.{IsRead, IsSound};
-ghost use Rattle.ixds_run.specs.Verdicts.{AreWritable, CommandMakes, IsOfSet};
+ghost use Rattle.ixds_run.specs.Verdicts.{AreWritable, CommandMakes, verdict_of};
+ghost use Rattle.targets.specs.SetOutcomes.{CanBeWritten};
 
 use crate::command::Command;
 use crate::forest::Forest;
 use crate::judge::judge;
 use crate::plain::shown;
-use crate::sample::SAMPLE_BASE;
 use crate::trace::traced;
 use bumpalo::Bump;
 use ix_base::{List, NoMemory, Report, Text};
@@ -26,23 +26,14 @@ pub enum Verdict {
     Printed(Text),
 }
 
-/// What pages come to as a set, under this base.
-fn of_set<'a>(
-    alloc: Global,
-    arena: &'a Bump,
-    base: &str,
-    names: &[Text],
-    forest: Forest<'a>,
-) -> Result<Verdict, NoMemory>
-    requires some { 0 < length names.now }
-    requires most { length names.now ≤ 64 }
-    requires sound { IsSound names.now forest }
-    ensures makes { IfOk result (λ v. (bs : List (List ℕ)) → IsRead bs forest.entry → IsOfSet base.now names.now bs v) }
-    ensures written { IfOk result AreWritable }
+/// The outcome of a set of pages, as what they come to.
+pub fn verdict_of(outcome: Outcome) -> Verdict
+    ensures value { result ≡ verdict_of outcome }
+    ensures written { CanBeWritten outcome → AreWritable result }
 {
-    match judge(alloc, arena, base, names, forest)? {
-        Outcome::Broken(report) => Ok(Verdict::Reported(report)),
-        Outcome::Whole(targets) => Ok(Verdict::Extracted(targets)),
+    match outcome {
+        Outcome::Broken(report) => Verdict::Reported(report),
+        Outcome::Whole(targets) => Verdict::Extracted(targets),
     }
 }
 
@@ -54,6 +45,7 @@ pub fn verdict_from<'a>(
     forest: Forest<'a>,
 ) -> Result<Verdict, NoMemory>
     requires given { IsGiven command.now }
+    requires session { is_session command.now ≡ false }
     requires sound { IsSound (pages_of command.now) forest }
     requires keeps { forest.keeps ≡ keeps_pages command.now }
     requires read { (bs : List (List ℕ)) × IsRead bs forest }
@@ -62,11 +54,11 @@ pub fn verdict_from<'a>(
 {
     let names = command.names(alloc)?;
     let names = names.as_slice();
+    let Some(base) = command.base() else {
+        return shown(alloc, names, forest);
+    };
     match command {
-        Command::Extract(base, _, _) => of_set(alloc, arena, base.as_str(), names, forest),
-        Command::Check(base, _) => of_set(alloc, arena, base.as_str(), names, forest),
-        Command::Sample(_) => of_set(alloc, arena, SAMPLE_BASE, names, forest),
-        Command::Plain(_) => shown(alloc, names, forest),
-        Command::Trace(base, _) => traced(alloc, arena, base.as_str(), names, forest),
+        Command::Trace(_, _) => traced(alloc, arena, base, names, forest),
+        _ => Ok(verdict_of(judge(alloc, arena, base, names, forest)?)),
     }
 }

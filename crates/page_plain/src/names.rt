@@ -1,6 +1,6 @@
 //! What the names of elements and attributes say of what becomes of them.
 ghost use Rattle.std.specs.Prelude.{◌≡◌};
-ghost use Rattle.ix_base.specs.Trees.{named, tree_of, valued};
+ghost use Rattle.ix_base.specs.Trees.{tree_of, valued};
 ghost use Rattle.page_plain.specs.Bare as spec;
 ghost use Rattle.page_plain.specs.Fates.{is_dropped, is_opened};
 

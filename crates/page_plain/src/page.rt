@@ -1,7 +1,7 @@
 //! A page without its inline markup, as it is written.
-ghost use Rattle.std.specs.Prelude.{◌≡◌, ◌++◌, ◌∷◌, [], ◌<◌, OnOk, IfOk, map, false, option_map};
+ghost use Rattle.std.specs.Prelude.{◌≡◌, ◌++◌, ◌∷◌, [], ◌<◌, OnOk, IfOk, Some, map, false};
 ghost use Rattle.ix_base.specs.Markup.{declaration};
-ghost use Rattle.ix_base.specs.Trees.{named, nodes_of, tree_of, valued};
+ghost use Rattle.ix_base.specs.Trees.{before, named, nodes_of, none, tree_of, valued};
 ghost use Rattle.ix_base.specs.Written.{attrs_text, close_text};
 ghost use Rattle.page_tree.specs.Fine.{declaring};
 ghost use Rattle.ix_base.specs.Sound.{IsSoundTree};
@@ -19,43 +19,35 @@ use std::alloc::Global;
 
 /// Whether nodes give nothing.
 #[cycle(silence)]
-#[tactic(auto, using(crate::proofs::SpellLaws::silence_laws))]
-fn is_silent(nodes: &[Node<'_>]) -> bool
+fn are_silent(nodes: &[Node<'_>]) -> bool
     ensures { result ≡ is_silent (nodes_of nodes.now) }
 {
     for node in nodes {
-        match node {
-            Node::Chars(text) => {
-                if !text.is_empty() {
-                    return false;
-                }
-            }
-            Node::Elem(below) => {
-                if !gives_nothing(below) {
-                    return false;
-                }
-            }
+        if !gives_nothing(node) {
+            return false;
         }
     }
     true
 }
 
-/// Whether an element gives nothing.
+/// Whether a node gives nothing.
 #[cycle(silence)]
 #[tactic(auto, using(crate::proofs::SpellLaws::silence_laws))]
-fn gives_nothing(element: &Element<'_>) -> bool
-    ensures { result ≡ spec.is_blank (spec.bare (tree_of element.now)) }
+fn gives_nothing(node: &Node<'_>) -> bool
+    ensures { result ≡ is_silent (before node.now none) }
 {
-    is_dropped(element) || (is_opened(element) && is_silent(element.children))
+    match node {
+        Node::Chars(text) => text.is_empty(),
+        Node::Elem(element) => {
+            is_dropped(element) || (is_opened(element) && are_silent(element.children))
+        }
+    }
 }
 
-/// A local name behind a prefix, if there is one.
-fn qualified(alloc: Global, prefix: Option<&str>, local: &str) -> Result<Text, NoMemory>
-    ensures { IfOk result (λ t. t ≡ spec.qualified (option_map (λ p. p.now) prefix.entry) local.now) }
+/// A local name behind a prefix.
+fn qualified(alloc: Global, prefix: &str, local: &str) -> Result<Text, NoMemory>
+    ensures { IfOk result (λ t. t ≡ spec.qualified (Some prefix.now) local.now) }
 {
-    let Some(prefix) = prefix else {
-        return Text::of(alloc, local);
-    };
     let mut text = Text::of(alloc, prefix)?;
     text.push(":")?;
     text.push(local)?;
@@ -71,9 +63,12 @@ fn attr_name(alloc: Global, prefixes: &Prefixes<'_>, name: &Name<'_>) -> Result<
         return Text::of(alloc, name.local);
     }
     if name.ns == XML {
-        return qualified(alloc, Some("xml"), name.local);
+        return qualified(alloc, "xml", name.local);
     }
-    qualified(alloc, prefixes.prefix(name.ns), name.local)
+    match prefixes.prefix(alloc, name.ns)? {
+        Some(prefix) => qualified(alloc, prefix.as_str(), name.local),
+        None => Text::of(alloc, name.local),
+    }
 }
 
 /// Appends an attribute.
@@ -204,7 +199,7 @@ fn push_rest(
         ++ rest_bytes (is_short (tree_of element.now)) (tree_of element.now).head.name.local
         (node_bytes (spec.numbered 1 prefixes.now) (tree_of element.now).head.name.ns (tree_of element.now).children)) }
 {
-    if ends_short(element.name) && is_silent(element.children) {
+    if ends_short(element.name) && are_silent(element.children) {
         return out.push("/>");
     }
     out.push(">")?;
@@ -280,7 +275,7 @@ pub fn plain_page(alloc: Global, root: &Element<'_>) -> Result<Text, NoMemory>
     ensures page { IfOk result (λ t. IsPageOf t (spec.bare (tree_of root.now))) }
 {
     let spaces = spaces_of(alloc, root)?;
-    let prefixes = Prefixes::of(alloc, spaces)?;
+    let prefixes = Prefixes::of(spaces);
     let mut out = Text::of(alloc, "")?;
     push_root(alloc, &prefixes, root, &mut out)?;
     out.push("\n")?;

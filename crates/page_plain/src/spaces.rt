@@ -1,5 +1,5 @@
 //! The namespaces of the attributes that are kept.
-ghost use Rattle.std.specs.Prelude.{◌≡◌, ◌++◌, IfOk, OnOk, map, MatchOption};
+ghost use Rattle.std.specs.Prelude.{◌≡◌, ◌++◌, IfOk, OnOk, map};
 ghost use Rattle.ix_base.specs.Trees.{nodes_of, tree_of, valued};
 ghost use Rattle.page_plain.specs.Bare as spec;
 ghost use Rattle.page_plain.specs.Parts.{element_spaces, node_spaces};

@@ -1,5 +1,5 @@
 -- Reading a page piece by piece.
-use Rattle.std.proofs.Common.{◌≡◌, ◌∙◌, ap, sym, refl, ℕ, ◌+◌, ◌≤◌, ◌<◌, ◌==◌, cond, List, [], ◌++◌, length, take, drop, Option, Some, None, IfSome, option_map, append_assoc, subst, arith, length-append, add-zero, append-nil, true, false, Bool, ◌&&◌, nat_le, ◌⊎◌, inl, inr, rules}
+use Rattle.std.proofs.Common.{◌≡◌, ◌∙◌, ap, sym, refl, ℕ, ◌+◌, ◌≤◌, ◌<◌, ◌==◌, cond, List, [], ◌++◌, length, take, drop, Option, Some, None, IfSome, option_map, append_assoc, subst, arith, length-append, append-nil, true, false, Bool, ◌&&◌, nat_le, ◌⊎◌, inl, inr, rules, OnOk, Result, Ok, Err}
 use Rattle.std.proofs.lemmas.Bool.{cases_lt}
 use Rattle.page_session.specs.Limits.{may_hold, Passes}
 use Rattle.page_session.specs.Sessions.{IsHeld, OfPage}
@@ -7,17 +7,19 @@ use Rattle.page_session.specs.declared.kept.Held.{Held}
 use Rattle.std.proofs.lemmas.List.{take-append-drop, length-take-le}
 use Rattle.std.proofs.lemmas.List.Sums.{sum_by-append}
 use Rattle.ix_base.specs.Outside.{ReadsFrom}
-use Rattle.page_tree.specs.Standing.{StandsFor}
+use Rattle.ix_base.specs.declared.NoMemory.{NoMemory}
+use Rattle.page_tree.specs.Standing.{StandsFor, limit, page_number}
 use Rattle.page_tree.specs.declared.builder.TreeBuilder.{TreeBuilder}
 use Rattle.targets.specs.Breaches.{tags_in}
 use Rattle.page_session.specs.Reading.{HasFed, IsWhole, is_within}
+use Rattle.page_session.specs.Taking.{HasBuilt}
 use Rattle.page_session.specs.declared.reading.Sums.{Sums}
 
 tags-append : (xs ys : List ℕ) → tags_in (xs ++ ys) ≡ tags_in xs + tags_in ys
 tags-append xs ys = sum_by-append (λ b. cond (b == 60) 1 0) xs ys
 
 -- what is told of a page, once a piece of it was read
-pub told_on : (page left left' : Option (List ℕ)) (front buf : List ℕ) (n : ℕ)
+told_on : (page left left' : Option (List ℕ)) (front buf : List ℕ) (n : ℕ)
     → IfSome left (λ rest. ReadsFrom rest buf n) → left' ≡ option_map (drop n) left
     → IfSome page (λ b. (rest : List ℕ) × (b ≡ front ++ rest) × (left ≡ Some rest))
     → IfSome page (λ b. (rest : List ℕ) × (b ≡ (front ++ take n buf) ++ rest) × (left' ≡ Some rest))
@@ -27,12 +29,20 @@ told_on (Some b) left left' front buf n piece next t =
     let split : take n buf ++ drop n t.0 ≡ t.0 = ap (λ x. x ++ drop n t.0) p.bytes ∙ take-append-drop n t.0 in
     (drop n t.0, t.1 ∙ ap (λ x. front ++ x) (sym split) ∙ sym (append_assoc front (take n buf) (drop n t.0)), next ∙ ap (option_map (drop n)) t.2)
 
--- a piece was read, and the builder took it
-pub read_on : (page left left' : Option (List ℕ)) (t t' : TreeBuilder) (before s s' : Sums) (buf : List ℕ) (n : ℕ)
+-- a builder was given a piece
+pub builds_on : (r : Result Unit NoMemory) (piece : List ℕ) (old new : TreeBuilder) → ((b : List ℕ) → StandsFor old b → OnOk r (StandsFor new (b ++ piece)))
+    → limit new ≡ limit old → page_number new ≡ page_number old
+    → OnOk r ((fresh : TreeBuilder) (b : List ℕ) → HasBuilt fresh b old → HasBuilt fresh (b ++ piece) new)
+builds_on (Ok u) piece old new stands deep page = λ fresh b h.
+    record { built = stands b h.built; limit_is = deep ∙ h.limit_is; page_is = page ∙ h.page_is }
+builds_on (Err x) piece old new stands deep page = tt
+
+-- a piece was read, and it was taken
+pub read_on : (took took' : List ℕ → Type 0) (page left left' : Option (List ℕ)) (before s s' : Sums) (buf : List ℕ) (n : ℕ)
     → n ≤ length buf → IfSome left (λ rest. ReadsFrom rest buf n) → left' ≡ option_map (drop n) left
-    → ((b : List ℕ) → StandsFor t b → StandsFor t' (b ++ take n buf)) → s'.bytes ≡ s.bytes + n → s'.tags ≡ s.tags + tags_in (take n buf)
-    → HasFed page left t before s → HasFed page left' t' before s'
-read_on page left left' t t' before s s' buf n within piece next takes bytes tags h =
+    → ((b : List ℕ) → took b → took' (b ++ take n buf)) → s'.bytes ≡ s.bytes + n → s'.tags ≡ s.tags + tags_in (take n buf)
+    → HasFed took page left before s → HasFed took' page left' before s'
+read_on took took' page left left' before s s' buf n within piece next takes bytes tags h =
     let size : length (take n buf) ≡ n = length-take-le n buf within in
     let sum = length-append h.front (take n buf) in
     let more = tags-append h.front (take n buf) in
@@ -40,41 +50,22 @@ read_on page left left' t t' before s s' buf n within piece next takes bytes tag
     let had = h.tags in
     record {
       front = h.front ++ take n buf;
-      built = takes h.front h.built;
+      taken = takes h.front h.taken;
       bytes = let goal : s'.bytes ≡ before.bytes + length (h.front ++ take n buf) = omega arith in goal;
       tags = let goal : s'.tags ≡ before.tags + tags_in (h.front ++ take n buf) = omega arith in goal;
       told = told_on page left left' h.front buf n piece next h.told;
     }
 
--- nothing was read, which is so at the end alone
-pub read_end : (left left' : Option (List ℕ)) (buf : List ℕ) (n : ℕ) → n ≡ 0 → IfSome left (λ rest. ReadsFrom rest buf n) → left' ≡ option_map (drop n) left
-    → IfSome left' (λ rest. rest ≡ [])
-read_end None left' buf n none piece next = rw next tt
-read_end (Some rest) left' buf n none piece next = rw (next, none) (piece.end none)
-
--- nothing was read yet
-pub fed_nothing : (o left : Option (List ℕ)) (t : TreeBuilder) (s : Sums) → left ≡ o → StandsFor t [] → HasFed o left t s s
-fed_nothing o left t s at built =
-    record { front = []; built = built; bytes = sym (add-zero s.bytes); tags = sym (add-zero s.tags); told = told_nothing o left at }
-  where
-    told_nothing : (o left : Option (List ℕ)) → left ≡ o → IfSome o (λ b. (rest : List ℕ) × (b ≡ [] ++ rest) × (left ≡ Some rest))
-    told_nothing None left at = tt
-    told_nothing (Some b) left at = (b, refl, at)
-
-pub told_end : (page left : Option (List ℕ)) (front : List ℕ) → IfSome left (λ rest. rest ≡ [])
+told_end : (page left : Option (List ℕ)) (front : List ℕ) → IfSome left (λ rest. rest ≡ [])
     → IfSome page (λ b. (rest : List ℕ) × (b ≡ front ++ rest) × (left ≡ Some rest)) → IfSome page (λ b. left ≡ Some [])
 told_end None left front end t = tt
 told_end (Some b) left front end t =
     t.2 ∙ ap Some (subst (λ (l : Option (List ℕ)). IfSome l (λ rest. rest ≡ [])) t.2 end)
 
 -- all of it was read
-pub whole_at_end : (page left : Option (List ℕ)) (t : TreeBuilder) (before s most : Sums) → HasFed page left t before s → IfSome left (λ rest. rest ≡ [])
-    → IsWhole page left s most
-whole_at_end page left t before s most h end = λ within. told_end page left h.front end h.told
-
--- more was read than may be
-pub whole_over : (page left : Option (List ℕ)) (s most : Sums) → is_within s most ≡ false → IsWhole page left s most
-whole_over page left s most over = λ within. absurd cc
+pub whole_at_end : (took : List ℕ → Type 0) (page left : Option (List ℕ)) (before s most : Sums) → HasFed took page left before s
+    → IfSome left (λ rest. rest ≡ []) → IsWhole page left s most
+whole_at_end took page left before s most h end = λ within. told_end page left h.front end h.told
 
 pub held_bytes : (bytes tags : ℕ) → may_hold bytes tags ≡ true → bytes ≤ 134217728
 held_bytes bytes tags h = by (nat_le bytes 134217728) refl h
@@ -104,9 +95,9 @@ over_more s front rest b e (inl h) = let n : length b ≡ length front + length 
 over_more s front rest b e (inr h) = let n : tags_in b ≡ tags_in front + tags_in rest = ap (λ x. tags_in x) e ∙ tags-append front rest in inr (omega arith)
 
 -- what was read is over, and so is the page, where the source tells it
-pub page_over : (page left : Option (List ℕ)) (t : TreeBuilder) (before s : Sums) → HasFed page left t before s → may_hold s.bytes s.tags ≡ false
-    → OfPage page (λ b. Passes (before.bytes + length b) (before.tags + tags_in b))
-page_over page left t before s h over = by page h.told
+pub page_over : (took : List ℕ → Type 0) (page left : Option (List ℕ)) (before s : Sums) → HasFed took page left before s
+    → may_hold s.bytes s.tags ≡ false → OfPage page (λ b. Passes (before.bytes + length b) (before.tags + tags_in b))
+page_over took page left before s h over = by page h.told
   where
     passes : Passes (before.bytes + length h.front) (before.tags + tags_in h.front)
     passes = subst (λ k. Passes k (before.tags + tags_in h.front)) h.bytes (subst (λ k. Passes s.bytes k) h.tags (over_either s.bytes s.tags over))
@@ -116,10 +107,10 @@ page_over page left t before s h over = by page h.told
     by (Some b) told = (b, refl, over_more before h.front told.0 b told.1 passes)
 
 -- all of the page was read, and this is kept of it
-pub page_held : (page left : Option (List ℕ)) (t : TreeBuilder) (before s most : Sums) (k : Held) → HasFed page left t before s → IsWhole page left s most
-    → is_within s most ≡ true → ((b : List ℕ) → StandsFor t b → IsHeld k b)
+pub page_held : (took : List ℕ → Type 0) (page left : Option (List ℕ)) (before s most : Sums) (k : Held) → HasFed took page left before s
+    → IsWhole page left s most → is_within s most ≡ true → ((b : List ℕ) → took b → IsHeld k b)
     → OfPage page (λ b. IsHeld k b × (s.bytes ≡ before.bytes + length b) × (s.tags ≡ before.tags + tags_in b))
-page_held page left t before s most k h whole within held = (h.front, by page h.told (whole within), (held h.front h.built, h.bytes, h.tags))
+page_held took page left before s most k h whole within held = (h.front, by page h.told (whole within), (held h.front h.taken, h.bytes, h.tags))
   where
     by : (o : Option (List ℕ)) → IfSome o (λ b. (rest : List ℕ) × (b ≡ h.front ++ rest) × (left ≡ Some rest)) → IfSome o (λ b. left ≡ Some [])
         → IfSome o (λ b. b ≡ h.front)

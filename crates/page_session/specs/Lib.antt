@@ -8,3 +8,4 @@ pub mod Script
 pub mod Sessions
 pub mod Sources
 pub mod Steps
+pub mod Taking

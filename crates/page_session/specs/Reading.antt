@@ -1,8 +1,8 @@
 -- Reading a page piece by piece.
-use Rattle.std.specs.Prelude.{◌≡◌, ℕ, ◌+◌, ◌<◌, Bool, true, ◌&&◌, IsTrue, nat_le, List, [], ◌++◌, length, Option, Some, IfSome, Result, Ok, Err}
-use Rattle.page_tree.specs.Standing.{StandsFor}
-use Rattle.page_tree.specs.declared.builder.TreeBuilder.{TreeBuilder}
+use Rattle.std.specs.Prelude.{◌≡◌, ◌⊎◌, ℕ, ◌+◌, ◌<◌, Bool, true, ◌&&◌, IsTrue, nat_le, List, [], ◌∷◌, ◌++◌, length, Option, Some, IfSome, option_map, Result, Ok, Err, OnOk}
+use Rattle.ix_base.specs.Outside.{TellsAlso}
 use Rattle.targets.specs.Breaches.{tags_in}
+use Rattle.page_session.specs.Sources.{Source}
 use Rattle.page_session.specs.declared.reading.ReadError.{ReadError}
 use Rattle.page_session.specs.declared.reading.ReadError.TheVariants as read_error
 use Rattle.page_session.specs.declared.reading.Sums.{Sums}
@@ -23,19 +23,28 @@ HasReadCause before now (Err read_error.NoMemory) = now ≡ before
 abbrev pub is_within : Sums → Sums → Bool
 is_within sums most = nat_le sums.bytes most.bytes && nat_le sums.tags most.tags
 
--- where the source tells the page, this is a front of it, and the rest is left
-abbrev pub HasTaken : (page left : Option (List ℕ)) (front : List ℕ) → Type 0
-HasTaken page left front = IfSome page (λ b. (rest : List ℕ) × (b ≡ front ++ rest) × (left ≡ Some rest))
-
--- Of a page a front was read, which the builder was given and by which the sums grew. Where the source tells the page, it
--- is that page's front, and the rest is left.
-pub record HasFed (page left : Option (List ℕ)) (t : TreeBuilder) (before now : Sums) : Type 0 where
+-- Of a page a front was read, which was taken and by which the sums grew. Where the source tells the page, it is that page's
+-- front, and the rest is left.
+pub record HasFed (took : List ℕ → Type 0) (page left : Option (List ℕ)) (before now : Sums) : Type 0 where
   pub front : List ℕ
-  pub built : StandsFor t front
+  pub taken : took front
   pub bytes : now.bytes ≡ before.bytes + length front
   pub tags : now.tags ≡ before.tags + tags_in front
-  pub told : HasTaken page left front
+  pub told : IfSome page (λ b. (rest : List ℕ) × (b ≡ front ++ rest) × (left ≡ Some rest))
 
 -- That front is the whole page, unless a sum is above its number.
 abbrev pub IsWhole : Option (List ℕ) → Option (List ℕ) → (sums most : Sums) → Type 0
 IsWhole page left sums most = is_within sums most ≡ true → IfSome page (λ b. left ≡ Some [])
+
+-- What trying to read the page of this name leaves of a source: it was asked for, unless memory was wanted before, and it was begun
+-- where it was read.
+pub record Tries {X : Type 0} (name : List ℕ) (old new : Source) (Same : Type 0) (result : Result X ReadError) : Type 0 where
+  pub cause : HasReadCause old.faults new.faults result
+  pub failed : IsLastCall new.failed result
+  pub named : result ≡ Err read_error.Failed → IfSome new.asked (λ n. n ≡ name)
+  pub asked : Same ⊎ IfSome new.asked (λ n. n ≡ name)
+  pub starts : (new.starts ≡ old.starts) ⊎ (new.starts ≡ option_map (λ names. names ++ name ∷ []) old.starts)
+  pub started : OnOk result (new.starts ≡ option_map (λ names. names ++ name ∷ []) old.starts)
+  pub pages : new.page ≡ old.page
+  pub numbers : new.numbers ≡ old.numbers
+  pub told : OnOk result (TellsAlso old.page name)

@@ -21,6 +21,7 @@ mod root;
 mod script;
 mod script_reading;
 mod session;
+pub mod taking;
 
 pub use name::is_page_name;
 pub use put::PutFault;

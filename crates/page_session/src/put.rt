@@ -1,9 +1,10 @@
 //! Reading a page that is put.
-ghost use Rattle.std.specs.Prelude.{◌≡◌, ◌⊎◌, ◌<◌, ◌≤◌, ◌+◌, ◌^◌, ◌++◌, ◌∷◌, [], length, true, IsTrue, IfOk, OnOk, IfSome, Err, option_map};
-ghost use Rattle.ix_base.specs.Outside.{TellsAlso};
+ghost use Rattle.std.specs.Prelude.{◌≡◌, ◌<◌, ◌≤◌, ◌+◌, ◌^◌, length, true, IfOk, OnOk, IfSome, None};
 ghost use Rattle.targets.specs.Breaches.{tags_in};
 ghost use Rattle.page_session.specs.Limits.{may_hold, Passes};
-ghost use Rattle.page_session.specs.Sessions.{HasPutCause, IsHeld, OfPage};
+ghost use Rattle.page_session.specs.Reading.{Tries};
+ghost use Rattle.page_session.specs.Sessions.{IsHeld, OfPage};
+ghost use Rattle.page_session.specs.Sources.{source_told};
 
 use crate::kept::{Held, held_of};
 use crate::reading::{ReadError, Sums, buffer, read_page};
@@ -35,7 +36,7 @@ pub enum PutFault {
     NoMemory,
 }
 
-/// Reads the page of this number to its end, and adds to the sums.
+/// Reads the page of this number to its end, and adds to the sums. Nothing is held where these then pass their numbers.
 pub fn read_held<'a, P: PageSource>(
     alloc: Global,
     arena: &'a Bump,
@@ -43,43 +44,30 @@ pub fn read_held<'a, P: PageSource>(
     name: &str,
     number: u32,
     sums: &mut Sums,
-) -> Result<Held<'a>, PutFault>
+) -> Result<Option<Held<'a>>, ReadError>
     requires count { P.faults pages.old + 1 < 2 ^ 64 }
     requires name { length name.now ≤ 4096 }
     requires most { may_hold sums.old.bytes sums.old.tags ≡ true }
     requires tags { sums.old.tags ≤ sums.old.bytes }
-    ensures held { IfOk result (λ h. OfPage (P.page pages.old name.now) (λ b. IsHeld h b
-        × (sums.new.bytes ≡ sums.old.bytes + length b) × (sums.new.tags ≡ sums.old.tags + tags_in b))) }
-    ensures within { OnOk result (may_hold sums.new.bytes sums.new.tags ≡ true) }
+    ensures held { IfOk result (λ held. IfSome held (λ h. OfPage (P.page pages.old name.now) (λ b. IsHeld h b
+        × (sums.new.bytes ≡ sums.old.bytes + length b) × (sums.new.tags ≡ sums.old.tags + tags_in b)))) }
+    ensures within { IfOk result (λ held. IfSome held (λ h. may_hold sums.new.bytes sums.new.tags ≡ true)) }
     ensures tags { OnOk result (sums.new.tags ≤ sums.new.bytes) }
-    ensures few { ¬ (result ≡ Err PutFault.TooMany) }
-    ensures spent { result ≡ Err PutFault.Spent
-        → OfPage (P.page pages.old name.now) (λ b. Passes (sums.old.bytes + length b) (sums.old.tags + tags_in b)) }
-    ensures asked { (pages.new ≡ pages.old) ⊎ IfSome (P.asked pages.new) (λ n. n ≡ name.now) }
-    ensures named { result ≡ Err PutFault.ReadFault → IfSome (P.asked pages.new) (λ n. n ≡ name.now) }
-    ensures starts { (P.starts pages.new ≡ P.starts pages.old)
-        ⊎ (P.starts pages.new ≡ option_map (λ names. names ++ name.now ∷ []) (P.starts pages.old)) }
-    ensures pages { P.page pages.new ≡ P.page pages.old }
-    ensures cause { HasPutCause (P.faults pages.old) (P.faults pages.new) result }
-    ensures failed { result ≡ Err PutFault.ReadFault → IsTrue (P.last_failed pages.new) }
-    ensures numbers { P.numbers pages.new ≡ P.numbers pages.old }
-    ensures told { OnOk result (TellsAlso (P.page pages.old) name.now) }
-    ensures told_spent { result ≡ Err PutFault.Spent → TellsAlso (P.page pages.old) name.now }
+    ensures spent { IfOk result (λ held. held ≡ None
+        → OfPage (P.page pages.old name.now) (λ b. Passes (sums.old.bytes + length b) (sums.old.tags + tags_in b))) }
+    ensures tries { Tries name.now (source_told P.PageSource pages.old) (source_told P.PageSource pages.new)
+        (pages.new ≡ pages.old) result }
 {
     let Ok(mut buffer) = buffer(alloc) else {
-        return Err(PutFault::NoMemory);
+        return Err(ReadError::NoMemory);
     };
     let mut builder = TreeBuilder::new(alloc, arena, number, DEPTH);
-    match read_page(pages, name, buffer.as_mut_slice(), &mut builder, sums, MOST) {
-        Ok(()) => {}
-        Err(ReadError::Failed) => return Err(PutFault::ReadFault),
-        Err(ReadError::NoMemory) => return Err(PutFault::NoMemory),
-    }
+    read_page(pages, name, buffer.as_mut_slice(), &mut builder, sums, MOST)?;
     if !sums.is_within(MOST) {
-        return Err(PutFault::Spent);
+        return Ok(None);
     }
     match held_of(builder, number) {
-        Ok(held) => Ok(held),
-        Err(_) => Err(PutFault::NoMemory),
+        Ok(held) => Ok(Some(held)),
+        Err(_) => Err(ReadError::NoMemory),
     }
 }

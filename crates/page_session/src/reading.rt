@@ -1,14 +1,13 @@
-//! Reading a page into a builder of its tree, until sums of what was read pass their numbers.
+//! Reading a page, until sums of what was read pass their numbers.
 ghost use Rattle.std.specs.Prelude.{◌≡◌, ◌+◌, ◌^◌, ◌<◌, ◌≤◌, ◌++◌, ◌∷◌, [], ℕ, List, Option, length, vec_len, true, false};
 ghost use Rattle.std.specs.Prelude.{IsTrue, IfOk, IfSome, OnOk, option_map};
 ghost use Rattle.ix_base.specs.Outside.{TellsAlso};
-ghost use Rattle.page_tree.specs.Standing.{StandsFor, fed_bytes, limit, page_number};
 ghost use Rattle.targets.specs.Breaches.{tags_in};
 ghost use Rattle.page_session.specs.Reading.{HasFed, HasReadCause, IsLastCall, IsWhole, is_within};
 ghost use Rattle.page_session.specs.declared.reading.Sums.{Sums as SumsOf};
 
+use crate::taking::PageTaker;
 use ix_base::PageSource;
-use page_tree::TreeBuilder;
 use std::alloc::{AllocError, Global};
 use thiserror::Error;
 
@@ -41,7 +40,7 @@ impl Sums {
 const BUFFER: usize = 65_536;
 
 /// Room for what a read gives.
-pub(crate) fn buffer(alloc: Global) -> Result<Vec<u8>, AllocError>
+pub fn buffer(alloc: Global) -> Result<Vec<u8>, AllocError>
     ensures { IfOk result (λ v. vec_len v ≡ 65536) }
 {
     vec![in alloc; 0u8; BUFFER]
@@ -55,28 +54,26 @@ pub fn count_tags(piece: &[u8]) -> u64
     piece.iter().filter(|b| **b == b'<').count() as u64
 }
 
-/// Reads a piece, gives it to the builder and adds to the sums. It answers whether there was any.
-fn read_piece<P: PageSource>(
+/// Reads a piece, has it taken and adds to the sums. It answers whether there was any.
+fn read_piece<P: PageSource, T: PageTaker>(
     pages: &mut P,
     buffer: &mut [u8],
-    builder: &mut TreeBuilder<'_>,
+    taker: &mut T,
     sums: &mut Sums,
 ) -> Result<bool, ReadError>
     requires count { P.faults pages.old + 1 < 2 ^ 64 }
     requires started { IsTrue (P.started pages.old) }
     requires room { 0 < length buffer.old }
-    requires fed { fed_bytes builder.old ≤ sums.old.bytes }
+    requires took { (fresh : T) × ((b : List ℕ) × T.took fresh b taker.old × (length b ≤ sums.old.bytes)) }
     requires tags { sums.old.tags ≤ sums.old.bytes }
     requires most { sums.old.bytes + length buffer.old < 2 ^ 64 }
-    ensures reads { OnOk result ((page : Option (List ℕ)) (before : SumsOf) → HasFed page (P.left pages.old) builder.old before sums.old
-        → HasFed page (P.left pages.new) builder.new before sums.new) }
+    ensures reads { OnOk result ((fresh : T) (page : Option (List ℕ)) (before : SumsOf)
+        → HasFed (λ b. T.took fresh b taker.old) page (P.left pages.old) before sums.old
+        → HasFed (λ b. T.took fresh b taker.new) page (P.left pages.new) before sums.new) }
     ensures end { IfOk result (λ more. more ≡ false → IfSome (P.left pages.new) (λ rest. rest ≡ [])) }
     ensures grows { IfOk result (λ more. more ≡ true → sums.old.bytes < sums.new.bytes) }
     ensures most { OnOk result (sums.new.bytes ≤ sums.old.bytes + length buffer.old) }
-    ensures fed { OnOk result (fed_bytes builder.new ≤ sums.new.bytes) }
     ensures tags { OnOk result (sums.new.tags ≤ sums.new.bytes) }
-    ensures limit { OnOk result (limit builder.new ≡ limit builder.old) }
-    ensures page { OnOk result (page_number builder.new ≡ page_number builder.old) }
     ensures started { OnOk result (P.started pages.new ≡ P.started pages.old) }
     ensures asked { P.asked pages.new ≡ P.asked pages.old }
     ensures starts { P.starts pages.new ≡ P.starts pages.old }
@@ -90,7 +87,7 @@ fn read_piece<P: PageSource>(
         Err(_) => return Err(ReadError::Failed),
     };
     let piece = &buffer[..n];
-    let Ok(()) = builder.feed(piece) else {
+    let Ok(()) = taker.take(piece) else {
         return Err(ReadError::NoMemory);
     };
     sums.bytes += n as u64;
@@ -98,29 +95,27 @@ fn read_piece<P: PageSource>(
     Ok(n > 0)
 }
 
-/// Reads a page into a builder that was given nothing, and adds to the sums. It stops once one of these is above its number.
-pub fn read_page<P: PageSource>(
+/// Reads a page, has it taken by what had taken nothing, and adds to the sums. It stops once one of these is above its number.
+pub fn read_page<P: PageSource, T: PageTaker>(
     pages: &mut P,
     name: &str,
     buffer: &mut [u8],
-    builder: &mut TreeBuilder<'_>,
+    taker: &mut T,
     sums: &mut Sums,
     most: Sums,
 ) -> Result<(), ReadError>
     requires count { P.faults pages.old + 1 < 2 ^ 64 }
     requires name { length name.now ≤ 4096 }
     requires room { length buffer.old ≡ 65536 }
-    requires fresh { StandsFor builder.old [] }
-    requires fed { fed_bytes builder.old ≡ 0 }
+    requires fresh { T.took taker.old [] taker.old }
     requires least { sums.old.bytes ≤ most.bytes }
     requires fits { most.bytes + 65536 < 2 ^ 64 }
     requires tags { sums.old.tags ≤ sums.old.bytes }
-    ensures reads { OnOk result (HasFed (P.page pages.old name.now) (P.left pages.new) builder.new sums.old sums.new) }
+    ensures reads { OnOk result (HasFed (λ b. T.took taker.old b taker.new) (P.page pages.old name.now) (P.left pages.new)
+        sums.old sums.new) }
     ensures whole { OnOk result (IsWhole (P.page pages.old name.now) (P.left pages.new) sums.new most) }
     ensures most { OnOk result (sums.new.bytes ≤ most.bytes + 65536) }
     ensures tags { OnOk result (sums.new.tags ≤ sums.new.bytes) }
-    ensures limit { OnOk result (limit builder.new ≡ limit builder.old) }
-    ensures page { OnOk result (page_number builder.new ≡ page_number builder.old) }
     ensures named { IfSome (P.asked pages.new) (λ n. n ≡ name.now) }
     ensures starts { P.starts pages.new ≡ option_map (λ names. names ++ name.now ∷ []) (P.starts pages.old) }
     ensures pages { P.page pages.new ≡ P.page pages.old }
@@ -133,7 +128,7 @@ pub fn read_page<P: PageSource>(
         return Err(ReadError::Failed);
     }
     while sums.is_within(most) {
-        if !read_piece(pages, buffer, builder, sums)? {
+        if !read_piece(pages, buffer, taker, sums)? {
             break;
         }
     }

@@ -5,7 +5,7 @@ ghost use Rattle.page_session.specs.Limits.{may_hold};
 use crate::answer::outcome_of;
 use crate::kept::{Kept, keep, place_in};
 use crate::put::{PutFault, read_held};
-use crate::reading::Sums;
+use crate::reading::{ReadError, Sums};
 use bumpalo::Bump;
 use ix_base::{NoMemory, PageSource, Text};
 use std::alloc::Global;
@@ -71,6 +71,9 @@ impl<'a> Session<'a> {
         ensures asked { (pages.new ≡ pages.old) ⊎ IfSome (P.asked pages.new) (λ n. n ≡ name.now) }
         ensures starts { (P.starts pages.new ≡ P.starts pages.old)
             ⊎ (P.starts pages.new ≡ option_map (λ names. names ++ name.now ∷ []) (P.starts pages.old)) }
+        ensures started { OnOk result (P.starts pages.new ≡ option_map (λ names. names ++ name.now ∷ []) (P.starts pages.old)) }
+        ensures started_spent { result ≡ Err PutFault.Spent
+            → P.starts pages.new ≡ option_map (λ names. names ++ name.now ∷ []) (P.starts pages.old) }
         ensures pages { P.page pages.new ≡ P.page pages.old }
         ensures numbers { P.numbers pages.new ≡ P.numbers pages.old }
         ensures told { OnOk result (TellsAlso (P.page pages.old) name.now) }
@@ -81,7 +84,12 @@ impl<'a> Session<'a> {
             return Err(PutFault::TooMany);
         }
         let mut sums = self.sums;
-        let held = read_held(self.alloc, self.arena, pages, name, at as u32, &mut sums)?;
+        let held = match read_held(self.alloc, self.arena, pages, name, at as u32, &mut sums) {
+            Ok(Some(held)) => held,
+            Ok(None) => return Err(PutFault::Spent),
+            Err(ReadError::Failed) => return Err(PutFault::ReadFault),
+            Err(ReadError::NoMemory) => return Err(PutFault::NoMemory),
+        };
         match keep(self.alloc, &mut self.kept, at, name, held) {
             Ok(()) => {}
             Err(_) => return Err(PutFault::NoMemory),

@@ -22,6 +22,10 @@ pub(crate) fn command_text(alloc: Global, words: &[Text]) -> Result<String> {
             write!(text, "trace|{}", base.as_str())?;
             push_pages(pages.as_slice(), &mut text)?;
         }
+        Some(Command::Session(base, dir, script)) => {
+            let (base, dir) = (base.as_str(), dir.as_str());
+            write!(text, "session|{base}|{dir}|{}", script.as_str())?
+        }
         None => text.push_str("none")?,
     }
     Ok(text)

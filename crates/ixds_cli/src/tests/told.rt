@@ -89,7 +89,7 @@ fn a_person_is_told_what_failed(rt: HostRuntime) -> Result<(), Fail> {
 #[test]
 fn a_person_is_told_which_word_is_wrong(rt: HostRuntime) -> Result<(), Fail> {
     let alloc = rt.alloc();
-    let rows: [(&str, Option<&str>); 23] = [
+    let rows: [(&str, Option<&str>); 29] = [
         ("check --base http://a/ a", None),
         ("sample 3", None),
         ("", Some(" is no command")),
@@ -137,6 +137,21 @@ fn a_person_is_told_which_word_is_wrong(rt: HostRuntime) -> Result<(), Fail> {
         ("plain", Some("plain takes one page, and no options")),
         ("plain a b", Some("plain takes one page, and no options")),
         ("plain a\u{1b}", Some("no page can be named a?")),
+        ("session --base http://e/ --out d s", None),
+        ("session --base http://e/ s", Some("--out is missing")),
+        ("session --out d s", Some("--base is missing")),
+        (
+            "session --base http://e/ --out d",
+            Some("session takes one script"),
+        ),
+        (
+            "session --base http://e/ --out d s t",
+            Some("session takes one script"),
+        ),
+        (
+            "session --base http://e/ --out d s\u{1b}",
+            Some("no script can be named s?"),
+        ),
     ];
     for (line, due) in rows {
         let mut words = Vec::new(alloc);

@@ -1,33 +1,19 @@
 //! Which words name pages.
-ghost use Rattle.std.specs.Prelude.{◌≡◌, bytes_eq, ◌≤◌, IsTrue, All, length};
+ghost use Rattle.std.specs.Prelude.{◌≡◌, bytes_eq};
 ghost use Rattle.std.specs.List.{list_any, list_all};
-ghost use Rattle.ixds_run.specs.Names.{are_pages, has_repeat, may_stand_in_name, is_page_name};
+ghost use Rattle.page_session.specs.Names.{has_repeat, is_page_name as is_name};
+ghost use Rattle.ixds_run.specs.Names.{are_pages};
 
 use ix_base::Text;
+use page_session::is_page_name;
 
 /// The most pages.
 const MOST_PAGES: usize = 64;
 
-/// The longest name of a page, in bytes.
-const LONGEST_NAME: usize = 4096;
-
-fn all_may_stand(name: &[u8]) -> bool
-    ensures { result ≡ list_all may_stand_in_name name.now }
-{
-    name.iter().all(|b| *b >= 32 && *b != 127)
-}
-
-fn is_page_name(name: &Text) -> bool
-    ensures { result ≡ is_page_name name.now }
-{
-    let bytes = name.as_str().as_bytes();
-    !bytes.is_empty() && bytes.len() <= LONGEST_NAME && all_may_stand(bytes)
-}
-
 fn are_page_names(names: &[Text]) -> bool
-    ensures { result ≡ list_all is_page_name names.now }
+    ensures { result ≡ list_all is_name names.now }
 {
-    names.iter().all(|name| is_page_name(name))
+    names.iter().all(|name| is_page_name(name.as_str()))
 }
 
 fn is_equal(a: &Text, b: &Text) -> bool
@@ -43,7 +29,7 @@ fn is_among(name: &Text, names: &[Text]) -> bool
 }
 
 /// Whether a name stands twice.
-#[tactic(auto, unfolding(crate::specs::Names::has_repeat))]
+#[tactic(auto, unfolding(page_session::specs::Names::has_repeat))]
 fn has_repeat(names: &[Text]) -> bool
     ensures { result ≡ has_repeat names.now }
 {

@@ -1,7 +1,7 @@
-//! The simple commands that read the words after `extract`, `check` and `trace`.
+//! The simple commands that read the words after `extract`, `check`, `trace` and `session`.
 ghost use Rattle.std.specs.Prelude.{◌≡◌, IfOk, false, true, option_map};
 ghost use Rattle.clap.specs.Words.{app_of, rule_of, is_simple_and_free};
-ghost use Rattle.ixds_run.specs.Simple.{check_app, extract_app, option_rule, page_rule, rows_of_matches, rows_taken, trace_app};
+ghost use Rattle.ixds_run.specs.Simple.{check_app, extract_app, option_rule, page_rule, rows_of_matches, rows_taken, script_rule, session_app, trace_app};
 
 use clap::error::ErrorKind;
 use clap::{Arg, ArgMatches, Command};
@@ -22,6 +22,14 @@ fn page_argument<'a>(alloc: Global) -> Arg<'a>
     ensures local { result.global ≡ false }
 {
     Arg::new(alloc, "PAGE").num_args(1..).required(true)
+}
+
+/// The script: one positional with one value.
+fn script_argument<'a>(alloc: Global) -> Arg<'a>
+    ensures rule { rule_of result ≡ script_rule }
+    ensures local { result.global ≡ false }
+{
+    Arg::new(alloc, "SCRIPT").num_args(1..=1).required(true)
 }
 
 /// What reads the words from `extract` on.
@@ -52,6 +60,17 @@ pub fn trace_words<'a>(alloc: Global) -> Result<Command<'a>, NoMemory>
     let command = Command::new(alloc, "trace")
         .arg(option(alloc, "base"))?
         .arg(page_argument(alloc))?;
+    Ok(command)
+}
+
+/// What reads the words from `session` on.
+pub fn session_words<'a>(alloc: Global) -> Result<Command<'a>, NoMemory>
+    ensures { IfOk result (λ c. app_of c ≡ session_app) }
+{
+    let command = Command::new(alloc, "session")
+        .arg(option(alloc, "base"))?
+        .arg(option(alloc, "out"))?
+        .arg(script_argument(alloc))?;
     Ok(command)
 }
 

@@ -13,17 +13,19 @@ use Rattle.ixds_run.proofs.extract.extract.Goals as goal
 
 pub returns-in-Err-NoMemory : goal.returns-in-Err-NoMemory
 returns-in-Err-NoMemory g c =
-    let read = c.in-Err-NoMemory.ensures in
+    let gathered = c.in-Err-NoMemory.ensures.gathered in
+    let read = gathered.asks in
     let faults = rw c.in-Err-NoMemory.field-0-is at read.stopped in
-    memory_answer _ _ _ _ _ _ refl refl read.pages faults (read.numbers, refl, refl) read.sample read.starts read.asked
+    memory_answer _ _ _ _ _ _ refl refl read.pages faults (read.numbers, refl, refl) gathered.sample read.starts read.asked
 
 pub returns-in-Err-Failed : goal.returns-in-Err-Failed
 returns-in-Err-Failed g c =
-    let read = c.in-Err-Failed.ensures in
+    let gathered = c.in-Err-Failed.ensures.gathered in
+    let read = gathered.asks in
     let stopped = rw c.in-Err-Failed.field-0-is at read.stopped in
     let put = c.put_read_fault.ensures in
     let line = c.as_slice.ensures.value ∙ stopped.1.2 in
-    fault_answer c.args.command.now _ _ _ _ _ c.put_read_fault.result stopped.1.0 refl read.pages read.sample stopped.0 refl
+    fault_answer c.args.command.now _ _ _ _ _ c.put_read_fault.result stopped.1.0 refl read.pages gathered.sample stopped.0 refl
     stopped.1.1 stopped.1.3 (read.numbers, refl, put.numbers) read.starts put.either
     (λ e. subst (λ (t : List ℕ). GainsText t (g.T.TextSink.taken c.args.out.now) (g.T.TextSink.taken c.put_read_fault.new.out)) line (put.read e))
     put.quiet put.cause put.last
@@ -40,7 +42,8 @@ returns-in-Ok g c =
     let ts' = g.S.TargetSink.targets c.deliver.new.sink in
     let xs = g.T.TextSink.taken c.args.out.now in
     let xs' = g.T.TextSink.taken c.deliver.new.out in
-    let read = c.in-Ok.ensures in
+    let ready = c.in-Ok.ensures in
+    let read = ready.gathered.asks in
     let same = read.ok in
     let put = c.deliver.ensures in
     let whole : (x : Status) → s ≡ x → (x ≡ WriteFault → ⊥) → s ≡ status_of due.is_broken
@@ -54,7 +57,7 @@ returns-in-Ok g c =
       sym (whole x e other) ∙ e,
       targets (dir_of command) c.dir.ensures (whole x e other),
       put.text (whole x e other),
-    )) read.due in
+    )) ready.due in
     let quiet : (x : Status) → s ≡ x → (x ≡ WriteFault → ⊥) → (g.S.TargetSink.faults c.deliver.new.sink ≡ g.S.TargetSink.faults c.args.sink.now)
     × (g.T.TextSink.faults c.deliver.new.out ≡ g.T.TextSink.faults c.args.out.now)
     = λ x e other. put.quiet (whole x e other) in
@@ -68,10 +71,10 @@ returns-in-Ok g c =
           (λ e. gives Done e (λ z. cc)) (λ e. gives Broken e (λ z. cc)) put.cause (λ e. absurd (no_want due.is_broken s put.either e));
       done = λ e. gives Done e (λ z. cc);
       broken = λ e. gives Broken e (λ z. cc);
-      broken_targets = λ e. put.none (read.none (broken_status due.is_broken (sym (whole Broken e (λ z. cc)) ∙ e)));
-      broken_pages = told_of all (of_some all (λ bs d breach. put.none (d.none breach)) read.due);
+      broken_targets = λ e. put.none (ready.none (broken_status due.is_broken (sym (whole Broken e (λ z. cc)) ∙ e)));
+      broken_pages = told_of all (of_some all (λ bs d breach. put.none (d.none breach)) ready.due);
       check = λ e. put.no_dir (dir_none c.dir.result (c.dir.ensures ∙ e));
-      sample = read.sample;
+      sample = ready.gathered.sample;
       usage = λ e. absurd (no_usage due.is_broken s put.either e);
       usage_exactly = λ e. cc;
       read_fault = λ e. absurd (no_read_fault due.is_broken s put.either e);
@@ -85,14 +88,14 @@ returns-in-Ok g c =
           d.outcome,
           subst (λ (k : Option (List ℕ)). GainsPart (targets_due k due) ts ts'
               (record { told = g.S.TargetSink.asked c.deliver.new.sink; len = g.S.TargetSink.asked_len c.deliver.new.sink })) c.dir.ensures (put.part e rose).1,
-        )) read.due,
+        )) ready.due,
       );
       write_fault_text = λ e level pages. of_some all (λ bs d. (
         outcome_of (dir_of command) due,
         d.outcome,
         subst (λ (k : Option (List ℕ)). GainsAll (targets_due k due) ts ts') c.dir.ensures (put.all e level).0,
         (put.all e level).1,
-      )) read.due;
+      )) ready.due;
       write_fault_line = λ e rose. absurd (omega (arith, same));
       write_fault_usage = λ e f. cc;
       no_memory = λ e. absurd (no_want due.is_broken s put.either e);
@@ -102,7 +105,7 @@ returns-in-Ok g c =
       same_pages = read.pages;
       page_count = omega (arith, same);
       same_numbers = (read.numbers, put.numbers.0, put.numbers.1);
-      stops = λ e. read.stops;
+      stops = λ e. ready.gathered.stops;
       quiet_done = λ e. (same, (quiet Done e (λ z. cc)).0, (quiet Done e (λ z. cc)).1);
       quiet_broken = λ e. (same, (quiet Broken e (λ z. cc)).0, (quiet Broken e (λ z. cc)).1);
       quiet_text = λ e. absurd (elim e [ inl x ↦ no_usage due.is_broken s put.either x | inr x ↦ no_read_fault due.is_broken s put.either x ]);

@@ -2,7 +2,7 @@ use Rattle.std.proofs.Common.{◌≡◌, ◌∙◌, ◌+◌, ◌≤◌, ◌<◌,
 use Rattle.std.proofs.Math.ListN.{drop_of_length-le}
 use Rattle.ix_base.specs.Outside.{TellsAlso}
 use Rattle.ixds_run.specs.Reading.{HasReadSome, ReadsOn}
-use Rattle.ixds_run.proofs.ForestLaws.{asked_on, next_of, next_among, over_is_sound, names_over, next_started, none_started, one_started, read_none, read_more, some_is_sound, some_over, some_read, last_among, last_is, stops_at_end}
+use Rattle.ixds_run.proofs.ForestLaws.{asked_on, next_of, next_among, next_stopped, over_is_sound, names_over, next_started, none_started, one_started, read_none, read_more, some_is_sound, some_over, some_read, last_among, last_is, stops_at_end}
 use Rattle.ixds_run.proofs.forest.read_all.Goals as goal
 
 pub loop-number-init : goal.loop-number-init
@@ -77,15 +77,22 @@ returns-then-forest-gt-MOST_BYTES-clause-stops g c =
       inr (names_over page names name (drop (n + 1) names) n _ _ _ c.if-forest-gt-MOST_BYTES.true on h),
     )
 
-pub returns-then-forest-gt-MOST_BYTES-clause-asked : goal.returns-then-forest-gt-MOST_BYTES-clause-asked
-returns-then-forest-gt-MOST_BYTES-clause-asked g c =
+pub returns-then-forest-gt-MOST_BYTES-clause-asks : goal.returns-then-forest-gt-MOST_BYTES-clause-asks
+returns-then-forest-gt-MOST_BYTES-clause-asks g c =
     let page : List ℕ → Option (List ℕ) = g.P.PageSource.page c.args.pages.now in
     let names = c.args.names.now in
     let n = c.loop-number.number in
     let name = c.index-names-number.result in
     let within : n < length names = omega arith in
     let h = subst (λ (r : List (List ℕ)). HasReadSome page names r n c.loop-number.forest) (next_of names n name within c.index-names-number.is) c.loop-number.invariant.read in
-    inr (name, next_among page names name (drop (n + 1) names) n _ _ c.loop-number.invariant.most c.in_ok-read_next.ensures.named h)
+    record {
+      ok = c.in_ok-read_next.ensures.ok ∙ c.loop-number.invariant.faults;
+      stopped = tt;
+      asked = inr (name, next_among page names name (drop (n + 1) names) n _ _ c.loop-number.invariant.most c.in_ok-read_next.ensures.named h);
+      starts = (n + 1, one_started _ _ name _ _ _ within c.index-names-number.is c.loop-number.invariant.starts c.in_ok-read_next.ensures.started);
+      pages = c.in_ok-read_next.ensures.pages ∙ c.loop-number.invariant.page;
+      numbers = c.in_ok-read_next.ensures.numbers ∙ c.loop-number.invariant.numbers;
+    }
 
 pub returns-clause-reads : goal.returns-clause-reads
 returns-clause-reads g c =
@@ -105,36 +112,36 @@ returns-clause-stops g c =
     let some = c.requires.some in
     stops_at_end _ names (drop c.loop-number.number names) _ _ c.loop-number.number (omega arith) (drop_of_length-le names past) c.loop-number.invariant.stops
 
-pub returns-clause-asked : goal.returns-clause-asked
-returns-clause-asked g c =
-    elim c.loop-number.invariant.stops [ inl none ↦ inl (c.loop-number.invariant.same none) | inr last ↦ inr (last_among _ _ _ _ _ last) ]
+pub returns-clause-asks : goal.returns-clause-asks
+returns-clause-asks g c = record {
+  ok = c.loop-number.invariant.faults;
+  stopped = tt;
+  asked = elim c.loop-number.invariant.stops [ inl none ↦ inl (c.loop-number.invariant.same none) | inr last ↦ inr (last_among _ _ _ _ _ last) ];
+  starts = (c.loop-number.number, c.loop-number.invariant.starts);
+  pages = c.loop-number.invariant.page;
+  numbers = c.loop-number.invariant.numbers;
+}
 
-pub returns-in_err-read_next-clause-asked : goal.returns-in_err-read_next-clause-asked
-returns-in_err-read_next-clause-asked g c =
+pub returns-in_err-read_next-clause-asks : goal.returns-in_err-read_next-clause-asks
+returns-in_err-read_next-clause-asks g c =
     let page : List ℕ → Option (List ℕ) = g.P.PageSource.page c.args.pages.now in
     let names = c.args.names.now in
     let n = c.loop-number.number in
     let name = c.index-names-number.result in
     let within : n < length names = omega arith in
     let h = subst (λ (r : List (List ℕ)). HasReadSome page names r n c.loop-number.forest) (next_of names n name within c.index-names-number.is) c.loop-number.invariant.read in
-    asked_on _ g.P.PageSource.asked page names name (drop n names) (drop (n + 1) names) n _ c.loop-number.pages c.args.pages.now c.read_next.new.pages _
-    c.loop-number.invariant.most c.loop-number.invariant.same c.loop-number.invariant.stops h c.in_err-read_next.ensures.asked
+    let why = next_stopped page names name (drop (n + 1) names) n _ c.loop-number.forest _ _ _ _ _ c.loop-number.invariant.most c.loop-number.invariant.faults h
+    c.in_err-read_next.ensures.stopped in
+    record {
+      ok = search rules;
+      stopped = search rules;
+      asked = asked_on _ g.P.PageSource.asked page names name (drop n names) (drop (n + 1) names) n _ c.loop-number.pages c.args.pages.now c.read_next.new.pages _
+          c.loop-number.invariant.most c.loop-number.invariant.same c.loop-number.invariant.stops h c.in_err-read_next.ensures.asked;
+      starts = next_started _ _ name _ _ _ within c.index-names-number.is c.loop-number.invariant.starts c.in_err-read_next.ensures.starts;
+      pages = c.in_err-read_next.ensures.pages ∙ c.loop-number.invariant.page;
+      numbers = c.in_err-read_next.ensures.numbers ∙ c.loop-number.invariant.numbers;
+    }
 
-pub returns-in_default-clause-starts : goal.returns-in_default-clause-starts
-returns-in_default-clause-starts g c = (0, none_started _)
-
-pub returns-then-forest-gt-MOST_BYTES-clause-starts : goal.returns-then-forest-gt-MOST_BYTES-clause-starts
-returns-then-forest-gt-MOST_BYTES-clause-starts g c =
-    let within : c.loop-number.number < length c.args.names.now = omega arith in (
-      c.loop-number.number + 1,
-      one_started _ _ c.index-names-number.result _ _ _ within c.index-names-number.is
-          c.loop-number.invariant.starts c.in_ok-read_next.ensures.started,
-    )
-
-pub returns-clause-starts : goal.returns-clause-starts
-returns-clause-starts g c = (c.loop-number.number, c.loop-number.invariant.starts)
-
-pub returns-in_err-read_next-clause-starts : goal.returns-in_err-read_next-clause-starts
-returns-in_err-read_next-clause-starts g c =
-    let within : c.loop-number.number < length c.args.names.now = omega arith in
-    next_started _ _ c.index-names-number.result _ _ _ within c.index-names-number.is c.loop-number.invariant.starts c.in_err-read_next.ensures.starts
+pub returns-in_default-clause-asks : goal.returns-in_default-clause-asks
+returns-in_default-clause-asks g c =
+    record { ok = tt; stopped = refl; asked = inl refl; starts = (0, none_started _); pages = refl; numbers = refl }

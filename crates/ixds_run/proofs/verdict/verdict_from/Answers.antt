@@ -1,34 +1,24 @@
-use Rattle.std.proofs.Common.{◌∙◌}
-use Rattle.ixds_run.specs.declared.command.Command.TheVariants.{Extract, Check, Sample, Plain, Trace}
-use Rattle.ixds_run.proofs.VerdictLaws.{based, made_by, traced_by}
+use Rattle.std.proofs.Common.{◌∙◌, Ok}
+use Rattle.ixds_run.specs.Verdicts.{IsOfSet, IsShown, IsTraced}
+use Rattle.ixds_run.proofs.VerdictLaws.{made_by, set_by, shown_by, traced_by}
 use Rattle.ixds_run.proofs.verdict.verdict_from.Goals as goal
 
-pub returns-in-Extract-clause-makes : goal.returns-in-Extract-clause-makes
-returns-in-Extract-clause-makes c =
-    made_by c.args.command.now (Extract c.in-Extract.base c.in-Extract.field-1 c.in-Extract.field-2) c.as_slice-names.result.now c.args.forest c.of_set.result
-    c.in-Extract.is (c.as_slice-names.ensures.value ∙ c.in_ok-names.ensures)
-    (based c.as_str.result.now c.in-Extract.base c.as_slice-names.result.now c.args.forest c.of_set.result c.as_str.ensures c.of_set.ensures.makes)
+pub returns-in_default-clause-makes : goal.returns-in_default-clause-makes
+returns-in_default-clause-makes c =
+    made_by c.args.command.now c.as_slice-names.result.now c.args.forest (IsShown c.as_slice-names.result.now) c.shown.result
+    (c.as_slice-names.ensures.value ∙ c.in_ok-names.ensures) (λ bs v h. shown_by c.args.command.now _ bs v c.in_default.ensures h) c.shown.ensures.shown
 
-pub returns-in-Check-clause-makes : goal.returns-in-Check-clause-makes
-returns-in-Check-clause-makes c =
-    made_by c.args.command.now (Check c.in-Check.base c.in-Check.field-1) c.as_slice-names.result.now c.args.forest c.of_set-in-Check.result
-    c.in-Check.is (c.as_slice-names.ensures.value ∙ c.in_ok-names.ensures)
-    (based c.as_str-in-Check.result.now c.in-Check.base c.as_slice-names.result.now c.args.forest c.of_set-in-Check.result c.as_str-in-Check.ensures
-    c.of_set-in-Check.ensures.makes)
+pub returns-in-Trace-clause-makes : goal.returns-in-Trace-clause-makes
+returns-in-Trace-clause-makes c =
+    made_by c.args.command.now c.as_slice-names.result.now c.args.forest (IsTraced c.in-Some.base.now c.as_slice-names.result.now) c.traced.result
+    (c.as_slice-names.ensures.value ∙ c.in_ok-names.ensures)
+    (λ bs v h. traced_by c.args.command.now _ _ c.in-Some.base.now _ bs v c.in-Trace.is c.in-Some.ensures h) c.traced.ensures.makes
 
-pub returns-in-Sample-clause-makes : goal.returns-in-Sample-clause-makes
-returns-in-Sample-clause-makes c =
-    made_by c.args.command.now (Sample c.in-Sample.field-0) c.as_slice-names.result.now c.args.forest c.of_set-in-Sample.result
-    c.in-Sample.is (c.as_slice-names.ensures.value ∙ c.in_ok-names.ensures) c.of_set-in-Sample.ensures.makes
-
-pub returns-in-Plain-clause-makes : goal.returns-in-Plain-clause-makes
-returns-in-Plain-clause-makes c =
-    made_by c.args.command.now (Plain c.in-Plain.field-0) c.as_slice-names.result.now c.args.forest c.shown.result
-    c.in-Plain.is (c.as_slice-names.ensures.value ∙ c.in_ok-names.ensures) c.shown.ensures.shown
-
-pub returns-clause-makes : goal.returns-clause-makes
-returns-clause-makes c =
-    made_by c.args.command.now (Trace c.in-Trace.base c.in-Trace.field-1) c.as_slice-names.result.now c.args.forest c.traced.result
-    c.in-Trace.is (c.as_slice-names.ensures.value ∙ c.in_ok-names.ensures)
-    (traced_by c.as_str-in-Trace.result.now c.in-Trace.base c.as_slice-names.result.now c.args.forest c.traced.result c.as_str-in-Trace.ensures
-    c.traced.ensures.makes)
+pub returns : goal.returns
+returns c = record {
+  makes = made_by c.args.command.now c.as_slice-names.result.now c.args.forest (IsOfSet c.in-Some.base.now c.as_slice-names.result.now) (Ok c.verdict_of.result)
+      (c.as_slice-names.ensures.value ∙ c.in_ok-names.ensures)
+      (λ bs v h. set_by c.args.command.now c.in-Some.base.now _ bs v c.in-Some.ensures c.in_default-command.not-Trace c.requires.session h)
+      (λ bs read. (c.in_ok-judge-in_default-command.field-0, c.in_ok-judge-in_default-command.ensures.says bs read, c.verdict_of.ensures.value));
+  written = c.verdict_of.ensures.written c.in_ok-judge-in_default-command.ensures.written;
+}

@@ -1,19 +1,16 @@
-use Rattle.std.proofs.Common.{◌∙◌, sym}
-use Rattle.page_plain.proofs.Steps.{silent-text, silent-below}
+use Rattle.std.proofs.Common.{◌∙◌, ◌+◌, ◌&&◌, ap, sym, drop}
+use Rattle.ix_base.specs.Trees.{nodes_of}
+use Rattle.page_plain.specs.Parts.{is_silent}
+use Rattle.page_plain.proofs.Steps.{silent-step}
 use Rattle.page_plain.proofs.page.+silence.Goals as goal
-use Rattle.page_plain.proofs.page.+silence.Goals.{is_silent-in-Chars+else-not-is_empty, is_silent-in-Elem+else-not-gives_nothing}
 
-pub is_silent-returns-then-not-gives_nothing : goal.is_silent-returns-then-not-gives_nothing
-is_silent-returns-then-not-gives_nothing t c =
-    sym (sym c.loop-node.invariant ∙ silent-below c.args.nodes.now c.loop-node.node-index c.node-item.result c.in-Elem.below _
-    c.loop-node-test.true c.node-item.is c.in-Elem.is (sym c.gives_nothing.ensures ∙ c.if-not-gives_nothing.true))
+pub are_silent-returns-then-not-gives_nothing : goal.are_silent-returns-then-not-gives_nothing
+are_silent-returns-then-not-gives_nothing t c =
+    sym (sym c.loop-node.invariant ∙ silent-step c.args.nodes.now c.loop-node.node-index c.node-item.result c.loop-node-test.true c.node-item.is
+    ∙ ap (λ b. b && is_silent (nodes_of (drop (c.loop-node.node-index + 1) c.args.nodes.now))) (sym c.gives_nothing.ensures ∙ c.if-not-gives_nothing.true))
 
-pub is_silent-loop-node-preserved : goal.is_silent-loop-node-preserved
-is_silent-loop-node-preserved t c = elim c.match-node.branch [
-  | is_silent-in-Chars+else-not-is_empty w ↦
-      sym (silent-text c.args.nodes.now c.loop-node.node-index c.node-item.result w.in-Chars.text
-      c.loop-node-test.true c.node-item.is w.in-Chars.is (sym w.is_empty.ensures ∙ w.if-not-is_empty.false)) ∙ c.loop-node.invariant
-  | is_silent-in-Elem+else-not-gives_nothing w ↦
-      sym (silent-below c.args.nodes.now c.loop-node.node-index c.node-item.result w.in-Elem.below _
-      c.loop-node-test.true c.node-item.is w.in-Elem.is (sym w.gives_nothing.ensures ∙ w.if-not-gives_nothing.false)) ∙ c.loop-node.invariant
-]
+pub are_silent-loop-node-preserved : goal.are_silent-loop-node-preserved
+are_silent-loop-node-preserved t c =
+    sym (silent-step c.args.nodes.now c.loop-node.node-index c.node-item.result c.loop-node-test.true c.node-item.is
+    ∙ ap (λ b. b && is_silent (nodes_of (drop (c.loop-node.node-index + 1) c.args.nodes.now))) (sym c.gives_nothing.ensures ∙ c.if-not-gives_nothing.false))
+    ∙ c.loop-node.invariant

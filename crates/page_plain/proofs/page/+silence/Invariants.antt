@@ -4,5 +4,5 @@ use Rattle.page_plain.specs.Parts.{is_silent}
 use Rattle.page_plain.proofs.page.+silence.Given as goal
 
 -- the nodes before here give nothing
-abbrev pub invariant-is_silent-loop-node : goal.invariant-is_silent-loop-node
-invariant-is_silent-loop-node l = is_silent (nodes_of (drop l.node-index l.nodes)) ≡ is_silent (nodes_of l.nodes)
+abbrev pub invariant-are_silent-loop-node : goal.invariant-are_silent-loop-node
+invariant-are_silent-loop-node l = is_silent (nodes_of (drop l.node-index l.nodes)) ≡ is_silent (nodes_of l.nodes)

@@ -1,5 +1,4 @@
 use Rattle.std.proofs.Common.{◌≡◌, ◌-◌, ◌+◌, ◌≤◌, ◌++◌, ◌∷◌, [], IfSome, length, IsTrue, option_map}
-use Rattle.page_tree.specs.Standing.{fed_bytes, limit, page_number}
 use Rattle.ix_base.specs.Outside.{TellsAlso}
 use Rattle.page_session.specs.Reading.{HasFed}
 use Rattle.page_session.proofs.reading.read_page.Given as goal
@@ -16,10 +15,8 @@ invariant-loop-most g l = record {
   page : g.P.PageSource.page l.pages ≡ g.P.PageSource.page l.fn.pages;
   most : l.sums.bytes ≤ l.most.bytes + 65536;
   tags : l.sums.tags ≤ l.sums.bytes;
-  fed : fed_bytes l.builder ≤ l.sums.bytes;
-  limit_is : limit l.builder ≡ limit l.fn.builder;
-  number : page_number l.builder ≡ page_number l.fn.builder;
-  read : HasFed (g.P.PageSource.page l.fn.pages l.name) (g.P.PageSource.left l.pages) l.builder l.fn.sums l.sums;
+  read : HasFed (λ b. g.T.PageTaker.took l.fn.taker b l.taker) (g.P.PageSource.page l.fn.pages l.name) (g.P.PageSource.left l.pages)
+      l.fn.sums l.sums;
 }
 
 abbrev pub decreases-loop-most : goal.decreases-loop-most

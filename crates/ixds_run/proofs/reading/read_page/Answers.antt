@@ -1,6 +1,0 @@
-use Rattle.ixds_run.proofs.ReadLaws.{whole_at_end}
-use Rattle.ixds_run.proofs.reading.read_page.Goals as goal
-
-pub returns-then-not-branch-clause-whole : goal.returns-then-not-branch-clause-whole
-returns-then-not-branch-clause-whole g c =
-    whole_at_end _ _ _ _ _ (c.in_ok-read_piece.ensures.reads _ _ c.loop-sums.invariant.read) (c.in_ok-read_piece.ensures.end c.if-not-branch.true)

@@ -1,0 +1,124 @@
+//! A session, from its script to its answer.
+ghost use Rattle.std.specs.Prelude.{◌≡◌, ◌+◌, ◌^◌, ◌<◌, ◌≤◌, ℕ, List, Some, length, IfErr, IfOk, OnOk};
+ghost use Rattle.page_session.specs.Course.{names_read};
+ghost use Rattle.page_session.specs.Sources.{source_told};
+ghost use Rattle.ixds_run.specs.Answers.{outside};
+ghost use Rattle.ixds_run.specs.DueTables.{outcome_of};
+ghost use Rattle.ixds_run.specs.Following.{AreLines, IsEnded, IsSilent, OfLines, Started, WhyUnfollowed, WhyUnread};
+ghost use Rattle.ixds_run.specs.Gains.{GainsStarts};
+ghost use Rattle.ixds_run.specs.SessionAnswers.{SessionAnswers};
+ghost use Rattle.ixds_run.specs.SessionBytes.{OfScript, to_read};
+ghost use Rattle.ixds_run.specs.SessionOutcomes.{IsSession};
+
+use crate::Status;
+use crate::deliver::deliver;
+use crate::due::Due;
+use crate::extract::put_read_fault;
+use crate::follow::{due_of_line, follow_line};
+use crate::forest::Stopped;
+use crate::lines::cannot_read;
+use bumpalo::Bump;
+use ix_base::{PageSource, Rule, TargetSink, Text, TextSink};
+use page_session::laws::lines_by_calls;
+use page_session::reading::ReadError;
+use page_session::{Script, ScriptLine, Session, read_script};
+use std::alloc::Global;
+
+/// Follows the lines of a script with a session of their own, up to what is due at their end.
+fn follow_lines<P: PageSource>(
+    alloc: Global,
+    base: &str,
+    script: &str,
+    lines: &[ScriptLine],
+    pages: &mut P,
+) -> Result<Due, Stopped>
+    requires count { P.faults pages.old + 1 < 2 ^ 64 }
+    requires lines { AreLines lines.now }
+    ensures due { IfOk result (λ due. OfLines (P.page pages.old) lines.now
+        (IsEnded base.now script.now lines.now (P.starts pages.old) (P.starts pages.new) due)) }
+    ensures silent { IfOk result IsSilent }
+    ensures starts { OfLines (P.page pages.old) lines.now
+        (λ bs. GainsStarts (names_read lines.now bs) (P.starts pages.old) (P.starts pages.new)) }
+    ensures ok { OnOk result (P.faults pages.new ≡ P.faults pages.old) }
+    ensures stopped { IfErr result (WhyUnfollowed lines.now (source_told P.PageSource pages.old) (source_told P.PageSource pages.new)) }
+    ensures pages { P.page pages.new ≡ P.page pages.old }
+    ensures numbers { P.numbers pages.new ≡ P.numbers pages.old }
+{
+    lines_by_calls();
+    let arena = Bump::new(alloc);
+    let Ok(mut session) = Session::new(alloc, &arena, base) else {
+        return Err(Stopped::NoMemory);
+    };
+    let Ok(mut text) = Text::of(alloc, "") else {
+        return Err(Stopped::NoMemory);
+    };
+    for line in lines {
+        match follow_line(alloc, &mut session, &mut text, script, line, pages) {
+            Ok(None) => {}
+            Ok(Some(due)) => return Ok(due),
+            Err(why) => return Err(why),
+        }
+    }
+    unreachable!()
+}
+
+/// Reads a script and follows it, up to what is due at its end. The line for the script is made before it is asked for.
+pub fn follow<P: PageSource>(
+    alloc: Global,
+    base: &str,
+    script: &str,
+    pages: &mut P,
+) -> Result<Due, Stopped>
+    requires count { P.faults pages.old + 1 < 2 ^ 64 }
+    requires name { length script.now ≤ 4096 }
+    ensures due { IfOk result (λ due. OfScript (P.page pages.old) script.now (λ text bs. (dir : List ℕ)
+        → IsSession base.now dir script.now text bs (outcome_of (Some dir) due))) }
+    ensures silent { IfOk result IsSilent }
+    ensures all_starts { OnOk result (OfScript (P.page pages.old) script.now (λ text bs.
+        Started (to_read script.now text bs) (P.starts pages.old) (P.starts pages.new))) }
+    ensures starts { OfScript (P.page pages.old) script.now (λ text bs.
+        GainsStarts (to_read script.now text bs) (P.starts pages.old) (P.starts pages.new)) }
+    ensures ok { OnOk result (P.faults pages.new ≡ P.faults pages.old) }
+    ensures stopped { IfErr result (WhyUnread script.now (source_told P.PageSource pages.old) (source_told P.PageSource pages.new)) }
+    ensures pages { P.page pages.new ≡ P.page pages.old }
+    ensures numbers { P.numbers pages.new ≡ P.numbers pages.old }
+{
+    let Ok(line) = cannot_read(alloc, script) else {
+        return Err(Stopped::NoMemory);
+    };
+    match read_script(alloc, script, pages) {
+        Err(ReadError::Failed) => Err(Stopped::Failed(line)),
+        Err(ReadError::NoMemory) => Err(Stopped::NoMemory),
+        Ok(Script::Bad(at)) => match due_of_line(alloc, script, Rule::X1, at) {
+            Ok(due) => Ok(due),
+            Err(_) => Err(Stopped::NoMemory),
+        },
+        Ok(Script::Good(lines)) => follow_lines(alloc, base, script, lines.as_slice(), pages),
+    }
+}
+
+/// Answers a session: follows its script, and then gives what is due.
+pub fn follow_script<P: PageSource, S: TargetSink, T: TextSink>(
+    alloc: Global,
+    base: &str,
+    dir: &str,
+    script: &str,
+    pages: &mut P,
+    sink: &mut S,
+    out: &mut T,
+) -> Status
+    requires name { length script.now ≤ 4096 }
+    requires pages { P.faults pages.old + 1 < 2 ^ 64 }
+    requires sink { S.faults sink.old + 1 < 2 ^ 64 }
+    requires out { T.faults out.old + 1 < 2 ^ 64 }
+    ensures { SessionAnswers (record { base = base.now; dir = dir.now; script = script.now })
+        (outside P.PageSource S.TargetSink T.TextSink pages.old sink.old out.old)
+        (outside P.PageSource S.TargetSink T.TextSink pages.new sink.new out.new)
+        (sink.new ≡ sink.old) (out.new ≡ out.old) result }
+{
+    match follow(alloc, base, script, pages) {
+        Err(Stopped::NoMemory) => Status::NoMemory,
+        Err(Stopped::Failed(line)) => put_read_fault(line.as_slice(), out),
+        Ok(due) => deliver(&due, Some(dir), sink, out),
+    }
+}
