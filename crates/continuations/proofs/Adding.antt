@@ -1,7 +1,9 @@
 -- Breaches that are added element by element, up to want of memory.
-use Rattle.std.proofs.Common.{◌≡◌, ◌++◌, ◌+◌, ◌<◌, ℕ, List, length, drop, get_or}
+use Rattle.std.proofs.Common.{◌≡◌, ◌∙◌, ◌++◌, ◌+◌, ◌<◌, ℕ, List, length, drop, get_or, ap, sym, arith, Result, Ok, Err}
+use Rattle.std.proofs.lemmas.List.{take_all}
 use Rattle.std.specs.Borrow.{Bor}
 use Rattle.std.specs.List.{flat_map}
+use Rattle.std.specs.Result.{OnErr}
 use Rattle.ix_base.proofs.FrontLemmas.{Grows, grows-more, grows-front, front-none}
 use Rattle.ix_base.specs.Asks.{Asks}
 use Rattle.ix_base.specs.Fronts.{AppendsFront}
@@ -31,3 +33,12 @@ pub no-more : (a : Asks Located) (rule : Rule) (spots : List (Bor Spot)) (i : �
 no-more a rule spots i spot old now new all h e g n =
     grows-front old now new (broken_at a rule (located spot.now)) _ (from_on a rule spots (i + 1)) all g
     (flat_map-next (broken_at a rule) (λ (s : Bor Spot). located s.now) spots i spot h e) (front-none _ _ _ n)
+
+-- all of it is a front
+pub front-all : (all old new : List Found) → new ≡ old ++ all → AppendsFront all old new
+front-all all old new n = (length all, n ∙ ap (λ x. old ++ x) (sym (take_all (length all) all (omega arith))))
+
+-- what holds anyway holds where there is an error
+pub err-any : {T E P : Type 0} (r : Result T E) → P → OnErr r P
+err-any (Ok x) p = tt
+err-any (Err e) p = p

@@ -26,7 +26,7 @@ use Rattle.continuations.proofs.Reaching.{chain-found, any-flat, flat-any, same-
 use Rattle.continuations.proofs.Standing.{AreOf, start-at, start-number, chain-long}
 use Rattle.continuations.proofs.Walking.{some-inj}
 
-any-in : {X : Type 0} (p : X → Bool) (xs : List X) → list_any p xs ≡ true → (x : X) × IsIn x xs × (p x ≡ true)
+pub any-in : {X : Type 0} (p : X → Bool) (xs : List X) → list_any p xs ≡ true → (x : X) × IsIn x xs × (p x ≡ true)
 unfolding IsIn
 any-in p [] h = absurd (true≢false (sym h))
 any-in {X = X} p (x ∷ xs) h = by (p x) refl h (any-in p xs) where
@@ -34,7 +34,7 @@ any-in {X = X} p (x ∷ xs) h = by (p x) refl h (any-in p xs) where
   by true e h later = (x, inl refl, e)
   by false e h later = let r : (y : X) × IsIn y xs × (p y ≡ true) = later h in (r.0, inr r.1, r.2)
 
-in-any : {X : Type 0} (p : X → Bool) (xs : List X) (x : X) → IsIn x xs → p x ≡ true → list_any p xs ≡ true
+pub in-any : {X : Type 0} (p : X → Bool) (xs : List X) (x : X) → IsIn x xs → p x ≡ true → list_any p xs ≡ true
 unfolding IsIn
 in-any p [] x i h = absurd i
 in-any p (y ∷ ys) x (inl e) h = or_left (p y) (list_any p ys) (ap p (sym e) ∙ h)

@@ -3,10 +3,15 @@ pub mod Berthing
 pub mod Chaining
 pub mod HeadLaws
 pub mod Inner
+pub mod Joining
 pub mod KeptLaws
 pub mod Leaping
+pub mod LinkLaws
 pub mod Marking
+pub mod NameLaws
+pub mod Nesting
 pub mod Numbering
+pub mod ReachLaws
 pub mod Reaching
 pub mod SeenLaws
 pub mod Sharing

@@ -7,11 +7,11 @@ use Rattle.std.proofs.Math.Seq.{get_or-append_seam}
 use Rattle.std.proofs.lemmas.List.{length-append}
 use Rattle.std.specs.Borrow.{Bor}
 use Rattle.std.specs.List.{filter, slice_get}
-use Rattle.indexmap.specs.IndexMap.{IndexMap}
 use Rattle.ix_base.specs.Asks.{Asks, asks, only, if_such}
 use Rattle.ix_base.specs.Chain.{next, continuation}
 use Rattle.ix_base.specs.Ids.{holds_id}
 use Rattle.ix_base.specs.Located.{Located, located, is_continuation}
+use Rattle.text_map.specs.Texts.{Texts}
 use Rattle.ix_base.specs.declared.tree.Spot.{Spot}
 use Rattle.id_table.specs.Tables.{all_located}
 use Rattle.continuations.specs.Numbers.{number_at, AreNumbers, NameNexts}
@@ -56,7 +56,7 @@ filter-in p (y ∷ ys) x (inr h) t = by (p y) (filter-in p ys x h t) where
   by true k = inr k
   by false k = k
 
-only-in : {X : Type 0} (xs : List X) (e : X) → only xs ≡ Some e → IsIn e xs
+pub only-in : {X : Type 0} (xs : List X) (e : X) → only xs ≡ Some e → IsIn e xs
 unfolding IsIn
 only-in [] e h = some-none e h
 only-in (x ∷ []) e h = inl (sym (some-inj x e h))
@@ -69,7 +69,7 @@ only-is (y ∷ []) e x h (inl same) = same ∙ some-inj y e h
 only-is (y ∷ []) e x h (inr i) = absurd i
 only-is (y ∷ z ∷ zs) e x h i = some-none e h
 
-such-is : {X : Type 0} (p : X → Bool) (o : Option X) (e : X) → if_such p o ≡ Some e → (o ≡ Some e) × (p e ≡ true)
+pub such-is : {X : Type 0} (p : X → Bool) (o : Option X) (e : X) → if_such p o ≡ Some e → (o ≡ Some e) × (p e ≡ true)
 such-is p None e h = some-none e h
 such-is p (Some x) e h = by (p x) refl h where
   by : (b : Bool) → p x ≡ b → cond b (Some x) None ≡ Some e → (Some x ≡ Some e) × (p e ≡ true)
@@ -77,7 +77,7 @@ such-is p (Some x) e h = by (p x) refl h where
   by false t h = some-none e h
 
 -- the number that is kept at the id of the one continuation with it is that continuation's
-pub number-is : {S : Type 0} (m : IndexMap (Bor (List ℕ)) ℕ S) (es : List Located) (q : List ℕ) (e : Located) (o : Option ℕ)
+pub number-is : (m : Texts ℕ) (es : List Located) (q : List ℕ) (e : Located) (o : Option ℕ)
     → AreNumbers m (filter is_continuation es) (length (filter is_continuation es)) → continuation (asks es) q ≡ Some e → number_at m q ≡ o
     → option_map (slice_get (filter is_continuation es)) o ≡ Some (Some e)
 number-is m es q e o numbers h n = by o n where
@@ -99,7 +99,7 @@ number-is m es q e o numbers h n = by o n where
       ap Some (f.1 ∙ ap Some same)
 
 -- one number more
-pub numbered-more : {S : Type 0} (old new : IndexMap (Bor (List ℕ)) ℕ S) (xs : List Located) (i : ℕ) (x : Located) → AreNumbers old xs i → slice_get xs i ≡ Some x
+pub numbered-more : (old new : Texts ℕ) (xs : List Located) (i : ℕ) (x : Located) → AreNumbers old xs i → slice_get xs i ≡ Some x
     → ((q : List ℕ) → number_at new q ≡ cond (holds_id q x) (Some i) (number_at old q)) → AreNumbers new xs (i + 1)
 numbered-more old new xs i x numbers at entered = record {
   found = λ q k n. found-by q k (holds_id q x) refl (sym (entered q) ∙ n);

@@ -24,7 +24,7 @@ next-got a xs e o n h is = by (next a e) refl (sym (ap (option_map (slice_get xs
   by (Some x) e h = (x, e, some-inj (slice_get xs n) (Some x) h)
 
 -- its number
-next-number : (a : Asks Located) (xs : List Located) (e x : Located) (o : Option ℕ) → option_map (slice_get xs) o ≡ option_map Some (next a e) → next a e ≡ Some x
+pub next-number : (a : Asks Located) (xs : List Located) (e x : Located) (o : Option ℕ) → option_map (slice_get xs) o ≡ option_map Some (next a e) → next a e ≡ Some x
     → (n : ℕ) × (o ≡ Some n) × (slice_get xs n ≡ Some x)
 next-number a xs e x None h is = absurd (some-none (Some x) (h ∙ ap (option_map Some) is))
 next-number a xs e x (Some n) h is = (n, refl, some-inj (slice_get xs n) (Some x) (h ∙ ap (option_map Some) is))

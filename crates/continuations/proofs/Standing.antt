@@ -9,6 +9,9 @@ use Rattle.ix_base.specs.Asks.{asks}
 use Rattle.ix_base.specs.Chain.{chain_of}
 use Rattle.ix_base.specs.LinkRules.{is_at}
 use Rattle.ix_base.specs.Located.{Located, is_start, is_continuation}
+use Rattle.id_table.specs.Tables.{all_located}
+use Rattle.continuations.specs.Links.{AreLinks}
+use Rattle.continuations.specs.declared.links.Links.{Links}
 use Rattle.continuations.specs.Places.{holds, StandsFor, HoldsMarked}
 use Rattle.continuations.specs.Seen.{reached_by, most_of}
 use Rattle.continuations.specs.Walks.{walk, Reaches, AreNexts, AreReached, is_marked}
@@ -21,6 +24,9 @@ pub record AreOf (es xs : List Located) (count : ℕ) (ns : List (Option ℕ)) :
   pub spots : xs ≡ filter is_continuation es ++ filter is_start es
   pub counted : count ≡ length (filter is_continuation es)
   pub nexts : AreNexts (asks es) xs count ns
+
+pub of-links : (es : List Located) (l : Links) → AreLinks es l → AreOf es (all_located l.spots.items) l.continuations l.nexts.items
+of-links es l h = record { spots = h.spots; counted = h.counted; nexts = h.nexts }
 
 -- the element with which a chain begins, by its number
 pub start-at : (es xs : List Located) (count : ℕ) (ns : List (Option ℕ)) → AreOf es xs count ns → (h : ℕ) → count ≤ h → h < length ns

@@ -1,7 +1,10 @@
 pub mod Berths
+pub mod Courses
 pub mod Depths
 pub mod Inside
 pub mod Kept
+pub mod Links
+pub mod Nested
 pub mod Numbers
 pub mod Places
 pub mod Seen

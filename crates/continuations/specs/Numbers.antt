@@ -1,19 +1,18 @@
 -- Numbers of continuations, by id.
-use Rattle.std.specs.Prelude.{ℕ, ◌≡◌, ◌<◌, true, false, List, Option, Some, None, option_map, slice_get, bytes_eq}
-use Rattle.std.specs.Borrow.{Bor}
-use Rattle.indexmap.specs.IndexMap.{IndexMap, get_by}
+use Rattle.std.specs.Prelude.{ℕ, ◌≡◌, ◌<◌, true, false, List, Option, Some, None, option_map, slice_get}
 use Rattle.ix_base.specs.Asks.{Asks}
 use Rattle.ix_base.specs.Chain.{next}
 use Rattle.ix_base.specs.Ids.{holds_id}
 use Rattle.ix_base.specs.Located.{Located}
+use Rattle.text_map.specs.Texts.{Texts, get_in}
 use Rattle.continuations.specs.Walks.{next_at}
 
 -- the number that is kept at an id
-abbrev pub number_at : {S : Type 0} → IndexMap (Bor (List ℕ)) ℕ S → List ℕ → Option ℕ
-number_at m q = get_by (λ k. bytes_eq q k.now) m
+abbrev pub number_at : Texts ℕ → List ℕ → Option ℕ
+number_at m q = get_in m q
 
 -- at each id that one of the first so many elements has stands the number of one that has it
-pub record AreNumbers {S : Type 0} (m : IndexMap (Bor (List ℕ)) ℕ S) (xs : List Located) (upto : ℕ) : Type 0 where
+pub record AreNumbers (m : Texts ℕ) (xs : List Located) (upto : ℕ) : Type 0 where
   pub found : (q : List ℕ) (k : ℕ) → number_at m q ≡ Some k → (e : Located) × (slice_get xs k ≡ Some e) × (holds_id q e ≡ true)
   pub missed : (q : List ℕ) → number_at m q ≡ None → (k : ℕ) (e : Located) → k < upto → slice_get xs k ≡ Some e → holds_id q e ≡ false
 

@@ -27,6 +27,10 @@ pub record AreNexts (a : Asks Located) (xs : List Located) (count : ℕ) (nexts 
 abbrev pub is_marked : List Bool → ℕ → Bool
 is_marked marks k = slice_index_or marks k false
 
+-- two of these go on at one
+abbrev pub Joined : List (Option ℕ) → Type 0
+Joined nexts = (i j k : ℕ) × (i < j) × (next_at nexts i ≡ Some k) × (next_at nexts j ≡ Some k)
+
 -- those are marked to which a walk leads from one of these numbers
 abbrev pub AreReached : List (Option ℕ) → ℕ → ℕ → List Bool → Type 0
 AreReached nexts low high marks = (k : ℕ) → (is_marked marks k ≡ true → (h : ℕ) × (low ≤ h) × (h < high) × Reaches nexts h k)

@@ -1,17 +1,17 @@
 //! Chains as slices of an arena.
-ghost use Rattle.std.specs.Prelude.{◌≡◌, ◌++◌, ◌==◌, ◌&&◌, ℕ, [], OnOk, IfOk, Some, option_map, if◌then◌else◌, is_some, true};
+ghost use Rattle.std.specs.Prelude.{◌≡◌, ◌<◌, ◌==◌, ◌&&◌, ℕ, [], OnOk, IfOk, Some, option_map, is_some, length, slice_get, true};
 ghost use Rattle.ix_base.specs.Chain as spec;
 ghost use Rattle.ix_base.specs.LinkRules.{is_at};
-ghost use Rattle.ix_base.specs.Located.{located, offset_of};
+ghost use Rattle.ix_base.specs.Located.{Located, located, offset_of};
 ghost use Rattle.id_table.specs.Held.{asked};
-ghost use Rattle.ix_base.specs.Spots.{IsOnOnePage};
 ghost use Rattle.id_table.specs.Tables.{all_located, AreOnOwnPages};
 ghost use Rattle.continuations.specs.Kept.{chain_at, AreChainsOf};
-ghost use Rattle.continuations.specs.Slices.{chain_in, slice_at, first_start, put_first, starts_at};
-ghost use Rattle.continuations.specs.Seen.{most_of};
+ghost use Rattle.continuations.specs.Links.{AreLinks};
+ghost use Rattle.continuations.specs.Slices.{chain_in, slice_at, first_start, put_first};
 
+use crate::links::Links;
 use crate::slice::Slice;
-use crate::walk::{chain_of, is_start, most_in};
+use crate::trail::put_chain;
 use bumpalo::Bump;
 use bumpalo::collections::into_bump_slice;
 use id_table::Index;
@@ -69,81 +69,67 @@ fn enter_slice<'a>(
     enter_at(slices, (place.page, place.offset), slice)
 }
 
-/// Adds elements at the end of a list of the arena.
-fn push_kept<'a>(
-    to: &mut Vec<&'a Spot<'a>, &'a Bump>,
-    more: &[&'a Spot<'a>],
-) -> Result<(), NoMemory>
-    ensures { OnOk result (to.new.items ≡ to.old.items ++ more.now) }
+/// A chain, in the arena.
+fn slice_of<'a>(arena: &'a Bump, chain: &[&'a Spot<'a>]) -> Result<Slice<'a>, NoMemory>
+    requires { AreOnOwnPages chain.now }
+    ensures { IfOk result (λ s. s.spots.now ≡ chain.now) }
 {
-    for spot in more {
-        to.push(*spot)?;
-    }
-    Ok(())
-}
-
-/// The chain from an element, in the arena.
-fn slice_of<'a>(
-    alloc: Global,
-    arena: &'a Bump,
-    index: &Index<'a>,
-    head: &'a Spot<'a>,
-    most: usize,
-) -> Result<Slice<'a>, NoMemory>
-    requires { IsOnOnePage head.now }
-    ensures { IfOk result (λ s. all_located s.spots.now ≡ spec.chain_of (asked index.now) most (located head.entry.now)) }
-{
-    let chain = chain_of(alloc, index, head, most)?;
-    let mut kept = Vec::new(arena);
-    push_kept(&mut kept, chain.as_slice())?;
+    let mut kept = Vec::with_capacity(arena, chain.len())?;
+    kept.extend_from_slice(chain)?;
     Ok(Slice {
         spots: into_bump_slice(kept),
     })
 }
 
-/// Enters the chain of an element with which one begins.
-fn enter_start<'a>(
-    alloc: Global,
+/// Enters the chain from a numbered element. It is put in the place of what was in `chain`, and copied from there.
+fn enter_chain<'a>(
     arena: &'a Bump,
     index: &Index<'a>,
-    most: usize,
-    spot: &'a Spot<'a>,
+    links: &Links<'a>,
+    number: usize,
+    chain: &mut Vec<&'a Spot<'a>>,
     slices: &mut Slices<'a>,
 ) -> Result<(), NoMemory>
-    requires { IsOnOnePage spot.now }
-    ensures { OnOk result ((page offset : ℕ) → slice_at slices.new page offset
-        ≡ put_first (slice_at slices.old page offset) (starts_at page offset (located spot.entry.now))
-        (spec.chain_of (asked index.now) most (located spot.entry.now))) }
+    requires links { AreLinks index.now.spots links.now }
+    requires number { number < length links.now.spots.items }
+    ensures { OnOk result ((e : Located) → slice_get (all_located links.now.spots.items) number ≡ Some e
+        → (page offset : ℕ) → slice_at slices.new page offset
+        ≡ put_first (slice_at slices.old page offset) (is_at page offset e) (spec.chain (asked index.now) e)) }
 {
-    if is_start(spot) {
-        let slice = slice_of(alloc, arena, index, spot, most)?;
-        enter_slice(slices, spot, slice)?;
-    }
-    Ok(())
+    put_chain(index, links, number, chain)?;
+    let slice = slice_of(arena, chain.as_slice())?;
+    enter_slice(slices, links.spots[number], slice)
 }
 
 /// The chains from all elements with which one begins.
-fn slices_of<'a>(alloc: Global, arena: &'a Bump, index: &Index<'a>) -> Result<Slices<'a>, NoMemory>
+fn slices_of<'a>(
+    arena: &'a Bump,
+    index: &Index<'a>,
+    links: &Links<'a>,
+) -> Result<Slices<'a>, NoMemory>
+    requires { AreLinks index.now.spots links.now }
     ensures { IfOk result (λ m. (page offset : ℕ) → slice_at m page offset
         ≡ option_map (spec.chain (asked index.now)) (first_start page offset index.now.spots)) }
 {
-    let most = most_in(index);
-    let mut slices = IndexMap::new(alloc);
-    for spot in index.spots() {
-        enter_start(alloc, arena, index, most, *spot, &mut slices)?;
+    let first = links.continuations;
+    let mut chain = Vec::new(links.alloc);
+    let mut slices = IndexMap::with_capacity(links.alloc, links.spots.len() - first)?;
+    for number in first..links.spots.len() {
+        enter_chain(arena, index, links, number, &mut chain, &mut slices)?;
     }
     Ok(slices)
 }
 
 /// The chains from all elements with which one begins.
 pub(crate) fn chains_of<'a>(
-    alloc: Global,
     arena: &'a Bump,
     index: &Index<'a>,
+    links: &Links<'a>,
 ) -> Result<Chains<'a>, NoMemory>
+    requires { AreLinks index.now.spots links.now }
     ensures { IfOk result (λ c. AreChainsOf c index.now.spots) }
 {
-    let slices = slices_of(alloc, arena, index)?;
+    let slices = slices_of(arena, index, links)?;
     Ok(Chains { slices })
 }
 

@@ -4,11 +4,10 @@ ghost use Rattle.ix_base.specs.Elements.{placed, place_of};
 ghost use Rattle.ix_base.specs.LinkRules.{is_at};
 ghost use Rattle.ix_base.specs.Located.{located};
 ghost use Rattle.id_table.specs.Tables.{all_located};
-ghost use Rattle.continuations.specs.Berths.{AreFar, Met};
+ghost use Rattle.continuations.specs.Courses.{AreCourses};
 ghost use Rattle.continuations.specs.Inside.{numbers_at, AnyOf, AreInner, ArePlaced, IsInner, SharesAny};
 
-use crate::berths::Berth;
-use crate::walks::share;
+use crate::walks::{Courses, share};
 use indexmap::IndexMap;
 use ix_base::{NoMemory, Place, Spot};
 use std::alloc::Global;
@@ -94,23 +93,12 @@ fn numbers_in(numbers: &Placed, place: Place) -> &[usize]
 }
 
 /// Whether the walk from one start leads to an element and to one of these too.
-fn shares_any(
-    nexts: &[Option<usize>],
-    first: usize,
-    berths: &[Option<Berth>],
-    meets: &[Option<usize>],
-    fars: &[usize],
-    numbers: &[usize],
-    x: usize,
-) -> bool
-    requires met { Met nexts.now first (length nexts.now) berths.now meets.now }
-    requires far { AreFar nexts.now first berths.now fars.now }
-    requires meets { length meets.now ≡ length nexts.now }
-    requires fars { length fars.now ≡ length nexts.now }
-    ensures { (result ≡ true) ↔ SharesAny nexts.now first numbers.now x }
+fn shares_any(courses: &Courses<'_>, numbers: &[usize], x: usize) -> bool
+    requires { AreCourses courses.now }
+    ensures { (result ≡ true) ↔ SharesAny courses.now.nexts.now courses.now.first numbers.now x }
 {
     for y in numbers {
-        if share(nexts, first, berths, meets, fars, x, *y) {
+        if share(courses, x, *y) {
             return true;
         }
     }
@@ -118,28 +106,16 @@ fn shares_any(
 }
 
 /// Whether the walk from one start leads to an element and to one around it too.
-fn is_inner(
-    nexts: &[Option<usize>],
-    first: usize,
-    berths: &[Option<Berth>],
-    meets: &[Option<usize>],
-    fars: &[usize],
-    numbers: &Placed,
-    x: usize,
-    spot: &Spot<'_>,
-) -> bool
-    requires met { Met nexts.now first (length nexts.now) berths.now meets.now }
-    requires far { AreFar nexts.now first berths.now fars.now }
-    requires meets { length meets.now ≡ length nexts.now }
-    requires fars { length fars.now ≡ length nexts.now }
-    ensures { (result ≡ true) ↔ IsInner nexts.now first numbers.now x (located spot.now) }
+fn is_inner(courses: &Courses<'_>, numbers: &Placed, x: usize, spot: &Spot<'_>) -> bool
+    requires { AreCourses courses.now }
+    ensures { (result ≡ true) ↔ IsInner courses.now.nexts.now courses.now.first numbers.now x (located spot.now) }
 {
     let page = spot.element.place.page;
     let mut up = spot.up;
     while let Some(around) = up {
         let offset = around.element.place.offset;
         let here = numbers_in(numbers, Place { page, offset });
-        if shares_any(nexts, first, berths, meets, fars, here, x) {
+        if shares_any(courses, here, x) {
             return true;
         }
         up = around.up;
@@ -150,24 +126,18 @@ fn is_inner(
 /// Marks on the elements that stand inside others to which the walk from one start leads too.
 pub(crate) fn inner_marks(
     alloc: Global,
-    nexts: &[Option<usize>],
-    first: usize,
-    berths: &[Option<Berth>],
-    meets: &[Option<usize>],
-    fars: &[usize],
+    courses: &Courses<'_>,
     numbers: &Placed,
     spots: &[&Spot<'_>],
 ) -> Result<Vec<bool>, NoMemory>
-    requires met { Met nexts.now first (length nexts.now) berths.now meets.now }
-    requires far { AreFar nexts.now first berths.now fars.now }
-    requires meets { length meets.now ≡ length nexts.now }
-    requires fars { length fars.now ≡ length nexts.now }
+    requires { AreCourses courses.now }
     ensures len { IfOk result (λ v. length v.items ≡ length spots.now) }
-    ensures inner { IfOk result (λ v. AreInner nexts.now first numbers.now (all_located spots.now) (length spots.now) v.items) }
+    ensures inner { IfOk result (λ v. AreInner courses.now.nexts.now courses.now.first numbers.now (all_located spots.now)
+        (length spots.now) v.items) }
 {
     let mut marks = Vec::new(alloc);
     for (x, spot) in spots.iter().enumerate() {
-        marks.push(is_inner(nexts, first, berths, meets, fars, numbers, x, *spot))?;
+        marks.push(is_inner(courses, numbers, x, *spot))?;
     }
     Ok(marks)
 }

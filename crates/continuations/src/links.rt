@@ -1,30 +1,39 @@
 //! The elements of chains, numbered, so that a walk from one to the next takes no look-up.
-ghost use Rattle.std.specs.Prelude.{◌≡◌, ◌++◌, ◌∷◌, [], ℕ, List, OnOk, IfOk, Some, None, option_map, option_and_then, length, filter, slice_get, if◌then◌else◌, bytes_eq};
-ghost use Rattle.ix_base.specs.Chain.{next, continued_at as spec_continued_at};
+ghost use Rattle.std.specs.Prelude.{◌≡◌, ◌++◌, ◌&&◌, ℕ, List, OnOk, IfOk, Some, None, is_some, is_none, option_map, option_and_then, length, filter, slice_get, if◌then◌else◌};
+ghost use Rattle.std.specs.List.{list_any};
+ghost use Rattle.ix_base.specs.Chain as spec;
 ghost use Rattle.ix_base.specs.Ids.{holds_id};
+ghost use Rattle.ix_base.specs.LinkRules.{lacks_continuation};
 ghost use Rattle.ix_base.specs.Located as kinds;
 ghost use Rattle.ix_base.specs.Located.{located, is_continuation as spec_is_continuation};
 ghost use Rattle.id_table.specs.Held.{asked};
-ghost use Rattle.id_table.specs.Tables.{all_located};
+ghost use Rattle.id_table.specs.Tables.{all_located, AreOnOwnPages};
+ghost use Rattle.continuations.specs.Links.{AreLinks};
 ghost use Rattle.continuations.specs.Numbers.{number_at, AreNumbers, NameNexts};
-ghost use Rattle.continuations.specs.Walks.{AreNexts};
 
+use crate::marks::any_joined;
 use crate::walk::{continuation, continued_at, is_continuation, is_start};
 use id_table::{Index, id_at};
-use indexmap::IndexMap;
 use ix_base::{NoMemory, Spot};
 use std::alloc::Global;
+use text_map::TextMap;
 
 /// Numbers of continuations, by their ids.
-type Numbers<'a> = IndexMap<&'a str, usize>;
+type Numbers<'a> = TextMap<'a, usize>;
 
 /// The elements of chains, numbered: so many continuations, and behind them the elements with which chains begin. For
 /// each the number of the continuation at which it goes on.
 #[derive(Drop)]
 pub(crate) struct Links<'a> {
+    /// The allocator with which they were made, and with which what rests on them is.
+    pub alloc: Global,
     pub spots: Vec<&'a Spot<'a>>,
     pub continuations: usize,
     pub nexts: Vec<Option<usize>>,
+    /// Whether an element goes on at an id that isn't the one id of a continuation.
+    pub lacks: bool,
+    /// Whether two elements go on at one continuation.
+    pub joins: bool,
 }
 
 /// Enters the number of an element at its id.
@@ -37,21 +46,8 @@ fn enter_number<'a>(
         ≡ (if holds_id q (located spot.now) then Some number else number_at numbers.old q)) }
 {
     if let Some(id) = id_at(spot) {
-        enter_number_at(numbers, id, number)?;
+        numbers.insert(id, number)?;
     }
-    Ok(())
-}
-
-/// Enters a number at an id.
-fn enter_number_at<'a>(
-    numbers: &mut Numbers<'a>,
-    id: &'a str,
-    number: usize,
-) -> Result<(), NoMemory>
-    ensures { OnOk result ((q : List ℕ) → number_at numbers.new q
-        ≡ (if bytes_eq q id.entry.now then Some number else number_at numbers.old q)) }
-{
-    numbers.insert(id, number)?;
     Ok(())
 }
 
@@ -59,46 +55,61 @@ fn enter_number_at<'a>(
 fn numbers_of<'a>(alloc: Global, spots: &[&'a Spot<'a>]) -> Result<Numbers<'a>, NoMemory>
     ensures { IfOk result (λ m. AreNumbers m (all_located spots.now) (length spots.now)) }
 {
-    let mut numbers = IndexMap::new(alloc);
+    let mut numbers = TextMap::new(alloc);
     for (number, spot) in spots.iter().enumerate() {
         enter_number(&mut numbers, *spot, number)?;
     }
     Ok(numbers)
 }
 
-/// The number of the continuation at which an element goes on.
-fn next_number(index: &Index<'_>, numbers: &Numbers<'_>, spot: &Spot<'_>) -> Option<usize>
+/// The number of the one continuation with an id.
+fn number_in(index: &Index<'_>, numbers: &Numbers<'_>, id: Option<&str>) -> Option<usize>
     requires { AreNumbers numbers.now (filter spec_is_continuation index.now.spots) (length (filter spec_is_continuation index.now.spots)) }
     ensures { option_map (slice_get (filter spec_is_continuation index.now.spots)) result
-        ≡ option_map Some (next (asked index.now) (located spot.now)) }
+        ≡ option_map Some (option_and_then (spec.continuation (asked index.now)) (option_map (λ s. s.now) id.entry)) }
 {
-    let id = continued_at(spot)?;
+    let id = id?;
     continuation(index, id)?;
     numbers.get(id).copied()
 }
 
-/// The numbers of the continuations at which elements go on.
+/// Whether an element that goes on at an id has found no number there.
+fn is_lost(id: Option<&str>, next: Option<usize>) -> bool
+    ensures { result ≡ (is_some id.entry && is_none next) }
+{
+    id.is_some() && next.is_none()
+}
+
+/// The numbers of the continuations at which elements go on, and whether one of them goes on at an id that isn't the
+/// one id of a continuation.
 fn nexts_of(
     alloc: Global,
     index: &Index<'_>,
     numbers: &Numbers<'_>,
     spots: &[&Spot<'_>],
-) -> Result<Vec<Option<usize>>, NoMemory>
+) -> Result<(Vec<Option<usize>>, bool), NoMemory>
     requires { AreNumbers numbers.now (filter spec_is_continuation index.now.spots) (length (filter spec_is_continuation index.now.spots)) }
-    ensures len { IfOk result (λ v. length v.items ≡ length spots.now) }
-    ensures nexts { IfOk result (λ v. NameNexts (asked index.now) (filter spec_is_continuation index.now.spots)
-        (all_located spots.now) (length spots.now) v.items) }
+    ensures len { IfOk result (λ r. length r.0.items ≡ length spots.now) }
+    ensures nexts { IfOk result (λ r. NameNexts (asked index.now) (filter spec_is_continuation index.now.spots)
+        (all_located spots.now) (length spots.now) r.0.items) }
+    ensures lacks { IfOk result (λ r. r.1 ≡ list_any (lacks_continuation (asked index.now)) (all_located spots.now)) }
 {
-    let mut nexts = Vec::new(alloc);
+    let mut nexts = Vec::with_capacity(alloc, spots.len())?;
+    let mut lacks = false;
     for spot in spots {
-        nexts.push(next_number(index, numbers, *spot))?;
+        let id = continued_at(*spot);
+        let next = number_in(index, numbers, id);
+        lacks |= is_lost(id, next);
+        nexts.push(next)?;
     }
-    Ok(nexts)
+    Ok((nexts, lacks))
 }
 
 /// Adds the continuations of a set.
 fn push_continuations<'a>(index: &Index<'a>, spots: &mut Vec<&'a Spot<'a>>) -> Result<(), NoMemory>
-    ensures { OnOk result (all_located spots.new.items ≡ all_located spots.old.items ++ filter spec_is_continuation index.now.spots) }
+    requires { AreOnOwnPages spots.old.items }
+    ensures spots { OnOk result (all_located spots.new.items ≡ all_located spots.old.items ++ filter spec_is_continuation index.now.spots) }
+    ensures pages { OnOk result (AreOnOwnPages spots.new.items) }
 {
     for spot in index.spots() {
         if is_continuation(*spot) {
@@ -110,7 +121,9 @@ fn push_continuations<'a>(index: &Index<'a>, spots: &mut Vec<&'a Spot<'a>>) -> R
 
 /// Adds the elements of a set with which chains begin.
 fn push_starts<'a>(index: &Index<'a>, spots: &mut Vec<&'a Spot<'a>>) -> Result<(), NoMemory>
-    ensures { OnOk result (all_located spots.new.items ≡ all_located spots.old.items ++ filter kinds.is_start index.now.spots) }
+    requires { AreOnOwnPages spots.old.items }
+    ensures spots { OnOk result (all_located spots.new.items ≡ all_located spots.old.items ++ filter kinds.is_start index.now.spots) }
+    ensures pages { OnOk result (AreOnOwnPages spots.new.items) }
 {
     for spot in index.spots() {
         if is_start(*spot) {
@@ -122,20 +135,21 @@ fn push_starts<'a>(index: &Index<'a>, spots: &mut Vec<&'a Spot<'a>>) -> Result<(
 
 /// The elements of the chains of a set, numbered.
 pub(crate) fn links_of<'a>(alloc: Global, index: &Index<'a>) -> Result<Links<'a>, NoMemory>
-    ensures spots { IfOk result (λ l. all_located l.spots.items
-        ≡ filter spec_is_continuation index.now.spots ++ filter kinds.is_start index.now.spots) }
-    ensures count { IfOk result (λ l. l.continuations ≡ length (filter spec_is_continuation index.now.spots)) }
-    ensures nexts { IfOk result (λ l. AreNexts (asked index.now) (all_located l.spots.items) l.continuations l.nexts.items) }
+    ensures { IfOk result (λ l. AreLinks index.now.spots l) }
 {
     let mut spots = Vec::new(alloc);
     push_continuations(index, &mut spots)?;
     let continuations = spots.len();
     let numbers = numbers_of(alloc, spots.as_slice())?;
     push_starts(index, &mut spots)?;
-    let nexts = nexts_of(alloc, index, &numbers, spots.as_slice())?;
+    let (nexts, lacks) = nexts_of(alloc, index, &numbers, spots.as_slice())?;
+    let joins = any_joined(alloc, nexts.as_slice(), continuations)?;
     Ok(Links {
+        alloc,
         spots,
         continuations,
         nexts,
+        lacks,
+        joins,
     })
 }

@@ -1,6 +1,6 @@
 //! Marks on all that walks reach.
-ghost use Rattle.std.specs.Prelude.{◌≡◌, ◌+◌, ◌<◌, ◌≤◌, ℕ, Some, length, IfOk};
-ghost use Rattle.continuations.specs.Walks.{next_at, is_marked, AreReached};
+ghost use Rattle.std.specs.Prelude.{◌≡◌, ◌↔◌, ◌+◌, ◌<◌, ◌≤◌, ℕ, Some, true, length, IfOk};
+ghost use Rattle.continuations.specs.Walks.{next_at, is_marked, AreReached, Joined};
 
 use ix_base::NoMemory;
 use std::alloc::Global;
@@ -52,4 +52,39 @@ pub(crate) fn reached_from(
     let mut marks = vec![in alloc; false; nexts.len()]?;
     mark_all(nexts, first, marks.as_mut_slice());
     Ok(marks)
+}
+
+/// Whether the first so many are marked.
+pub(crate) fn are_marked(marks: &[bool], upto: usize) -> bool
+    requires { upto ≤ length marks.now }
+    ensures { (result ≡ true) ↔ ((k : ℕ) → k < upto → is_marked marks.now k ≡ true) }
+{
+    for number in 0..upto {
+        if !marks[number] {
+            return false;
+        }
+    }
+    true
+}
+
+/// Whether two elements go on at one of the first so many.
+pub(crate) fn any_joined(
+    alloc: Global,
+    nexts: &[Option<usize>],
+    first: usize,
+) -> Result<bool, NoMemory>
+    requires { (k j : ℕ) → next_at nexts.now k ≡ Some j → j < first }
+    ensures { IfOk result (λ b. (b ≡ true) ↔ Joined nexts.now) }
+{
+    let mut marks = vec![in alloc; false; first]?;
+    for next in nexts {
+        let Some(number) = *next else {
+            continue;
+        };
+        if marks[number] {
+            return Ok(true);
+        }
+        marks[number] = true;
+    }
+    Ok(false)
 }

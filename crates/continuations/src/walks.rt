@@ -1,12 +1,24 @@
 //! Whether the walk from one start of a chain leads to two elements.
 ghost use Rattle.std.specs.Prelude.{All, List, ◌≡◌, ◌↔◌, ◌+◌, ◌<◌, ◌≤◌, ◌⊎◌, ℕ, Some, None, true, length, IfOk, slice_index_or};
 ghost use Rattle.continuations.specs.Berths.{berth_at, meet_at, merge_at, Met, AreFar, Behind, IsFar, Leads, Shared};
+ghost use Rattle.continuations.specs.Courses.{AreCourses};
 ghost use Rattle.continuations.specs.Depths.{depth_by, far_by, AreLeaps};
 ghost use Rattle.continuations.specs.Walks.{next_at, Reaches};
 
 use crate::berths::Berth;
 use ix_base::NoMemory;
 use std::alloc::Global;
+
+/// The courses of walks over numbered elements, from each behind the first so many: where each element stands, where each
+/// walk met what had been met, and a far number for each.
+#[derive(Clone, Copy)]
+pub(crate) struct Courses<'w> {
+    pub nexts: &'w [Option<usize>],
+    pub first: usize,
+    pub berths: &'w [Option<Berth>],
+    pub meets: &'w [Option<usize>],
+    pub fars: &'w [usize],
+}
 
 /// Where the walk from a number met what had been met.
 pub(crate) fn merge(berths: &[Option<Berth>], meets: &[Option<usize>], walk: usize) -> Option<Berth>
@@ -48,60 +60,38 @@ fn farther(far: usize, high: usize, low: usize, near: usize) -> usize
 
 /// Whether the walk from a number leads to what an earlier walk met at this berth. It goes from walk to walk by far
 /// ones where it can, in a number of steps that grows with the logarithm of the number of walks.
-fn leads(
-    nexts: &[Option<usize>],
-    first: usize,
-    berths: &[Option<Berth>],
-    meets: &[Option<usize>],
-    fars: &[usize],
-    from: usize,
-    to: Berth,
-) -> bool
-    requires met { Met nexts.now first (length nexts.now) berths.now meets.now }
-    requires far { AreFar nexts.now first berths.now fars.now }
-    requires meets { length meets.now ≡ length nexts.now }
-    requires fars { length fars.now ≡ length nexts.now }
-    requires from { from < length nexts.now }
-    requires first { first ≤ from }
+fn leads(courses: &Courses<'_>, from: usize, to: Berth) -> bool
+    requires courses { AreCourses courses.now }
+    requires from { from < length courses.now.nexts.now }
+    requires first { courses.now.first ≤ from }
     requires earlier { to.walk < from }
-    ensures { (j : ℕ) → berth_at berths.now j ≡ Some to → (result ≡ true) ↔ Reaches nexts.now from j }
+    ensures { (j : ℕ) → berth_at courses.now.berths.now j ≡ Some to → (result ≡ true) ↔ Reaches courses.now.nexts.now from j }
 {
     let mut at = from;
-    while let Some(met) = merge(berths, meets, at) {
+    while let Some(met) = merge(courses.berths, courses.meets, at) {
         if at <= met.walk {
             return false;
         }
         if met.walk <= to.walk {
-            return met.walk == to.walk && is_behind(berths, meets, met, to);
+            return met.walk == to.walk && is_behind(courses.berths, courses.meets, met, to);
         }
-        at = farther(fars[at], at, to.walk, met.walk);
+        at = farther(courses.fars[at], at, to.walk, met.walk);
     }
     false
 }
 
 /// Whether the walk from one number leads to both.
-pub(crate) fn share(
-    nexts: &[Option<usize>],
-    first: usize,
-    berths: &[Option<Berth>],
-    meets: &[Option<usize>],
-    fars: &[usize],
-    x: usize,
-    y: usize,
-) -> bool
-    requires met { Met nexts.now first (length nexts.now) berths.now meets.now }
-    requires far { AreFar nexts.now first berths.now fars.now }
-    requires meets { length meets.now ≡ length nexts.now }
-    requires fars { length fars.now ≡ length nexts.now }
-    ensures { (result ≡ true) ↔ Shared nexts.now first (length nexts.now) x y }
+pub(crate) fn share(courses: &Courses<'_>, x: usize, y: usize) -> bool
+    requires { AreCourses courses.now }
+    ensures { (result ≡ true) ↔ Shared courses.now.nexts.now courses.now.first (length courses.now.nexts.now) x y }
 {
-    match (berth_of(berths, x), berth_of(berths, y)) {
+    match (berth_of(courses.berths, x), berth_of(courses.berths, y)) {
         (Some(b), Some(c)) => {
             b.walk == c.walk
                 || if c.walk < b.walk {
-                    leads(nexts, first, berths, meets, fars, b.walk, c)
+                    leads(courses, b.walk, c)
                 } else {
-                    leads(nexts, first, berths, meets, fars, c.walk, b)
+                    leads(courses, c.walk, b)
                 }
         }
         _ => false,

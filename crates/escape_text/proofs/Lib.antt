@@ -1,4 +1,5 @@
 pub mod FrontLaws
+pub mod LinkLaws
 pub mod MarkupLaws
 pub mod MarkupSteps
 pub mod PlainLaws

@@ -3,6 +3,7 @@ use Rattle.std.specs.Prelude.{ℕ, Bool, true, false, ◌&&◌, List, [], ◌∷
 use Rattle.ix_base.specs.Markup.{markup, ends_short, is_silent, declaration, own_attributes, plain, plain_by, manner}
 use Rattle.ix_base.specs.Trees.{Head, none, elem, Tree}
 use Rattle.ix_base.specs.Written.{close_text, attrs_text}
+use Rattle.escape_text.specs.Manners.{is_opened}
 
 -- the markup of one element
 abbrev pub element_markup : Option (List ℕ) → List ℕ → Tree → List ℕ
@@ -26,6 +27,10 @@ abbrev pub shown_markup : Bool → Option (List ℕ) → List ℕ → Tree → L
 shown_markup true base around t = markup base around t.children
 shown_markup false base around t =
     open_text base around t.head ++ rest_text (is_short t) t.head.name.local (markup base t.head.name.ns t.children)
+
+-- the same of an element, by its name
+abbrev pub shown_by : Option (List ℕ) → List ℕ → Tree → List ℕ
+shown_by base around t = shown_markup (is_opened (manner t.head.name)) base around t
 
 -- the plain text of one element
 abbrev pub plain_of : Tree → List ℕ

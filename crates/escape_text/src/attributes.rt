@@ -9,7 +9,7 @@ ghost use Rattle.escape_text.specs.Owned.{own, own_cmp, written_of};
 use crate::names::is_link_of;
 use ix_base::namespaces::XML;
 use ix_base::{Attr, Element, Name, NoMemory, Text, push_ae};
-use scopes::resolved;
+use scopes::ParsedBase;
 use std::alloc::Global;
 use std::cmp::Ordering;
 
@@ -39,16 +39,21 @@ fn written_name(alloc: Global, name: &Name<'_>) -> Result<Text, NoMemory>
 }
 
 /// A link against a base, or as it is written.
-fn link_at(alloc: Global, base: Option<&str>, text: &str) -> Result<Text, NoMemory>
+fn link_at(alloc: Global, base: Option<&ParsedBase>, text: &str) -> Result<Text, NoMemory>
     ensures { IfOk result (λ t. t ≡ spec.link_at (option_map (λ b. b.now) base.entry) text.now) }
 {
     match base {
-        Some(base) => resolved(alloc, base, text),
+        Some(base) => base.resolved(alloc, text),
         None => Text::of(alloc, text),
     }
 }
 
-fn value_by(alloc: Global, is_link: bool, base: Option<&str>, text: &str) -> Result<Text, NoMemory>
+fn value_by(
+    alloc: Global,
+    is_link: bool,
+    base: Option<&ParsedBase>,
+    text: &str,
+) -> Result<Text, NoMemory>
     ensures { IfOk result (λ t. t ≡ spec.value_by is_link (option_map (λ b. b.now) base.entry) text.now) }
 {
     if is_link {
@@ -61,7 +66,7 @@ fn value_by(alloc: Global, is_link: bool, base: Option<&str>, text: &str) -> Res
 /// An attribute as it is written, on an element of this name.
 fn own_of(
     alloc: Global,
-    base: Option<&str>,
+    base: Option<&ParsedBase>,
     element: &Name<'_>,
     attr: &Attr<'_>,
 ) -> Result<Own, NoMemory>
@@ -75,7 +80,7 @@ fn own_of(
 /// Adds an attribute as it is written, on an element of this name, where it is written at all.
 fn push_own(
     alloc: Global,
-    base: Option<&str>,
+    base: Option<&ParsedBase>,
     element: &Name<'_>,
     attr: &Attr<'_>,
     owns: &mut Vec<Own>,
@@ -92,7 +97,7 @@ fn push_own(
 /// What is written of attributes of an element of this name, in their order.
 fn owns_in(
     alloc: Global,
-    base: Option<&str>,
+    base: Option<&ParsedBase>,
     element: &Name<'_>,
     attrs: &[Attr<'_>],
 ) -> Result<Vec<Own>, NoMemory>
@@ -123,7 +128,11 @@ fn sort_owns(owns: &mut Vec<Own>) -> Result<(), NoMemory>
 }
 
 /// The attributes of an element as they are written, in order.
-fn owns_of(alloc: Global, base: Option<&str>, element: &Element<'_>) -> Result<Vec<Own>, NoMemory>
+fn owns_of(
+    alloc: Global,
+    base: Option<&ParsedBase>,
+    element: &Element<'_>,
+) -> Result<Vec<Own>, NoMemory>
     ensures { IfOk result (λ v. map own v.items ≡ spec.own_attributes (option_map (λ b. b.now) base.entry) (tree_of element.now).head) }
 {
     let mut owns = owns_in(alloc, base, &element.name, element.attrs.written)?;
@@ -156,7 +165,7 @@ pub(crate) fn push_declaration(around: &str, ns: &str, out: &mut Text) -> Result
 #[tactic(auto, using(crate::proofs::MarkupLaws::attrs_laws))]
 pub(crate) fn push_attributes(
     alloc: Global,
-    base: Option<&str>,
+    base: Option<&ParsedBase>,
     element: &Element<'_>,
     out: &mut Text,
 ) -> Result<(), NoMemory>

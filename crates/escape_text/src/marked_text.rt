@@ -1,19 +1,29 @@
 //! Texts as markup.
 ghost use Rattle.std.specs.Prelude.{◌≡◌, ◌++◌, ◌<◌, map, IfOk, OnOk, OnErr, option_map, Some, None, length, All};
+ghost use Rattle.ix_base.specs.Address.{joined_or};
 ghost use Rattle.ix_base.specs.Elements.{place_of};
 ghost use Rattle.ix_base.specs.Located.{located, base_in};
 ghost use Rattle.ix_base.specs.Markup as spec;
 ghost use Rattle.ix_base.specs.Trees.{nodes_of, tree_of};
 ghost use Rattle.ix_base.specs.Written.{close_text};
-ghost use Rattle.escape_text.specs.Kept.{element_markup, shown_markup, open_text, rest_text, is_short};
-ghost use Rattle.escape_text.specs.Manners.{is_opened as is_opened_name};
-ghost use Rattle.std.specs.Option.{option_or};
+ghost use Rattle.escape_text.specs.Kept.{element_markup, shown_by, open_text, rest_text, is_short};
+ghost use Rattle.escape_text.specs.Linked.{has_links as links_in};
+ghost use Rattle.escape_text.specs.Around.{base_of};
 
 use crate::attributes::{push_attributes, push_declaration};
+use crate::links::{has_links, is_linked};
 use crate::names::{ends_short, is_left_out, is_opened};
 use ix_base::{Element, NoMemory, Node, Spot, Text, push_te, xml_base};
-use scopes::{Bases, base_within};
+use scopes::{Bases, ParsedBase};
 use std::alloc::Global;
+
+/// What stands around markup: the base, or none where links stay as they are written, and the default namespace.
+#[derive(Clone, Copy)]
+struct Around<'b, 'n> {
+    alloc: Global,
+    base: Option<&'b ParsedBase>,
+    ns: &'n str,
+}
 
 /// Whether nodes give no markup: there is no text among them, and no element that is kept.
 #[cycle(silence)]
@@ -45,39 +55,15 @@ fn gives_nothing(element: &Element<'_>) -> bool
     is_left_out(element) || (is_opened(element) && is_silent(element))
 }
 
-/// The base below an element that has a base of its own, where links are resolved. Below any other element the base is the
-/// one around it.
-fn own_base(
-    alloc: Global,
-    base: Option<&str>,
-    element: &Element<'_>,
-) -> Result<Option<Text>, NoMemory>
-    ensures { IfOk result (λ own. option_or own (option_map (λ s. s.now) base.entry)
-        ≡ spec.base_below (option_map (λ s. s.now) base.entry) (tree_of element.now).head) }
-{
-    match base {
-        Some(base) if xml_base(element).is_some() => {
-            Ok(Some(base_within(alloc, base, element)?))
-        }
-        _ => Ok(None),
-    }
-}
-
 /// Appends the start tag of an element, without its end.
 #[tactic(auto, using(crate::proofs::MarkupLaws::attrs_laws))]
-fn push_open(
-    alloc: Global,
-    base: Option<&str>,
-    around: &str,
-    element: &Element<'_>,
-    out: &mut Text,
-) -> Result<(), NoMemory>
-    ensures { OnOk result (out.new ≡ out.old ++ open_text (option_map (λ b. b.now) base.entry) around.now (tree_of element.now).head) }
+fn push_open(around: Around<'_, '_>, element: &Element<'_>, out: &mut Text) -> Result<(), NoMemory>
+    ensures { OnOk result (out.new ≡ out.old ++ open_text (base_of around.entry) around.entry.ns.now (tree_of element.now).head) }
 {
     out.push("<")?;
     out.push(element.name.local)?;
-    push_declaration(around, element.name.ns, out)?;
-    push_attributes(alloc, base, element, out)
+    push_declaration(around.ns, element.name.ns, out)?;
+    push_attributes(around.alloc, around.base, element, out)
 }
 
 /// Appends an end tag.
@@ -91,79 +77,108 @@ fn push_close(name: &str, out: &mut Text) -> Result<(), NoMemory>
 
 /// Appends what follows the attributes of an element that is kept.
 #[cycle(markup)]
-fn push_rest(
-    alloc: Global,
-    base: Option<&str>,
-    element: &Element<'_>,
-    out: &mut Text,
-) -> Result<(), NoMemory>
+fn push_rest(around: Around<'_, '_>, element: &Element<'_>, out: &mut Text) -> Result<(), NoMemory>
     ensures { OnOk result (out.new ≡ out.old ++ rest_text (is_short (tree_of element.now)) (tree_of element.now).head.name.local
-        (spec.markup (option_map (λ b. b.now) base.entry) (tree_of element.now).head.name.ns (tree_of element.now).children)) }
+        (spec.markup (base_of around.entry) (tree_of element.now).head.name.ns (tree_of element.now).children)) }
 {
     if ends_short(element.name) && is_silent(element) {
         return out.push("/>");
     }
+    let ns = element.name.ns;
     out.push(">")?;
-    push_nodes(alloc, base, element.name.ns, element.children, out)?;
+    push_nodes(Around { ns, ..around }, element.children, out)?;
     push_close(element.name.local, out)
 }
 
-/// Appends the markup of an element, with this base around it.
+/// Appends the markup of an element.
 #[cycle(markup)]
-#[tactic(auto, using(crate::proofs::MarkupLaws::element_laws))]
+#[tactic(auto, using(crate::proofs::MarkupLaws::element_laws, crate::proofs::MarkupLaws::base_laws))]
 fn push_element(
-    alloc: Global,
-    base: Option<&str>,
-    around: &str,
+    around: Around<'_, '_>,
     element: &Element<'_>,
     out: &mut Text,
 ) -> Result<(), NoMemory>
-    ensures { OnOk result (out.new ≡ out.old ++ element_markup (option_map (λ b. b.now) base.entry) around.now (tree_of element.now)) }
+    ensures { OnOk result (out.new ≡ out.old ++ element_markup (base_of around.entry) around.entry.ns.now (tree_of element.now)) }
 {
     if is_left_out(element) {
         return Ok(());
     }
-    match own_base(alloc, base, element)? {
-        Some(own) => push_shown(alloc, Some(own.as_str()), around, element, out),
-        None => push_shown(alloc, base, around, element, out),
+    match xml_base(element) {
+        Some(text) => push_based(around, text, element, out),
+        None => push_shown(around, element, out),
+    }
+}
+
+/// Appends the markup of an element that isn't left out and has this `xml:base`. Where no link stands in the element no base
+/// counts, and none is joined.
+#[cycle(markup)]
+#[tactic(auto, using(crate::proofs::LinkLaws::unlinked_laws))]
+fn push_based(
+    around: Around<'_, '_>,
+    text: &str,
+    element: &Element<'_>,
+    out: &mut Text,
+) -> Result<(), NoMemory>
+    ensures { OnOk result (out.new ≡ out.old
+        ++ shown_by (option_map (λ b. joined_or b text.now) (base_of around.entry)) around.entry.ns.now (tree_of element.now)) }
+{
+    match around.base {
+        Some(base) if is_linked(element) => push_joined(around, base, text, element, out),
+        _ => push_shown(
+            Around {
+                base: None,
+                ..around
+            },
+            element,
+            out,
+        ),
+    }
+}
+
+/// Appends the markup of an element that isn't left out, with this base below it, once this text is joined to it.
+#[cycle(markup)]
+fn push_joined(
+    around: Around<'_, '_>,
+    base: &ParsedBase,
+    text: &str,
+    element: &Element<'_>,
+    out: &mut Text,
+) -> Result<(), NoMemory>
+    ensures { OnOk result (out.new ≡ out.old ++ shown_by (Some (joined_or base.now text.now)) around.entry.ns.now (tree_of element.now)) }
+{
+    match base.joined(text)? {
+        Some(own) => {
+            let base = Some(&own);
+            push_shown(Around { base, ..around }, element, out)
+        }
+        None => {
+            let base = Some(base);
+            push_shown(Around { base, ..around }, element, out)
+        }
     }
 }
 
 /// Appends the markup of an element that isn't left out, with this base below it.
 #[cycle(markup)]
-fn push_shown(
-    alloc: Global,
-    base: Option<&str>,
-    around: &str,
-    element: &Element<'_>,
-    out: &mut Text,
-) -> Result<(), NoMemory>
-    ensures { OnOk result (out.new ≡ out.old
-        ++ shown_markup (is_opened_name (spec.manner (tree_of element.now).head.name))
-        (option_map (λ b. b.now) base.entry) around.now (tree_of element.now)) }
+fn push_shown(around: Around<'_, '_>, element: &Element<'_>, out: &mut Text) -> Result<(), NoMemory>
+    ensures { OnOk result (out.new ≡ out.old ++ shown_by (base_of around.entry) around.entry.ns.now (tree_of element.now)) }
 {
     if is_opened(element) {
-        return push_nodes(alloc, base, around, element.children, out);
+        return push_nodes(around, element.children, out);
     }
-    push_open(alloc, base, around, element, out)?;
-    push_rest(alloc, base, element, out)
+    push_open(around, element, out)?;
+    push_rest(around, element, out)
 }
 
-/// Appends the markup of some nodes within a namespace.
+/// Appends the markup of some nodes.
 #[cycle(markup)]
-fn push_nodes(
-    alloc: Global,
-    base: Option<&str>,
-    around: &str,
-    nodes: &[Node<'_>],
-    out: &mut Text,
-) -> Result<(), NoMemory>
-    ensures { OnOk result (out.new ≡ out.old ++ spec.markup (option_map (λ b. b.now) base.entry) around.now (nodes_of nodes.now)) }
+fn push_nodes(around: Around<'_, '_>, nodes: &[Node<'_>], out: &mut Text) -> Result<(), NoMemory>
+    ensures { OnOk result (out.new ≡ out.old ++ spec.markup (base_of around.entry) around.entry.ns.now (nodes_of nodes.now)) }
 {
     for node in nodes {
         match node {
             Node::Chars(text) => push_te(text, out)?,
-            Node::Elem(element) => push_element(alloc, base, around, element, out)?,
+            Node::Elem(element) => push_element(around, element, out)?,
         }
     }
     Ok(())
@@ -181,30 +196,58 @@ pub fn markup_as_is(
     ensures err { OnErr result (text.new ≡ text.old) }
 {
     let mut whole = Text::of(alloc, "")?;
-    push_nodes(alloc, None, start_ns, nodes, &mut whole)?;
+    let around = Around {
+        alloc,
+        base: None,
+        ns: start_ns,
+    };
+    push_nodes(around, nodes, &mut whole)?;
     text.push(whole.as_str())
 }
 
-/// Appends the markup of what the element of a spot holds, links resolved.
+/// Whether a link stands in what the element of a spot holds.
+fn holds_links(spot: &Spot<'_>) -> bool
+    ensures { result ≡ links_in (located spot.now).placed.tree.children }
+{
+    has_links(spot.element.children)
+}
+
+/// Appends the markup of what the element of a spot holds.
+fn push_held(around: Around<'_, '_>, spot: &Spot<'_>, text: &mut Text) -> Result<(), NoMemory>
+    ensures { OnOk result (text.new ≡ text.old
+        ++ spec.markup (base_of around.entry) around.entry.ns.now (located spot.now).placed.tree.children) }
+{
+    push_nodes(around, spot.element.children, text)
+}
+
+/// Appends the markup of what the element of a spot holds, links resolved. Where no link stands in it no base counts, and its
+/// base isn't asked for.
+#[tactic(auto, using(crate::proofs::LinkLaws::unlinked_laws))]
 fn push_spot(
     alloc: Global,
     spot: &Spot<'_>,
     bases: &Bases,
-    start_ns: &str,
+    ns: &str,
     text: &mut Text,
 ) -> Result<(), NoMemory>
     requires { (place_of spot.now).page < length bases.now.pages }
-    ensures { OnOk result (text.new ≡ text.old ++ spec.markup (Some (base_in bases.now.pages (located spot.now))) start_ns.now
+    ensures { OnOk result (text.new ≡ text.old ++ spec.markup (Some (base_in bases.now.pages (located spot.now))) ns.now
         (located spot.now).placed.tree.children) }
 {
-    let base = bases.of(spot)?;
-    push_nodes(
-        alloc,
-        Some(base.as_str()),
-        start_ns,
-        spot.element.children,
-        text,
-    )
+    if !holds_links(spot) {
+        let base = None;
+        return push_held(Around { alloc, base, ns }, spot, text);
+    }
+    match bases.own(spot)? {
+        Some(own) => {
+            let base = Some(&own);
+            push_held(Around { alloc, base, ns }, spot, text)
+        }
+        None => {
+            let base = Some(bases.page(spot));
+            push_held(Around { alloc, base, ns }, spot, text)
+        }
+    }
 }
 
 /// The markup of a chain within a namespace, links resolved against the bases of their elements.

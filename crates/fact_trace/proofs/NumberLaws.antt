@@ -20,11 +20,11 @@ use Rattle.ix_base.specs.Namespaces.{ix_namespace}
 use Rattle.ix_base.specs.Readers.{is_nil}
 use Rattle.ix_base.specs.Trees.{Nodes, none, chars, elem, Tree}
 use Rattle.ix_base.proofs.OnceLemmas.{Contains-cases, Contains-filter, Contains-first, Contains-later, Contains-nil}
-use Rattle.facts.specs.NumberValue.{nested_text, number_text, own_text}
+use Rattle.facts.specs.NumberValue.{nested_in, nested_text, number_text, own_text}
 use Rattle.page_tree.proofs.SpanLaws.{bytes-one}
 use Rattle.targets.proofs.UnbrokenLaws.{element-unbroken}
 use Rattle.fact_trace.specs.Held.{AreNew}
-use Rattle.fact_trace.specs.Spans.{Source, elements, nested_in, paged, said_on, source_at, spans, text_elements_as}
+use Rattle.fact_trace.specs.Spans.{Source, elements, paged, said_on, source_at, spans, text_elements_as}
 use Rattle.fact_trace.specs.Unbroken.{BreakNoRule, HaveTrees, names_of}
 use Rattle.fact_trace.proofs.SayingLaws.{items-say}
 use Rattle.fact_trace.proofs.TextLaws.{element-stands, inside}

@@ -27,9 +27,10 @@ use Rattle.std.specs.Borrow.{Bor}
 use Rattle.targets.proofs.SaidLaws.{tree-at}
 use Rattle.ix_base.proofs.OnceLemmas.{Contains-cases, Contains-first, Contains-later, Contains-nil}
 use Rattle.facts.specs.FractionValue.{part_in}
+use Rattle.facts.specs.NumberValue.{nested_in}
 use Rattle.page_tree.specs.Page.{page}
 use Rattle.fact_trace.specs.Held.{ArePagesFrom, IsText, sources_of}
-use Rattle.fact_trace.specs.Spans.{Source, elements, lying_at, nested_in, number_in, paged, part_of, source_at, text_elements, text_elements_as, there}
+use Rattle.fact_trace.specs.Spans.{Source, elements, lying_at, number_in, paged, part_of, source_at, text_elements, text_elements_as, there}
 use Rattle.fact_trace.specs.Walks.{IsOfPage}
 use Rattle.fact_trace.specs.declared.page.Page.{Page}
 use Rattle.fact_trace.proofs.ChainLaws.{all-chain}

@@ -7,8 +7,6 @@ use Rattle.ix_base.specs.declared.kind.Kind.{Kind}
 use Rattle.ix_base.specs.declared.kind.Kind.TheVariants as kind
 use Rattle.ix_base.specs.Asks.{Asks, asks}
 use Rattle.ix_base.specs.Chain.{chain}
-use Rattle.ix_base.specs.Elements.{tree_at}
-use Rattle.ix_base.specs.Holding.{is_of}
 use Rattle.ix_base.specs.Kinds.{kind_of}
 use Rattle.ix_base.specs.Located.{Located, Paged, is_item, is_nil, marked, offset_of}
 use Rattle.ix_base.specs.Namespaces.{ix_namespace}
@@ -17,6 +15,7 @@ use Rattle.ix_base.specs.Readers.{fact_name}
 use Rattle.ix_base.specs.Sorted.{sorted, text_cmp}
 use Rattle.ix_base.specs.Trees.{Named, Nodes, none, chars, elem, Tree}
 use Rattle.facts.specs.FractionValue.{part_in}
+use Rattle.facts.specs.NumberValue.{nested_in}
 use Rattle.page_tree.specs.Meanings.{meant}
 use Rattle.page_tree.specs.Reaches.{Reach, reaches}
 use Rattle.page_tree.specs.Tokens.{Token, start, close, words, refer, section}
@@ -122,14 +121,6 @@ pub record Source : Type 0 where
 pub record Lying : Type 0 where
   pub page : ℕ
   pub tree : Tree
-
--- the first nonFraction among some nodes, or the one in it
-abbrev pub nested_in : Nodes → Option Tree
-nested_in none = None
-nested_in (chars text rest) = nested_in rest
-nested_in (elem head children rest) =
-    if is_of head.name ix_namespace (codes "nonFraction") then Some (unwrap_or (nested_in children) (tree_at head children))
-    else nested_in rest
 
 abbrev pub lying_at : Located → Lying
 lying_at e = record { page = e.page; tree = e.placed.tree }

@@ -1,9 +1,6 @@
 //! The elements whose text is an item's, and where their text stands.
-ghost use Rattle.std.specs.Prelude.{◌≡◌, ◌++◌, OnOk, IfOk, codes, map, option_map, unwrap_or};
-ghost use Rattle.ix_base.specs.Holding.{is_of};
-ghost use Rattle.ix_base.specs.Namespaces.{ix_namespace};
+ghost use Rattle.std.specs.Prelude.{◌≡◌, ◌++◌, OnOk, IfOk, map};
 ghost use Rattle.ix_base.specs.Trees.{named, nodes_of, tree_of};
-ghost use Rattle.facts.specs.FractionValue as fraction;
 ghost use Rattle.fact_trace.specs.Parts.{left_out_at};
 ghost use Rattle.fact_trace.specs.Spans as spec;
 ghost use Rattle.fact_trace.specs.Spans.{element_spans, span_of};
@@ -78,53 +75,4 @@ pub(crate) fn push_element(
         }
         Move::Closes | Move::Says | Move::Passes => Ok(()),
     }
-}
-
-/// Whether an element of this name is a nonFraction.
-fn is_number(name: &Name<'_>) -> bool
-    ensures { result ≡ is_of (named name.now) ix_namespace (codes "nonFraction") }
-{
-    is_ix(name) && name.local == "nonFraction"
-}
-
-/// The nonFraction whose text is that of a nonFraction: itself, or the innermost in it.
-pub(crate) fn innermost<'a>(e: &'a Element<'a>) -> &'a Element<'a>
-    ensures { tree_of result.now ≡ unwrap_or (spec.nested_in (tree_of e.entry.now).children) (tree_of e.entry.now) }
-{
-    for node in e.children {
-        let Node::Elem(below) = node else {
-            continue;
-        };
-        if is_number(&below.name) {
-            return innermost(below);
-        }
-    }
-    e
-}
-
-/// The part of a fraction that has this local name and stands among some nodes.
-#[cycle(part)]
-pub(crate) fn part_in<'a>(local: &str, nodes: &'a [Node<'a>]) -> Option<&'a Element<'a>>
-    ensures { option_map (λ e. tree_of e.now) result ≡ fraction.part_in local.now (nodes_of nodes.entry.now) }
-{
-    for node in nodes {
-        let Node::Elem(below) = node else {
-            continue;
-        };
-        if let Some(part) = part_at(local, below) {
-            return Some(part);
-        }
-    }
-    None
-}
-
-/// The same of one element: itself, or what it holds.
-#[cycle(part)]
-fn part_at<'a>(local: &str, e: &'a Element<'a>) -> Option<&'a Element<'a>>
-    ensures { option_map (λ e. tree_of e.now) result ≡ fraction.part_at local.now (tree_of e.entry.now) }
-{
-    if !is_ix(&e.name) {
-        return part_in(local, e.children);
-    }
-    if e.name.local == local { Some(e) } else { None }
 }

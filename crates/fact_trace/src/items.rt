@@ -13,11 +13,12 @@ ghost use Rattle.fact_trace.specs.Spans as spec;
 ghost use Rattle.fact_trace.specs.Spans.{elements, lying_at, number_in, part_of, source_at, spans_in, text_elements};
 ghost use Rattle.fact_trace.specs.Held.{ArePagesFrom, IsText, sources_of};
 
-use crate::elements::{innermost, part_in, push_element};
+use crate::elements::push_element;
 use crate::page::Page;
 use crate::span::{Span, Traced};
 use continuations::Chains;
 use fact_view::fact_name;
+use facts::{innermost, part_in};
 use ix_base::{Element, Kind, List, Name, NoMemory, OwnName, Spot, Text, kind_of};
 use std::alloc::Global;
 use value_forms::is_nil;

@@ -3,10 +3,11 @@ use Rattle.std.specs.Prelude.{◌≡◌, ℕ, ℤ, Bool, true, false, List, [], 
 use Rattle.ix_base.specs.declared.rule.Rule.{Rule}
 use Rattle.ix_base.specs.declared.rule.Rule.TheVariants.{V3, V4}
 use Rattle.ix_base.specs.Decimals.{IsUnsigned}
+use Rattle.ix_base.specs.Elements.{tree_at}
 use Rattle.ix_base.specs.Holding.{is_of}
 use Rattle.ix_base.specs.Namespaces.{ix_namespace}
 use Rattle.ix_base.specs.Token.{token_of}
-use Rattle.ix_base.specs.Trees.{Named, Nodes, none, chars, elem}
+use Rattle.ix_base.specs.Trees.{Named, Nodes, none, chars, elem, Tree}
 use Rattle.ix_base.specs.Viewed.{View}
 use Rattle.scale_sign.specs.Scaled.{IsNumber}
 use Rattle.facts.specs.Formats.{IsFormat, Transforms, gives_number}
@@ -30,6 +31,14 @@ nested_text (elem head children rest) =
 -- the text of a nonFraction that holds these nodes: that of the nonFraction in it, or else its own
 abbrev pub number_text : Nodes → List ℕ
 number_text nodes = unwrap_or (nested_text nodes) (own_text nodes)
+
+-- the first nonFraction among some nodes, or the one in it
+abbrev pub nested_in : Nodes → Option Tree
+nested_in none = None
+nested_in (chars text rest) = nested_in rest
+nested_in (elem head children rest) =
+    if is_of head.name ix_namespace (codes "nonFraction") then Some (unwrap_or (nested_in children) (tree_at head children))
+    else nested_in rest
 
 -- what the element of a number says of it, and its text
 pub record Number : Type 0 where

@@ -13,7 +13,7 @@ use std::cmp::Ordering;
 
 /// The part of a fraction that has this local name and stands among some nodes.
 #[cycle(part)]
-fn part_in<'a>(local: &str, nodes: &'a [Node<'a>]) -> Option<&'a Element<'a>>
+pub fn part_in<'a>(local: &str, nodes: &'a [Node<'a>]) -> Option<&'a Element<'a>>
     ensures { option_map (λ e. tree_of e.now) result ≡ spec.part_in local.now (nodes_of nodes.entry.now) }
 {
     for node in nodes {

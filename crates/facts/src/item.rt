@@ -22,12 +22,12 @@ use crate::format::text_in;
 use crate::fraction::fraction_value;
 use crate::number::nested_value;
 use escape_text::{markup, plain};
-use fact_view::{fact_name, view};
+use fact_view::fact_name;
 use ix_base::namespaces::XHTML;
 use ix_base::{Element, Item, Kind, Name, NoMemory, OwnName, Spot, Text, Value, kind_of, token_at};
-use scopes::Bases;
+use scopes::{Bases, name_at};
 use std::alloc::Global;
-use value_forms::is_nil;
+use value_forms::{escapes, is_nil};
 
 /// The plain text of a chain.
 fn plain_of(alloc: Global, chain: &[&Spot<'_>]) -> Result<Text, NoMemory>
@@ -97,16 +97,16 @@ fn plain_value(text: Result<Text, ItemFault>) -> Result<Value, ItemFault>
 /// The value of a nonNumeric that isn't nil.
 fn nonnumeric_value(
     alloc: Global,
-    spot: &Spot<'_>,
+    e: &Element<'_>,
     chain: &[&Spot<'_>],
     bases: &Bases,
 ) -> Result<Value, ItemFault>
     requires { All (λ s. (place_of s.now).page < length bases.now.pages) chain.now }
-    ensures { IfSome (said result) (spec.IsPlain (spec.IsTextBy (viewed.view (placed spot.now).tree).format
-        (text_along (base_in bases.now.pages) (viewed.view (placed spot.now).tree).escape (map (λ s. located s.now) chain.now)))) }
+    ensures { IfSome (said result) (spec.IsPlain (spec.IsTextBy (viewed.view (tree_of e.now)).format
+        (text_along (base_in bases.now.pages) (viewed.view (tree_of e.now)).escape (map (λ s. located s.now) chain.now)))) }
 {
-    let seen = view(spot);
-    plain_value(text_value(alloc, chain, bases, seen.escape, seen.format))
+    let format = name_at(e, "format");
+    plain_value(text_value(alloc, chain, bases, escapes(e), format))
 }
 
 /// The value of a nonFraction that isn't nil.
@@ -131,7 +131,7 @@ fn value_as(
         (placed spot.now).tree) }
 {
     match kind {
-        Kind::NonNumeric => nonnumeric_value(alloc, spot, chain, bases),
+        Kind::NonNumeric => nonnumeric_value(alloc, spot.element, chain, bases),
         Kind::Fraction => fraction_value(alloc, spot.element),
         _ => nonfraction_value(alloc, spot.element),
     }
@@ -209,20 +209,16 @@ fn item_with(alloc: Global, kind: Kind, e: &Element<'_>, value: Value) -> Result
     })
 }
 
-/// What an item over a chain says, or the lowest rule of values that it breaks.
-fn item_over(
+/// What an item of this value says. Where the value breaks a rule, the item breaks it.
+fn item_by(
     alloc: Global,
     spot: &Spot<'_>,
-    chain: &[&Spot<'_>],
-    bases: &Bases,
+    value: Result<Value, ItemFault>,
 ) -> Result<Item, ItemFault>
-    requires { All (λ s. (place_of s.now).page < length bases.now.pages) chain.now }
-    ensures { IfSome (said result) (spec.IsItemOf
-        (text_along (base_in bases.now.pages) (viewed.view (placed spot.now).tree).escape (map (λ s. located s.now) chain.now))
-        (placed spot.now)) }
+    ensures { (text : spec.ItemText) → IfSome (said value) (spec.IsValueOf text (placed spot.now))
+        → IfSome (said result) (spec.IsItemOf text (placed spot.now)) }
 {
-    let value = value_of(alloc, spot, chain, bases)?;
-    Ok(item_with(alloc, kind_of(spot), spot.element, value)?)
+    Ok(item_with(alloc, kind_of(spot), spot.element, value?)?)
 }
 
 /// What an item of a set says, or the lowest rule of values that it breaks.
@@ -242,5 +238,6 @@ pub fn item_of(
         → (is_kind kinds.NonNumeric (located spot.now) ≡ true → map (λ s. located s.now) chain.now ≡ chains.chain a (located spot.now))
         → IfSome (said result) (spec.IsItem (base_in bases.now.pages) a (located spot.now)) }
 {
-    item_over(alloc, spot, chain, bases)
+    let value = value_of(alloc, spot, chain, bases);
+    item_by(alloc, spot, value)
 }

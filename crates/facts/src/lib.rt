@@ -11,5 +11,7 @@ mod links;
 mod number;
 
 pub use fault::ItemFault;
+pub use fraction::part_in;
 pub use item::item_of;
 pub use links::refs_of;
+pub use number::innermost;

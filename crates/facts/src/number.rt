@@ -1,5 +1,5 @@
 //! The values of numbers.
-ghost use Rattle.std.specs.Prelude.{◌≡◌, ◌+◌, ◌≤◌, Some, None, IfOk, IfSome, codes, length, option_map, unsigned_abs};
+ghost use Rattle.std.specs.Prelude.{◌≡◌, ◌+◌, ◌≤◌, Some, None, IfOk, IfSome, codes, length, option_map, unsigned_abs, unwrap_or};
 ghost use Rattle.ix_base.specs.Decimals.{IsUnsigned};
 ghost use Rattle.ix_base.specs.Holding.{is_of};
 ghost use Rattle.ix_base.specs.Namespaces.{ix_namespace};
@@ -37,8 +37,9 @@ fn is_number(name: &Name) -> bool
 }
 
 /// The nonFraction whose own text is that of a nonFraction: itself, or the innermost in it.
-fn innermost<'a>(e: &'a Element<'a>) -> &'a Element<'a>
-    ensures { spec.own_text (tree_of result.now).children ≡ spec.number_text (tree_of e.entry.now).children }
+pub fn innermost<'a>(e: &'a Element<'a>) -> &'a Element<'a>
+    ensures tree { tree_of result.now ≡ unwrap_or (spec.nested_in (tree_of e.entry.now).children) (tree_of e.entry.now) }
+    ensures text { spec.own_text (tree_of result.now).children ≡ spec.number_text (tree_of e.entry.now).children }
 {
     for node in e.children {
         let Node::Elem(below) = node else {

@@ -3,7 +3,7 @@ use Rattle.std.proofs.Common.{◌≡◌, ◌∙◌, ◌++◌, ◌+◌, ◌<◌, 
 use Rattle.std.proofs.lemmas.List.Elements.{All-head, All-tail}
 use Rattle.std.proofs.lemmas.Slice.Eq.{bytes_eq-Decides}
 use Rattle.std.specs.Borrow.{Bor}
-use Rattle.std.specs.List.{All, Contains}
+use Rattle.std.specs.List.{All, Contains, filter_map}
 use Rattle.std.specs.Prelude.{bytes_eq, if◌then◌else◌}
 use Rattle.ix_base.specs.declared.tree.Spot.{Spot}
 use Rattle.ix_base.specs.Located.{Located, located}
@@ -31,6 +31,11 @@ called-more id name xs i s old new h e l n k =
     kept-by (bytes_eq id (label (located s.now))) s old new (last_called id (all_located (take i xs)) None) (n ∙ ap (λ t. cond (bytes_eq id t) (Some s) old) l) k
     ∙ sym (last-more id (all_located (take i xs)) (located s.now) None)
     ∙ ap (λ l. last_called id l None) (sym (located-take xs i s h e))
+
+-- what is made of the elements that are found for some names
+pub filter_map-called : {Y : Type 0} (f : Located → Y) (at : List ℕ → Option Located) (es : List Located) (names ids : List (List ℕ))
+    → ((id : List ℕ) → at id ≡ last_called id es None) → ids ≡ names → map f (filter_map at ids) ≡ map f (filter_map (λ id. last_called id es None) names)
+filter_map-called f at es names ids h e = λ i. map f (filter_map (λ id. h id i) (e i))
 
 -- of elements one of which is called so, the last that is
 module _ (Q : Located → Type 0) (id : List ℕ) where

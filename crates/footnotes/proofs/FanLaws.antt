@@ -2,6 +2,7 @@
 use Rattle.std.proofs.Common.{◌≡◌, ◌∙◌, ◌++◌, ◌+◌, ◌<◌, ℕ, Bool, true, false, cond, List, [], ◌∷◌, length, take, get_or, map, refl, sym, ap, Option, Some, None, option_map, append-nil, append_assoc}
 use Rattle.std.proofs.lemmas.List.{take_more}
 use Rattle.std.proofs.lemmas.List.Concat.{flat_map-append}
+use Rattle.std.proofs.lemmas.Map.Made.{lookup-map_values}
 use Rattle.std.proofs.lemmas.List.Elements.{filter-append, All-head, All-tail}
 use Rattle.std.specs.Prelude.{bytes_eq, Vec}
 use Rattle.std.specs.Borrow.{Bor}
@@ -9,7 +10,7 @@ use Rattle.std.specs.Global.{Global}
 use Rattle.std.specs.List.{All, filter, flat_map}
 use Rattle.std.specs.Map.{lookup}
 use Rattle.std.specs.Option.{option_map_or}
-use Rattle.indexmap.specs.IndexMap.{IndexMap}
+use Rattle.text_map.specs.Texts.{Texts}
 use Rattle.ix_base.specs.Asks.{Asks, asks}
 use Rattle.ix_base.specs.LinkRules.{is_relationship, target_of}
 use Rattle.ix_base.specs.Located.{Located, located}
@@ -91,22 +92,11 @@ more-arcs q rs i x h e =
     ∙ flat_map-append (relation_arcs q) (take i rs) (x ∷ [])
     ∙ ap (λ l. flat_map (relation_arcs q) (take i rs) ++ l) (append-nil (relation_arcs q x))
 
-found-by : (b : Bool) (v : Vec Fan Global) (p : Option (List Between)) (q : Option (Vec Fan Global))
-    → p ≡ option_map (λ (w : Vec Fan Global). arcs_along w.items) q
-    → cond b (Some (arcs_along v.items)) p ≡ option_map (λ (w : Vec Fan Global). arcs_along w.items) (cond b (Some v) q)
-found-by true v p q h = refl
-found-by false v p q h = h
-
-lookup-texts : (id : List ℕ) (es : List (Bor (List ℕ) × Vec Fan Global))
-    → lookup (bytes_eq id) (map (λ e. (e.0.now, arcs_along e.1.items)) es) ≡ option_map (λ (w : Vec Fan Global). arcs_along w.items) (lookup (λ k. bytes_eq id k.now) es)
-lookup-texts id [] = refl
-lookup-texts id (e ∷ es) = found-by (bytes_eq id e.0.now) e.1 _ _ (lookup-texts id es)
-
 arcs-of : (o : Option (Vec Fan Global))
     → option_map_or (λ (xs : List Between). xs) (option_map (λ (w : Vec Fan Global). arcs_along w.items) o) [] ≡ arcs_along (option_map_or (λ (w : Vec Fan Global). w.items) o [])
 arcs-of None = refl
 arcs-of (Some v) = refl
 
 -- the arcs in a target, by a table of fans
-pub kept-is : {S : Type 0} (m : IndexMap (Bor (List ℕ)) (Vec Fan Global) S) (target : List ℕ) → arcs_at (arcs_kept m) target ≡ arcs_along (fans_at m target)
-kept-is m target = ap (λ o. option_map_or (λ (xs : List Between). xs) o []) (lookup-texts target m.entries) ∙ arcs-of (lookup (λ k. bytes_eq target k.now) m.entries)
+pub kept-is : (m : Texts (Vec Fan Global)) (target : List ℕ) → arcs_at (arcs_kept m) target ≡ arcs_along (fans_at m target)
+kept-is m target = ap (λ o. option_map_or (λ (xs : List Between). xs) o []) (lookup-map_values (λ (w : Vec Fan Global). arcs_along w.items) (bytes_eq target) m) ∙ arcs-of (lookup (bytes_eq target) m)

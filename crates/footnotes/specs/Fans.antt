@@ -1,9 +1,7 @@
 -- Fans: the arcs of a relationship that go from one fact.
-use Rattle.std.specs.Prelude.{ℕ, ◌≡◌, List, [], map, flat_map, filter, bytes_eq, Vec}
-use Rattle.std.specs.Borrow.{Bor}
+use Rattle.std.specs.Prelude.{ℕ, ◌≡◌, List, map, flat_map, filter, bytes_eq, Vec}
 use Rattle.std.specs.Global.{Global}
-use Rattle.std.specs.Option.{option_map_or}
-use Rattle.indexmap.specs.IndexMap.{IndexMap, get_by}
+use Rattle.text_map.specs.Texts.{Texts, items_in}
 use Rattle.ix_base.specs.Located.{Located, located}
 use Rattle.id_table.specs.Tables.{all_located}
 use Rattle.ix_base.specs.LinkRules.{target_of}
@@ -28,8 +26,8 @@ abbrev pub arcs_along : List Fan → List Between
 arcs_along fans = flat_map fan_arcs fans
 
 -- the fans at a text
-abbrev pub fans_at : {S : Type 0} → IndexMap (Bor (List ℕ)) (Vec Fan Global) S → List ℕ → List Fan
-fans_at m q = option_map_or (λ v. v.items) (get_by (λ k. bytes_eq q k.now) m) []
+abbrev pub fans_at : Texts (Vec Fan Global) → List ℕ → List Fan
+fans_at m q = items_in m q
 
 -- what a relationship says of each of its arcs
 pub record IsTieOf (r : Located) (t : Tie) : Type 0 where

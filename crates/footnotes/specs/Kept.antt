@@ -1,11 +1,10 @@
 -- What is to be known of the relations of a set: its arcs, with their targets.
 use Rattle.std.specs.Prelude.{ℕ, ◌≡◌, true, List, [], map, bytes_eq, Vec, Contains, IfSome, All, ◌<◌, refl}
-use Rattle.std.specs.Borrow.{Bor}
 use Rattle.std.specs.Coded.{Coded, code_by, coded×, coded_ℕ, coded_list}
 use Rattle.std.specs.Global.{Global}
 use Rattle.std.specs.Map.{lookup}
 use Rattle.std.specs.Option.{option_map_or}
-use Rattle.indexmap.specs.IndexMap.{IndexMap}
+use Rattle.text_map.specs.Texts.{Texts}
 use Rattle.ix_base.specs.declared.content.Arc.{Arc}
 use Rattle.ix_base.specs.Located.{Located, is_start}
 use Rattle.id_table.specs.HeldCodes.{located_code}
@@ -31,8 +30,8 @@ abbrev pub AreOnPages : List ((ℕ × ℕ) × List Located) → ℕ → Type 0
 AreOnPages chains pages = (page offset : ℕ) → IfSome (chain_at chains page offset) (All (λ e. e.page < pages))
 
 -- what a table from targets to fans says
-abbrev pub arcs_kept : {S : Type 0} → IndexMap (Bor (List ℕ)) (Vec Fan Global) S → List (List ℕ × List Between)
-arcs_kept m = map (λ e. (e.0.now, arcs_along e.1.items)) m.entries
+abbrev pub arcs_kept : Texts (Vec Fan Global) → List (List ℕ × List Between)
+arcs_kept m = map (λ e. (e.0, arcs_along e.1.items)) m
 
 -- codes by which proofs tell relations apart
 abbrev pub arc_code : Coded Arc

@@ -3,7 +3,7 @@ use Rattle.std.specs.Prelude.{ℕ, List, [], ◌∷◌, map, flat_map, filter, O
 use Rattle.std.specs.Borrow.{Bor}
 use Rattle.std.specs.List.{filter_map}
 use Rattle.std.specs.Option.{option_map_or}
-use Rattle.indexmap.specs.IndexMap.{IndexMap, get_by}
+use Rattle.text_map.specs.Texts.{Texts, get_in}
 use Rattle.ix_base.specs.declared.content.Footnote.{Footnote}
 use Rattle.ix_base.specs.declared.content.NoteLink.{NoteLink}
 use Rattle.ix_base.specs.declared.tree.Spot.{Spot}
@@ -24,8 +24,8 @@ last_called id [] found = found
 last_called id (e ∷ es) found = last_called id es (if bytes_eq id (label e) then Some e else found)
 
 -- the element that is kept for a name
-abbrev pub kept_at : {S : Type 0} → IndexMap (Bor (List ℕ)) (Bor Spot) S → List ℕ → Option (Bor Spot)
-kept_at m id = get_by (λ k. bytes_eq id k.now) m
+abbrev pub kept_at : Texts (Bor Spot) → List ℕ → Option (Bor Spot)
+kept_at m id = get_in m id
 
 -- the chain that is kept for an element
 abbrev pub chain_kept : List ((ℕ × ℕ) × List Located) → Located → List Located

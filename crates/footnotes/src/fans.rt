@@ -1,5 +1,5 @@
 //! Fans: the arcs of a relationship that go from one fact.
-ghost use Rattle.std.specs.Prelude.{◌≡◌, ◌++◌, ◌∷◌, [], ℕ, List, OnOk, IfOk, All, filter, bytes_eq, if◌then◌else◌};
+ghost use Rattle.std.specs.Prelude.{◌≡◌, ◌++◌, ◌∷◌, [], ℕ, List, OnOk, IfOk, All, filter};
 ghost use Rattle.ix_base.specs.LinkRules as rules_of;
 ghost use Rattle.ix_base.specs.Located.{located};
 ghost use Rattle.id_table.specs.Held.{asked};
@@ -13,9 +13,9 @@ use crate::order::canonical_order;
 use crate::relation::Relation;
 use bumpalo::Bump;
 use id_table::Index;
-use indexmap::IndexMap;
 use ix_base::{NoMemory, Spot, token_at};
 use std::alloc::Global;
+use text_map::TextMap;
 
 /// What a relationship says of each of its arcs. The order is canonical.
 #[derive(Clone, Copy)]
@@ -34,7 +34,7 @@ pub(crate) struct Fan<'a> {
 }
 
 /// Fans by targets, or by roles.
-pub(crate) type Fans<'a> = IndexMap<&'a str, Vec<Fan<'a>>>;
+pub(crate) type Fans<'a> = TextMap<'a, Vec<Fan<'a>>>;
 
 /// The role of links that name none.
 const LINK_ROLE: &str = "http://www.xbrl.org/2003/role/link";
@@ -87,23 +87,8 @@ fn tie_of<'a>(alloc: Global, arena: &'a Bump, spot: &Spot<'a>) -> Result<Tie<'a>
     }
 }
 
-/// Enters a fan at a text, behind those that are there.
-pub(crate) fn enter<'a>(
-    alloc: Global,
-    fans: &mut Fans<'a>,
-    key: &'a str,
-    fan: Fan<'a>,
-) -> Result<(), NoMemory>
-    ensures { OnOk result ((q : List ℕ) → fans_at fans.new q
-        ≡ (if bytes_eq q key.entry.now then fans_at fans.old q ++ fan.entry ∷ [] else fans_at fans.old q)) }
-{
-    fans.entry(key)?.or_insert(Vec::new(alloc)).push(fan)?;
-    Ok(())
-}
-
 /// Enters the fan from a fact at the target of this.
 fn enter_from<'a>(
-    alloc: Global,
     relation: &Relation<'a>,
     tie: Tie<'a>,
     source: &'a Spot<'a>,
@@ -118,22 +103,17 @@ fn enter_from<'a>(
         from: source,
         ends: relation.ends.spots,
     };
-    enter(alloc, fans, target_at(source), fan)
+    fans.push_at(target_at(source), fan)
 }
 
 /// Enters the fans of a relationship, each at the target of its fact.
-fn enter_all<'a>(
-    alloc: Global,
-    relation: &Relation<'a>,
-    tie: Tie<'a>,
-    fans: &mut Fans<'a>,
-) -> Result<(), NoMemory>
+fn enter_all<'a>(relation: &Relation<'a>, tie: Tie<'a>, fans: &mut Fans<'a>) -> Result<(), NoMemory>
     requires { IsTieOf (seen relation.now) tie }
     ensures { OnOk result ((q : List ℕ) → arcs_along (fans_at fans.new q) ≡ arcs_along (fans_at fans.old q)
         ++ arcs_from (seen relation.now) (all_located relation.now.ends.spots.now) q (all_located relation.now.sources.spots.now)) }
 {
     for source in relation.sources.spots {
-        enter_from(alloc, relation, tie, *source, fans)?;
+        enter_from(relation, tie, *source, fans)?;
     }
     Ok(())
 }
@@ -149,10 +129,10 @@ pub(crate) fn fans_of<'a>(
     requires known { All (IsKnown (asked index.now)) relations.now }
     ensures { IfOk result (λ m. (q : List ℕ) → arcs_along (fans_at m q) ≡ spec.arcs_in index.now.spots q) }
 {
-    let mut fans = IndexMap::new(alloc);
+    let mut fans = TextMap::new(alloc);
     for relation in relations {
         let tie = tie_of(alloc, arena, relation.spot)?;
-        enter_all(alloc, relation, tie, &mut fans)?;
+        enter_all(relation, tie, &mut fans)?;
     }
     Ok(fans)
 }

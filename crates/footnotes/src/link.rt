@@ -1,5 +1,5 @@
 //! The footnote link of a role.
-ghost use Rattle.std.specs.Prelude.{◌≡◌, ◌++◌, ◌∷◌, [], ℕ, List as Items, Some, None, OnOk, IfOk, map, filter, option_map, length, bytes_eq, if◌then◌else◌};
+ghost use Rattle.std.specs.Prelude.{◌≡◌, ◌++◌, ◌∷◌, [], ℕ, List as Items, Some, None, OnOk, IfOk, map, filter, option_map, length};
 ghost use Rattle.std.specs.List.{filter_map};
 ghost use Rattle.ix_base.specs.LinkRules as rules_of;
 ghost use Rattle.ix_base.specs.Located as kinds;
@@ -18,13 +18,13 @@ use crate::footnote::footnote_of;
 use crate::kinds::{is_fact, is_footnote, label_of};
 use crate::texts::copies_of;
 use continuations::Chains;
-use indexmap::IndexMap;
 use ix_base::{Footnote, List, NoMemory, NoteLink, Spot, Text, each_once};
 use scopes::Bases;
 use std::alloc::Global;
+use text_map::TextMap;
 
 /// Elements by their ids.
-type Called<'a> = IndexMap<&'a str, &'a Spot<'a>>;
+type Called<'a> = TextMap<'a, &'a Spot<'a>>;
 
 /// Adds the id of an element at the end, where it is a fact.
 fn push_if_fact<'a>(spot: &Spot<'a>, ids: &mut Vec<&'a str>) -> Result<(), NoMemory>
@@ -110,23 +110,14 @@ fn ids_of<'a>(alloc: Global, spots: &[&'a Spot<'a>]) -> Result<Vec<&'a str>, NoM
     Ok(ids)
 }
 
-/// Keeps an element for an id, in the place of another.
-fn call<'a>(called: &mut Called<'a>, id: &'a str, spot: &'a Spot<'a>) -> Result<(), NoMemory>
-    ensures { OnOk result ((q : Items ℕ) → kept_at called.new q
-        ≡ (if bytes_eq q id.entry.now then Some spot.entry else kept_at called.old q)) }
-{
-    called.insert(id, spot)?;
-    Ok(())
-}
-
 /// Some elements by their ids.
 fn called_of<'a>(alloc: Global, spots: &[&'a Spot<'a>]) -> Result<Called<'a>, NoMemory>
     ensures { IfOk result (λ m. (id : Items ℕ) → option_map (λ s. located s.now) (kept_at m id)
         ≡ last_called id (all_located spots.now) None) }
 {
-    let mut called = IndexMap::new(alloc);
+    let mut called = TextMap::new(alloc);
     for spot in spots {
-        call(&mut called, label_of(spot), *spot)?;
+        called.insert(label_of(spot), *spot)?;
     }
     Ok(called)
 }

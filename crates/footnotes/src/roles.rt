@@ -5,10 +5,9 @@ ghost use Rattle.footnotes.specs.Fans.{arcs_along, fans_at};
 ghost use Rattle.footnotes.specs.Kept.{AreOnPages};
 ghost use Rattle.footnotes.specs.Linked.{link_by, links_by, note_in, role_by, roles_along, texts_of};
 
-use crate::fans::{Fan, Fans, enter};
+use crate::fans::{Fan, Fans};
 use crate::link::link_of;
 use continuations::Chains;
-use indexmap::IndexMap;
 use ix_base::{List, NoMemory, NoteLink, each_once};
 use scopes::Bases;
 use std::alloc::Global;
@@ -17,9 +16,9 @@ use std::alloc::Global;
 fn by_role<'a>(alloc: Global, fans: &[Fan<'a>]) -> Result<Fans<'a>, NoMemory>
     ensures { IfOk result (λ m. (q : Items ℕ) → fans_at m q ≡ filter (λ f. bytes_eq q f.tie.role.now) fans.now) }
 {
-    let mut groups = IndexMap::new(alloc);
+    let mut groups = Fans::new(alloc);
     for fan in fans {
-        enter(alloc, &mut groups, fan.tie.role, *fan)?;
+        groups.push_at(fan.tie.role, *fan)?;
     }
     Ok(groups)
 }

@@ -7,7 +7,6 @@ use Rattle.std.specs.Global.{Global}
 use Rattle.std.specs.List.{Contains, filter, flat_map}
 use Rattle.std.specs.Option.{IfSome, option_map_or}
 use Rattle.std.specs.Map.{lookup}
-use Rattle.indexmap.specs.IndexMap.{IndexMap}
 use Rattle.ix_base.specs.declared.tree.Spot.{Spot}
 use Rattle.ix_base.specs.declared.rule.Rule.TheVariants.{L1}
 use Rattle.ix_base.specs.Asks.{only, asks, are_many, if_such}
@@ -19,6 +18,7 @@ use Rattle.ix_base.specs.Located.{Located, located}
 use Rattle.ix_base.specs.Rows.{row}
 use Rattle.ix_base.specs.Spots.{IsOnOnePage}
 use Rattle.ix_base.proofs.OnceLemmas.{Contains-nil, Contains-first, Contains-later, Contains-cases}
+use Rattle.text_map.specs.Texts.{Texts}
 use Rattle.id_table.specs.declared.entries.Entry.{Entry}
 use Rattle.id_table.specs.Held.{AreChosen, Held, IsHolder, IsOfOthers, asked, chosen, chosen_in, doubled_at, one_held, repeats_held}
 use Rattle.id_table.specs.Tables.{AreChoicesOnPages, AreHolders, AreOnOwnPages, HasEntries, all_located, choice_at, choice_of, choices_of, entries_at, entry_for}
@@ -27,26 +27,26 @@ use Rattle.id_table.proofs.OnPages.{only-All}
 
 -- Choices.
 
-choices-found : (es : List (Bor (List ℕ) × Bor Spot)) (q : List ℕ)
-    → chosen_in (map choice_of es) q ≡ option_map (λ s. located s.now) (lookup (λ k. bytes_eq q k.now) es)
+choices-found : (es : Texts (Bor Spot)) (q : List ℕ)
+    → chosen_in (map choice_of es) q ≡ option_map (λ s. located s.now) (lookup (bytes_eq q) es)
 choices-found [] q = refl
-choices-found (e ∷ es) q = by (bytes_eq q e.0.now) (choices-found es q)
+choices-found (e ∷ es) q = by (bytes_eq q e.0) (choices-found es q)
   where
-    by : (b : Bool) → chosen_in (map choice_of es) q ≡ option_map (λ s. located s.now) (lookup (λ k. bytes_eq q k.now) es)
-        → cond b (Some (located e.1.now)) (chosen_in (map choice_of es) q) ≡ option_map (λ s. located s.now) (cond b (Some e.1) (lookup (λ k. bytes_eq q k.now) es))
+    by : (b : Bool) → chosen_in (map choice_of es) q ≡ option_map (λ s. located s.now) (lookup (bytes_eq q) es)
+        → cond b (Some (located e.1.now)) (chosen_in (map choice_of es) q) ≡ option_map (λ s. located s.now) (cond b (Some e.1) (lookup (bytes_eq q) es))
     by true h = refl
     by false h = h
 
 -- what is seen of the choices is what is kept
-pub chosen-kept : {S : Type 0} (m : IndexMap (Bor (List ℕ)) (Bor Spot) S) (q : List ℕ) → chosen_in (choices_of m) q ≡ option_map (λ s. located s.now) (choice_at m q)
-chosen-kept m q = choices-found m.entries q
+pub chosen-kept : (m : Texts (Bor Spot)) (q : List ℕ) → chosen_in (choices_of m) q ≡ option_map (λ s. located s.now) (choice_at m q)
+chosen-kept m q = choices-found m q
 
 some-of : {X Y : Type 0} (f : X → Y) (o : Option X) (y : Y) → option_map f o ≡ Some y → (x : X) × (o ≡ Some x) × (f x ≡ y)
 some-of f None y e = absurd (let z : None ≡ Some y = e in cc)
 some-of f (Some x) y e = (x, refl, (let z : Some (f x) ≡ Some y = e in cc))
 
 -- each that is seen is a holder
-pub holders-seen : {S : Type 0} (m : IndexMap (Bor (List ℕ)) (Bor Spot) S) (es : List Located) → AreHolders m es
+pub holders-seen : (m : Texts (Bor Spot)) (es : List Located) → AreHolders m es
     → (q : List ℕ) (c : Located) → chosen_in (choices_of m) q ≡ Some c → IsHolder es q c
 holders-seen m es h q c e =
     let s = some-of (λ (x : Bor Spot). located x.now) (choice_at m q) c (sym (chosen-kept m q) ∙ e) in
@@ -56,14 +56,14 @@ holders-seen m es h q c e =
 pub holder-more : (es more : List Located) (q : List ℕ) (c : Located) → IsHolder es q c → IsHolder (es ++ more) q c
 holder-more es more q c h = record { there = Contains-append_left es more c h.there; holds = h.holds; part = h.part }
 
-pub holders-more : {S : Type 0} (m : IndexMap (Bor (List ℕ)) (Bor Spot) S) (es more now : List Located) → now ≡ es ++ more → AreHolders m es → AreHolders m now
+pub holders-more : (m : Texts (Bor Spot)) (es more now : List Located) → now ≡ es ++ more → AreHolders m es → AreHolders m now
 holders-more m es more now e h q s g = subst (λ l. IsHolder l q (located s.now)) (sym e) (holder-more es more q (located s.now) (h q s g))
 
 is-none : {X : Type 0} (o : Option X) (x : X) → o ≡ None → o ≡ Some x → ⊥
 is-none o x a b = let z : None ≡ Some x = sym a ∙ b in cc
 
 -- the choice for an id is set or taken away
-pub holders-set : {S : Type 0} (m n : IndexMap (Bor (List ℕ)) (Bor Spot) S) (es : List Located) (id : List ℕ) (choice : Option (Bor Spot))
+pub holders-set : (m n : Texts (Bor Spot)) (es : List Located) (id : List ℕ) (choice : Option (Bor Spot))
     → AreHolders m es → IfSome choice (λ s. IsHolder es id (located s.now))
     → ((q : List ℕ) → choice_at n q ≡ cond (bytes_eq q id) choice (choice_at m q)) → ((q p : List ℕ) → bytes_eq q p ≡ true → p ≡ q) → AreHolders n es
 holders-set m n es id choice h c e same q s g = by (bytes_eq q id) refl (sym (e q) ∙ g)
@@ -77,7 +77,7 @@ holders-set m n es id choice h c e same q s g = by (bytes_eq q id) refl (sym (e 
     by false b f = h q s f
 
 -- all that stands above the choices stays of their pages
-pub pages-set : {S : Type 0} (m n : IndexMap (Bor (List ℕ)) (Bor Spot) S) (id : List ℕ) (choice : Option (Bor Spot))
+pub pages-set : (m n : Texts (Bor Spot)) (id : List ℕ) (choice : Option (Bor Spot))
     → AreChoicesOnPages m → IfSome choice (λ s. IsOnOnePage s.now)
     → ((q : List ℕ) → choice_at n q ≡ cond (bytes_eq q id) choice (choice_at m q)) → AreChoicesOnPages n
 pages-set m n id choice h c e q s g = by (bytes_eq q id) (sym (e q) ∙ g)
@@ -90,23 +90,23 @@ pages-set m n id choice h c e q s g = by (bytes_eq q id) (sym (e q) ∙ g)
     by true f = chosen-by choice c f
     by false f = h q s f
 
-pub choice-on_page : {S : Type 0} (m : IndexMap (Bor (List ℕ)) (Bor Spot) S) → AreChoicesOnPages m → (q : List ℕ) (o : Option (Bor Spot)) → o ≡ choice_at m q
+pub choice-on_page : (m : Texts (Bor Spot)) → AreChoicesOnPages m → (q : List ℕ) (o : Option (Bor Spot)) → o ≡ choice_at m q
     → IfSome o (λ s. IsOnOnePage s.now)
 choice-on_page m h q None e = tt
 choice-on_page m h q (Some s) e = h q s (sym e)
 
 -- an index without a choice
-pub no-pages : {S : Type 0} (m : IndexMap (Bor (List ℕ)) (Bor Spot) S) → m.entries ≡ [] → AreChoicesOnPages m
-no-pages m e q s g = absurd (is-none (lookup (λ (k : Bor (List ℕ)). bytes_eq q k.now) m.entries) s (ap (lookup (λ (k : Bor (List ℕ)). bytes_eq q k.now)) e) g)
+pub no-pages : (m : Texts (Bor Spot)) → m ≡ [] → AreChoicesOnPages m
+no-pages m e q s g = absurd (is-none (lookup (bytes_eq q) m) s (ap (lookup (bytes_eq q)) e) g)
 
-pub no-holders : {S : Type 0} (m : IndexMap (Bor (List ℕ)) (Bor Spot) S) (es : List Located) → m.entries ≡ [] → AreHolders m es
-no-holders m es e q s g = absurd (is-none (lookup (λ (k : Bor (List ℕ)). bytes_eq q k.now) m.entries) s (ap (lookup (λ (k : Bor (List ℕ)). bytes_eq q k.now)) e) g)
+pub no-holders : (m : Texts (Bor Spot)) (es : List Located) → m ≡ [] → AreHolders m es
+no-holders m es e q s g = absurd (is-none (lookup (bytes_eq q) m) s (ap (lookup (bytes_eq q)) e) g)
 
-pub no-choices : {S : Type 0} (m : IndexMap (Bor (List ℕ)) (Bor Spot) S) → m.entries ≡ [] → choices_of m ≡ []
+pub no-choices : (m : Texts (Bor Spot)) → m ≡ [] → choices_of m ≡ []
 no-choices m e = ap (map choice_of) e
 
 -- what is seen with the choice for an id set or taken away
-pub chosen-set : {S : Type 0} (m n : IndexMap (Bor (List ℕ)) (Bor Spot) S) (id : List ℕ) (choice : Option (Bor Spot))
+pub chosen-set : (m n : Texts (Bor Spot)) (id : List ℕ) (choice : Option (Bor Spot))
     → ((q : List ℕ) → choice_at n q ≡ cond (bytes_eq q id) choice (choice_at m q))
     → (q : List ℕ) → chosen_in (choices_of n) q ≡ cond (bytes_eq q id) (option_map (λ s. located s.now) choice) (chosen_in (choices_of m) q)
 chosen-set m n id choice e q = chosen-kept n q ∙ ap (option_map (λ (s : Bor Spot). located s.now)) (e q) ∙ by (bytes_eq q id) (sym (chosen-kept m q))
@@ -127,7 +127,7 @@ only-entries [] = refl
 only-entries (x ∷ []) = refl
 only-entries (x ∷ y ∷ xs) = refl
 
-module _ {S : Type 0} (m : IndexMap (Bor (List ℕ)) (Vec Entry Global) S) (spots : List (Bor Spot)) (has : HasEntries m spots) (id : List ℕ) where
+module _ (m : Texts (Vec Entry Global)) (spots : List (Bor Spot)) (has : HasEntries m spots) (id : List ℕ) where
   passed : List (Bor Spot)
   passed = filter (λ (s : Bor Spot). holds_id id (located s.now)) spots
 
@@ -157,7 +157,7 @@ module _ {S : Type 0} (m : IndexMap (Bor (List ℕ)) (Vec Entry Global) S) (spot
       ∙ one-map (λ (s : Bor Spot). located s.now) (holds_id id) spots
 
   -- what is given: the choice, or the only one
-  pub given-is : {T : Type 0} (n : IndexMap (Bor (List ℕ)) (Bor Spot) T) (choice : Option (Bor Spot)) (o : Option Entry) → choice ≡ choice_at n id
+  pub given-is : (n : Texts (Bor Spot)) (choice : Option (Bor Spot)) (o : Option Entry) → choice ≡ choice_at n id
       → IfSome choice (λ s. o ≡ Some (entry_for s)) → (choice ≡ None → o ≡ only (entries_at m id)) → (spent : Bool)
       → option_map (λ (e : Entry). located e.spot.now) o ≡ one_held (record { spots = all_located spots; choices = choices_of n; is_spent = spent }) id
   given-is n (Some s) o c f g spent =
@@ -173,7 +173,7 @@ kind-of-only [] = tt
 kind-of-only (x ∷ []) = refl
 kind-of-only (x ∷ y ∷ xs) = tt
 
-pub given-kind : {S : Type 0} (m : IndexMap (Bor (List ℕ)) (Vec Entry Global) S) (spots : List (Bor Spot)) → HasEntries m spots → (id : List ℕ)
+pub given-kind : (m : Texts (Vec Entry Global)) (spots : List (Bor Spot)) → HasEntries m spots → (id : List ℕ)
     → (choice : Option (Bor Spot)) (o : Option Entry) → IfSome choice (λ s. o ≡ Some (entry_for s)) → (choice ≡ None → o ≡ only (entries_at m id))
     → IfSome o (λ e. e.kind ≡ kind_of (placed e.spot.now))
 given-kind m spots has id (Some s) o f g = subst (λ x. IfSome x (λ e. e.kind ≡ kind_of (placed e.spot.now))) (sym f) refl
@@ -182,7 +182,7 @@ given-kind m spots has id None o f g =
     (kind-of-only (filter (λ (s : Bor Spot). holds_id id (located s.now)) spots))
 
 -- all that stands above what is given is of its page
-pub given-page : {S : Type 0} (m : IndexMap (Bor (List ℕ)) (Vec Entry Global) S) (spots : List (Bor Spot)) → HasEntries m spots → AreOnOwnPages spots → (id : List ℕ)
+pub given-page : (m : Texts (Vec Entry Global)) (spots : List (Bor Spot)) → HasEntries m spots → AreOnOwnPages spots → (id : List ℕ)
     → (choice : Option (Bor Spot)) (o : Option Entry) → IfSome choice (λ s. o ≡ Some (entry_for s)) → (choice ≡ None → o ≡ only (entries_at m id))
     → IfSome choice (λ s. IsOnOnePage s.now) → IfSome o (λ e. IsOnOnePage e.spot.now)
 given-page m spots has h id (Some s) o f g c = subst (λ x. IfSome x (λ (e : Entry). IsOnOnePage e.spot.now)) (sym f) c

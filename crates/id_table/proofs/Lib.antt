@@ -1,5 +1,6 @@
 pub mod AgreeLaws
 pub mod Asking
+pub mod Entering
 pub mod HeldLaws
 pub mod OnPages
 pub mod OtherLaws

@@ -7,11 +7,11 @@ ghost use Rattle.id_table.specs.Tables.{choice_at, entry_for};
 
 use crate::entries::{Entry, entry_of, only_in};
 use crate::holders::id_at;
-use indexmap::IndexMap;
 use ix_base::{NoMemory, Spot};
+use text_map::TextMap;
 
 /// What was chosen for ids.
-pub type Choices<'a> = IndexMap<&'a str, &'a Spot<'a>>;
+pub type Choices<'a> = TextMap<'a, &'a Spot<'a>>;
 
 /// What was chosen for an id.
 pub fn choice_in<'a>(choices: &Choices<'a>, id: &str) -> Option<&'a Spot<'a>>
@@ -21,26 +21,6 @@ pub fn choice_in<'a>(choices: &Choices<'a>, id: &str) -> Option<&'a Spot<'a>>
         Some(spot) => Some(*spot),
         None => None,
     }
-}
-
-/// Keeps a choice for an id.
-pub fn keep_choice<'a>(
-    choices: &mut Choices<'a>,
-    id: &'a str,
-    spot: &'a Spot<'a>,
-) -> Result<(), NoMemory>
-    ensures { OnOk result ((q : List ℕ) → choice_at choices.new q
-        ≡ (if bytes_eq q id.entry.now then Some spot.entry else choice_at choices.old q)) }
-{
-    choices.insert(id, spot)?;
-    Ok(())
-}
-
-/// Takes the choice for an id away.
-pub fn drop_choice(choices: &mut Choices<'_>, id: &str)
-    ensures { (q : List ℕ) → choice_at choices.new q ≡ (if bytes_eq q id.now then None else choice_at choices.old q) }
-{
-    choices.swap_remove(id);
 }
 
 /// Lets a choice stand for an id that it has, or takes it away.
@@ -53,11 +33,11 @@ pub fn set_choice<'a>(
     ensures { OnOk result ((q : List ℕ) → choice_at choices.new q ≡ (if bytes_eq q id.now then choice.entry else choice_at choices.old q)) }
 {
     let Some(spot) = choice else {
-        drop_choice(choices, id);
+        choices.remove(id);
         return Ok(());
     };
     match id_at(spot) {
-        Some(own) => keep_choice(choices, own, spot),
+        Some(own) => choices.insert(own, spot),
         None => unreachable!(),
     }
 }

@@ -1,14 +1,13 @@
 //! Tables from an id to the elements that have it, each with its kind.
-ghost use Rattle.std.specs.Prelude.{◌≡◌, ◌++◌, ◌∷◌, [], ℕ, List, OnOk, if◌then◌else◌, bytes_eq, option_map};
+ghost use Rattle.std.specs.Prelude.{◌≡◌, [], OnOk, option_map};
 ghost use Rattle.ix_base.specs.Asks.{only};
 ghost use Rattle.ix_base.specs.Ids as ids;
 ghost use Rattle.ix_base.specs.Located.{located};
 ghost use Rattle.id_table.specs.Tables.{IsEntered, entries_at, entry_for};
 
 use crate::holders::id_at;
-use indexmap::IndexMap;
 use ix_base::{Kind, NoMemory, Spot, kind_of};
-use std::alloc::Global;
+use text_map::TextMap;
 
 /// An element that was found, with its kind.
 #[derive(Clone, Copy)]
@@ -18,7 +17,7 @@ pub struct Entry<'a> {
 }
 
 /// The elements with each id, each with its kind, in the order in which they were met.
-pub type Entries<'a> = IndexMap<&'a str, Vec<Entry<'a>>>;
+pub type Entries<'a> = TextMap<'a, Vec<Entry<'a>>>;
 
 /// An element with its kind.
 pub fn entry_of<'a>(spot: &'a Spot<'a>) -> Entry<'a>
@@ -30,30 +29,12 @@ pub fn entry_of<'a>(spot: &'a Spot<'a>) -> Entry<'a>
     }
 }
 
-/// Enters an element at an id, with its kind.
-pub fn enter_entry_at<'a>(
-    alloc: Global,
-    entries: &mut Entries<'a>,
-    id: &'a str,
-    entry: Entry<'a>,
-) -> Result<(), NoMemory>
-    ensures { OnOk result ((q : List ℕ) → entries_at entries.new q
-        ≡ (if bytes_eq q id.entry.now then entries_at entries.old q ++ entry.entry ∷ [] else entries_at entries.old q)) }
-{
-    entries.entry(id)?.or_insert(Vec::new(alloc)).push(entry)?;
-    Ok(())
-}
-
 /// Enters an element at its id, where it has one.
-pub fn enter_entry<'a>(
-    alloc: Global,
-    entries: &mut Entries<'a>,
-    spot: &'a Spot<'a>,
-) -> Result<(), NoMemory>
+pub fn enter_entry<'a>(entries: &mut Entries<'a>, spot: &'a Spot<'a>) -> Result<(), NoMemory>
     ensures { OnOk result (IsEntered entries.old entries.new (ids.id_of (located spot.entry.now)) spot.entry) }
 {
     if let Some(id) = id_at(spot) {
-        enter_entry_at(alloc, entries, id, entry_of(spot))?;
+        entries.push_at(id, entry_of(spot))?;
     }
     Ok(())
 }

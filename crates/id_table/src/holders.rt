@@ -1,16 +1,15 @@
 //! Tables from an id to the elements that have it.
-ghost use Rattle.std.specs.Prelude.{◌≡◌, ◌++◌, ◌∷◌, [], ℕ, List, OnOk, OnErr, if◌then◌else◌, bytes_eq, option_map, length};
+ghost use Rattle.std.specs.Prelude.{◌≡◌, OnOk, OnErr, option_map, length};
 ghost use Rattle.ix_base.specs.Asks.{only};
 ghost use Rattle.ix_base.specs.Ids as ids;
 ghost use Rattle.ix_base.specs.Located.{located};
 ghost use Rattle.id_table.specs.Tables.{Entered, SameSpots, spots_at};
 
-use indexmap::IndexMap;
 use ix_base::{Kind, NoMemory, Spot, kind_of, token_at};
-use std::alloc::Global;
+use text_map::TextMap;
 
 /// The elements with each id, in the order in which they were met.
-pub type Holders<'a> = IndexMap<&'a str, Vec<&'a Spot<'a>>>;
+pub type Holders<'a> = TextMap<'a, Vec<&'a Spot<'a>>>;
 
 /// The id of an element.
 pub fn id_at<'a>(spot: &Spot<'a>) -> Option<&'a str>
@@ -31,7 +30,6 @@ pub fn tuple_id_at<'a>(spot: &Spot<'a>) -> Option<&'a str>
 
 /// Enters an element at an id, where it has one. A refusal leaves the elements at each id as they were.
 pub fn enter<'a>(
-    alloc: Global,
     holders: &mut Holders<'a>,
     id: Option<&'a str>,
     spot: &'a Spot<'a>,
@@ -40,23 +38,8 @@ pub fn enter<'a>(
     ensures err { OnErr result (SameSpots holders.old holders.new) }
 {
     if let Some(id) = id {
-        enter_at(alloc, holders, id, spot)?;
+        holders.push_at(id, spot)?;
     }
-    Ok(())
-}
-
-/// Enters an element at an id.
-fn enter_at<'a>(
-    alloc: Global,
-    holders: &mut Holders<'a>,
-    id: &'a str,
-    spot: &'a Spot<'a>,
-) -> Result<(), NoMemory>
-    ensures ok { OnOk result ((q : List ℕ) → spots_at holders.new q
-        ≡ (if bytes_eq q id.entry.now then spots_at holders.old q ++ spot.entry ∷ [] else spots_at holders.old q)) }
-    ensures err { OnErr result (SameSpots holders.old holders.new) }
-{
-    holders.entry(id)?.or_insert(Vec::new(alloc)).push(spot)?;
     Ok(())
 }
 

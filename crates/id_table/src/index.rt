@@ -20,10 +20,10 @@ use crate::entries::{Entry, entries_in, entry_at};
 use crate::holders::{count_in, id_at, one_in, tuple_id_at};
 use crate::tables::Tables;
 use bumpalo::Bump;
-use indexmap::IndexMap;
 use ix_base::{Breaches, Element, NoMemory, Rule, Spot};
 use std::alloc::Global;
 use std::marker::Model;
+use text_map::TextMap;
 
 /// The tables, and what was chosen for ids.
 #[derive(Drop)]
@@ -36,11 +36,11 @@ impl<'a> Kept<'a> {
     fn new(alloc: Global) -> Kept<'a>
         ensures spots { result.tables.spots.items ≡ [] }
         ensures whole { AreWhole result.tables.ids result.tables.tuples result.tables.spots.items }
-        ensures choices { result.choices.entries ≡ [] }
+        ensures choices { result.choices ≡ [] }
     {
         Kept {
             tables: Tables::new(alloc),
-            choices: IndexMap::new(alloc),
+            choices: TextMap::new(alloc),
         }
     }
 }

@@ -10,9 +10,9 @@ use crate::entries::{Entries, enter_entry};
 use crate::holders::{Holders, enter, tuple_id_at};
 use crate::walk::walk;
 use bumpalo::Bump;
-use indexmap::IndexMap;
 use ix_base::{Element, Kind, NoMemory, Spot, kind_of};
 use std::alloc::Global;
+use text_map::TextMap;
 
 /// Elements in order, and for each id and tuple id those that have it.
 #[derive(Drop)]
@@ -29,26 +29,26 @@ impl<'a> Tables<'a> {
     {
         Tables {
             spots: Vec::new(alloc),
-            ids: IndexMap::new(alloc),
-            tuples: IndexMap::new(alloc),
+            ids: TextMap::new(alloc),
+            tuples: TextMap::new(alloc),
         }
     }
 
     /// Adds an element at the end.
-    fn add(&mut self, alloc: Global, spot: &'a Spot<'a>) -> Result<(), NoMemory>
+    fn add(&mut self, spot: &'a Spot<'a>) -> Result<(), NoMemory>
         requires whole { AreWhole self.old.ids self.old.tuples self.old.spots.items }
         requires page { IsOnOnePage spot.now }
         ensures spots { OnOk result (self.new.spots.items ≡ self.old.spots.items ++ spot.entry ∷ []) }
         ensures whole { OnOk result (AreWhole self.new.ids self.new.tuples self.new.spots.items) }
     {
-        enter_entry(alloc, &mut self.ids, spot)?;
-        enter(alloc, &mut self.tuples, tuple_id_at(spot), spot)?;
+        enter_entry(&mut self.ids, spot)?;
+        enter(&mut self.tuples, tuple_id_at(spot), spot)?;
         self.spots.push(spot)?;
         Ok(())
     }
 
     /// Adds an element where it is a marked one.
-    fn add_marked(&mut self, alloc: Global, spot: &'a Spot<'a>) -> Result<(), NoMemory>
+    fn add_marked(&mut self, spot: &'a Spot<'a>) -> Result<(), NoMemory>
         requires whole { AreWhole self.old.ids self.old.tuples self.old.spots.items }
         requires page { IsOnOnePage spot.now }
         ensures spots { OnOk result (all_located self.new.spots.items
@@ -56,13 +56,13 @@ impl<'a> Tables<'a> {
         ensures whole { OnOk result (AreWhole self.new.ids self.new.tuples self.new.spots.items) }
     {
         if is_marked(spot) {
-            return self.add(alloc, spot);
+            return self.add(spot);
         }
         Ok(())
     }
 
     /// Adds the marked elements among the spots of a page.
-    fn add_all(&mut self, alloc: Global, spots: &[&'a Spot<'a>]) -> Result<(), NoMemory>
+    fn add_all(&mut self, spots: &[&'a Spot<'a>]) -> Result<(), NoMemory>
         requires whole { AreWhole self.old.ids self.old.tuples self.old.spots.items }
         requires pages { AreOnOwnPages spots.now }
         ensures spots { OnOk result (all_located self.new.spots.items
@@ -70,7 +70,7 @@ impl<'a> Tables<'a> {
         ensures whole { OnOk result (AreWhole self.new.ids self.new.tuples self.new.spots.items) }
     {
         for spot in spots {
-            self.add_marked(alloc, *spot)?;
+            self.add_marked(*spot)?;
         }
         Ok(())
     }
@@ -90,7 +90,7 @@ impl<'a> Tables<'a> {
     {
         let mut spots = Vec::new(alloc);
         walk(arena, root, None, &mut spots)?;
-        self.add_all(alloc, spots.as_slice())
+        self.add_all(spots.as_slice())
     }
 }
 

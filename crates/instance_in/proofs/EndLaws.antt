@@ -4,7 +4,7 @@ use Rattle.std.proofs.lemmas.Bool.{and_parts, and_from}
 use Rattle.std.proofs.lemmas.Bool.Decides.{Decides-eqb}
 use Rattle.std.specs.Borrow.{Bor}
 use Rattle.std.specs.List.{list_any}
-use Rattle.indexmap.specs.IndexMap.{IndexMap}
+use Rattle.text_map.specs.Texts.{Texts}
 use Rattle.ix_base.specs.declared.content.Arc.{Arc}
 use Rattle.ix_base.specs.declared.content.Footnote.{Footnote}
 use Rattle.ix_base.specs.Attributes.{value_of}
@@ -93,7 +93,7 @@ arc-same ends t =
     (arc-steps (labelled ends) (xlink_at (codes "arcrole") t) (xlink_at (codes "from") t) (xlink_at (codes "to") t) (value_of t.head.attrs [] (codes "order")))
 
 -- the arcs by a table are those by the ends
-pub arcs-are : {S : Type 0} (table : IndexMap (Bor (List ℕ)) (Bor (List ℕ)) S) (ends : List Labelled) (nodes : Nodes) → HasEnds table ends
+pub arcs-are : (table : Texts (Bor (List ℕ))) (ends : List Labelled) (nodes : Nodes) → HasEnds table ends
     → true ≡ are_apart (labels_of ends)
     → each (arc_by (id_at table)) (named_in link_namespace (codes "footnoteArc") nodes) ≡ arcs_in ends nodes
 arcs-are table ends nodes h a =

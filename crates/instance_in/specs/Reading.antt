@@ -2,7 +2,7 @@
 use Rattle.std.specs.Prelude.{◌≡◌, ℕ, Bool, false, ◌&&◌, if◌then◌else◌, List, [], ◌∷◌, map, Option, Some, None, option_map, bytes_eq, codes}
 use Rattle.std.specs.Borrow.{Bor}
 use Rattle.std.specs.Option.{option_map_or}
-use Rattle.indexmap.specs.IndexMap.{IndexMap, get_by}
+use Rattle.text_map.specs.Texts.{Texts, get_in}
 use Rattle.ix_base.specs.declared.content.Arc.{Arc}
 use Rattle.ix_base.specs.declared.content.Fact.{Fact}
 use Rattle.ix_base.specs.declared.content.Footnote.{Footnote}
@@ -68,11 +68,11 @@ abbrev pub labels_of : List Labelled → List (List ℕ)
 labels_of ends = map (λ l. l.0) ends
 
 -- the id at a label of a table
-abbrev pub id_at : {S : Type 0} → IndexMap (Bor (List ℕ)) (Bor (List ℕ)) S → List ℕ → Option (List ℕ)
-id_at table label = option_map (λ id. id.now) (get_by (λ k. bytes_eq label k.now) table)
+abbrev pub id_at : Texts (Bor (List ℕ)) → List ℕ → Option (List ℕ)
+id_at table label = option_map (λ id. id.now) (get_in table label)
 
 -- the table has the id of the first end with each label
-abbrev pub HasEnds : {S : Type 0} → IndexMap (Bor (List ℕ)) (Bor (List ℕ)) S → List Labelled → Type 0
+abbrev pub HasEnds : Texts (Bor (List ℕ)) → List Labelled → Type 0
 HasEnds table ends = (label : List ℕ) → id_at table label ≡ labelled ends label
 
 -- the id at the label in an attribute of XLink

@@ -1,10 +1,13 @@
 -- What a sort leaves.
-use Rattle.std.proofs.Common.{◌≡◌, ℕ, List, [], ◌∷◌, map, refl, sym, ap, ◌∙◌}
+use Rattle.std.proofs.Common.{◌≡◌, ◌+◌, ◌<◌, ℕ, suc, List, [], ◌∷◌, length, get_or, map, refl, sym, ap, ◌∙◌, Option, Some, arith}
+use Rattle.std.specs.List.{range_with_len, slice_get}
 use Rattle.std.specs.List.Sorted.{IsSorted, IsPermutation}
 use Rattle.std.specs.declared.cmp.Ordering.{Ordering}
 use Rattle.std.specs.declared.cmp.Ordering.TheVariants.{Less, Equal, Greater}
 use Rattle.std.specs.Ordering.{on}
+use Rattle.std.specs.Option.{option_map_or}
 use Rattle.std.proofs.lemmas.Cmp.{nat_list_cmp_total}
+use Rattle.std.proofs.lemmas.List.Sorted.{IsPermutation-append, IsPermutation-append_comm, IsPermutation-cons, IsPermutation-refl, IsPermutation-trans}
 use Rattle.ix_base.specs.Once.{put as put_once, put_by as put_once_by, in_order}
 use Rattle.ix_base.specs.Sorted.{put, put_by, sorted, text_cmp}
 use Rattle.ix_base.specs.Written.{Markup}
@@ -93,3 +96,22 @@ once_lines f xs = ap (in_order text_cmp) (sym (map-map f line xs)) ∙ in_order-
 -- lines in order
 pub sorted_lines : {X : Type 0} (f : X → Markup) (xs : List X) → sorted text_cmp (map (λ x. line (f x)) xs) ≡ map line (sorted line_cmp (map f xs))
 sorted_lines f xs = ap (sorted text_cmp) (sym (map-map f line xs)) ∙ sorted-map line text_cmp (map f xs)
+
+-- What a sort leaves is the same in another order.
+module _ {X : Type 0} (R : X → X → Ordering) where
+  exchanged : (x y : X) (ys : List X) → IsPermutation (x ∷ y ∷ ys) (y ∷ x ∷ ys)
+  exchanged x y ys = IsPermutation-append (x ∷ y ∷ []) (y ∷ x ∷ []) ys ys (IsPermutation-append_comm (x ∷ []) (y ∷ [])) (IsPermutation-refl ys)
+
+  put_moves_by : (r : Ordering) (x y : X) (ys behind : List X) → IsPermutation (x ∷ ys) behind → IsPermutation (x ∷ y ∷ ys) (put_by r x y ys behind)
+  put_moves_by Less x y ys behind h = IsPermutation-refl (x ∷ y ∷ ys)
+  put_moves_by Equal x y ys behind h = IsPermutation-refl (x ∷ y ∷ ys)
+  put_moves_by Greater x y ys behind h = IsPermutation-trans (x ∷ y ∷ ys) (y ∷ x ∷ ys) (y ∷ behind) (exchanged x y ys) (IsPermutation-cons y (x ∷ ys) behind h)
+
+  put_moves : (x : X) (ys : List X) → IsPermutation (x ∷ ys) (put R x ys)
+  put_moves x [] = IsPermutation-refl (x ∷ [])
+  put_moves x (y ∷ ys) = put_moves_by (R x y) x y ys (put R x ys) (put_moves x ys)
+
+  pub sorted_moves : (xs : List X) → IsPermutation xs (sorted R xs)
+  unfolding sorted
+  sorted_moves [] = IsPermutation-refl []
+  sorted_moves (x ∷ xs) = IsPermutation-trans (x ∷ xs) (x ∷ sorted R xs) (put R x (sorted R xs)) (IsPermutation-cons x xs (sorted R xs) (sorted_moves xs)) (put_moves x (sorted R xs))

@@ -6,10 +6,12 @@ pub mod Gaining
 pub mod Good
 pub mod Holds
 pub mod Instance
+pub mod Inverses
 pub mod Keys
 pub mod Lists
 pub mod Meant
 pub mod Moments
+pub mod Numbered
 pub mod Prefixes
 pub mod Proper
 pub mod Tables

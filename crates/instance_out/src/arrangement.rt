@@ -6,12 +6,14 @@ ghost use Rattle.ix_base.specs.Once.{in_order};
 ghost use Rattle.ix_base.specs.Sorted.{sorted, text_cmp};
 ghost use Rattle.instance_out.specs.Arranged.{by_line};
 ghost use Rattle.instance_out.specs.Canonical.{arcrole_markup, content_spaces, linkbase_markup, role_markup, schema_markup};
-ghost use Rattle.instance_out.specs.Elements.{fact_markup};
+ghost use Rattle.instance_out.specs.Elements.{fact_line, fact_markup};
+ghost use Rattle.instance_out.specs.Numbered.{numbers_by};
 
 use crate::fact::line_of;
 use crate::names::spaces_in;
 use crate::prefix::Prefixes;
 use crate::reference::{linkbase_line, role_line, schema_line};
+use crate::reorder::put_in_order;
 use crate::sort::{Keyed, by_keys, copies_of, once_by_keys, views_of};
 use ix_base::{Content, Context, Fact, Linkbase, List, NoMemory, RoleRef, Text, Unit};
 use std::alloc::Global;
@@ -100,6 +102,22 @@ pub fn units_in_order(alloc: Global, units: List<Unit>) -> Result<List<Unit>, No
     Ok(List::of(units))
 }
 
+/// The numbers of facts in the order of their lines. Those with one line keep the order that they have.
+fn numbers_by_line(
+    alloc: Global,
+    prefixes: &Prefixes<'_>,
+    facts: &[Fact],
+) -> Result<Vec<usize>, NoMemory>
+    ensures { IfOk result (λ v. v.items ≡ numbers_by (fact_line prefixes.now) facts.now) }
+{
+    let mut keyed = Vec::with_capacity(alloc, facts.len())?;
+    for number in 0..facts.len() {
+        let key = line_of(alloc, prefixes, &facts[number])?;
+        keyed.push(Keyed { key, item: number })?;
+    }
+    by_keys(alloc, keyed)
+}
+
 /// Facts by their lines. Those with one line keep the order that they have.
 fn facts_by_line(
     alloc: Global,
@@ -108,12 +126,9 @@ fn facts_by_line(
 ) -> Result<List<Fact>, NoMemory>
     ensures { IfOk result (λ l. l ≡ sorted (by_line (fact_markup prefixes.now)) facts) }
 {
-    let mut keyed = Vec::new(alloc);
-    for fact in facts.into_vec() {
-        let key = line_of(alloc, prefixes, &fact)?;
-        keyed.push(Keyed { key, item: fact })?;
-    }
-    let facts = by_keys(alloc, keyed)?;
+    let mut facts = facts.into_vec();
+    let numbers = numbers_by_line(alloc, prefixes, facts.as_slice())?;
+    put_in_order(alloc, &mut facts, numbers)?;
     Ok(List::of(facts))
 }
 

@@ -51,7 +51,7 @@ fn sort_keyed<T>(keyed: &mut Vec<Keyed<T>>) -> Result<(), NoMemory>
 fn items_of<T: Drop>(alloc: Global, keyed: Vec<Keyed<T>>) -> Result<Vec<T>, NoMemory>
     ensures { IfOk result (λ v. v.items ≡ map (λ k. k.item) keyed.items) }
 {
-    let mut items = Vec::new(alloc);
+    let mut items = Vec::with_capacity(alloc, keyed.len())?;
     for one in keyed {
         let Keyed { key: _, item } = one;
         items.push(item)?;

@@ -23,6 +23,7 @@ pub mod Kinds
 pub mod Lines
 pub mod LinkRules
 pub mod Located
+pub mod Manners
 pub mod Markup
 pub mod MemPages
 pub mod MemTargets

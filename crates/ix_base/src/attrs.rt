@@ -23,7 +23,7 @@ fn place_of(attrs: &[Attr<'_>], ns: &str, local: &str) -> usize
     ensures { result ≡ place_named (map valued attrs.now) ns.now local.now }
 {
     for (at, attr) in attrs.iter().enumerate() {
-        if attr.name.ns == ns && attr.name.local == local {
+        if attr.name.local == local && attr.name.ns == ns {
             return at;
         }
     }

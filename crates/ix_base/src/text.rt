@@ -1,5 +1,5 @@
 //! Texts that are owned.
-ghost use Rattle.std.specs.Prelude.{◌≡◌, ◌++◌, OnOk, OnErr, IfOk, encode_utf8};
+ghost use Rattle.std.specs.Prelude.{◌≡◌, ◌++◌, OnOk, OnErr, IfOk};
 
 use crate::NoMemory;
 use std::alloc::Global;
@@ -50,15 +50,6 @@ impl Text {
         ensures err { OnErr result (self.new ≡ self.old) }
     {
         self.string.push_str(s)?;
-        Ok(())
-    }
-
-    /// Appends a character. After a refusal the text is as before.
-    pub(crate) fn push_char(&mut self, c: char) -> Result<(), NoMemory>
-        ensures ok { OnOk result (self.new ≡ self.old ++ encode_utf8 c) }
-        ensures err { OnErr result (self.new ≡ self.old) }
-    {
-        self.string.push(c)?;
         Ok(())
     }
 }

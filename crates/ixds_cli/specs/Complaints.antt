@@ -4,10 +4,10 @@ use Rattle.std.specs.declared.alloc.Global.{Global}
 use Rattle.page_session.specs.Names.{may_stand_in_name}
 use Rattle.ixds_run.specs.declared.status.Status.{Status}
 use Rattle.ixds_run.specs.declared.status.Status.TheVariants.{ReadFault, WriteFault, NoMemory}
-use Rattle.ixds_cli.specs.Causes.{cause_text}
-use Rattle.ixds_cli.specs.Written.{AppendsFront}
-use Rattle.ixds_cli.specs.declared.cause.Cause.{Cause}
-use Rattle.ixds_cli.specs.declared.blamed.Blamed as blamed
+use Rattle.ixds_files.specs.Causes.{cause_text}
+use Rattle.ixds_files.specs.Written.{AppendsFront}
+use Rattle.ixds_files.specs.declared.cause.Cause.{Cause}
+use Rattle.ixds_files.specs.declared.blamed.Blamed as blamed
 
 -- what an object of the outside was asked for last, where that was kept, and why it failed, where it did
 pub record Blame : Type 0 where

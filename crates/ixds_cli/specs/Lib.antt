@@ -1,9 +1,3 @@
-pub mod Causes
 pub mod Complaints
-pub mod Deeds
 pub mod Ending
-pub mod Lying
-pub mod Parts
-pub mod TargetPath
 pub mod Words
-pub mod Written

@@ -1,13 +1,11 @@
 //! What a person is told on standard error.
 ghost use Rattle.std.specs.Prelude.{◌≡◌, ◌⊎◌, ◌++◌, IfOk, IfSome, OnOk, codes};
 ghost use Rattle.ixds_cli.specs.Complaints.{Tells, blame, blame_line, cause_mark, complaint, fault_line, shown, shown_byte, told_line, write_blame};
-ghost use Rattle.ixds_cli.specs.Written.{AppendsFront};
+ghost use Rattle.ixds_files.specs.Written.{AppendsFront};
 
-use crate::blamed::Blamed;
-use crate::cause::Cause;
-use crate::writing::put_all;
 use crate::wrong::wrong_line;
 use ix_base::{NoMemory, Text};
+use ixds_files::{Blamed, Cause, put_all};
 use ixds_run::Status;
 use std::alloc::Global;
 use std::io::Write;

@@ -9,34 +9,21 @@ ghost use Rattle.ixds_cli.specs.Complaints.{Tells, blame, complaint};
 ghost use Rattle.ixds_cli.specs.Ending.{EndsWith};
 ghost use Rattle.ixds_cli.specs.Words.{words_in, command_in};
 
-mod blamed;
-mod cause;
 mod complaint;
-mod folder;
-mod pages;
-mod parts;
-mod system;
-mod target_files;
 #[cfg(test)]
 mod tests;
-mod text;
 mod words;
-mod writing;
 mod wrong;
 
-use blamed::Blamed;
 use complaint::complain;
 use ix_base::{PageSource, TargetSink, TextSink};
+use ixds_files::{Blamed, FilePages, FileTargets, StdoutText, SystemFolder};
 use ixds_run::{Status, run};
-use pages::FilePages;
 use std::alloc::Global;
 use std::env::Args;
 use std::io::Write;
 use std::process::ExitCode;
 use std::{env, io};
-use system::SystemFolder;
-use target_files::FileTargets;
-use text::StdoutText;
 use words::words_of;
 
 fn ended(status: Status) -> ExitCode
@@ -45,50 +32,9 @@ fn ended(status: Status) -> ExitCode
     ExitCode::from(status.code())
 }
 
-/// Runs the words that the system hands over, the program's name first, and says on standard error why it ended, where it wasn't
-/// done and broke no rule. Words that aren't text give no command, as no words do.
-fn run_handed<P: PageSource + Blamed, S: TargetSink + Blamed, T: TextSink + Blamed, E: Write>(
-    alloc: Global,
-    handed: io::Result<Args>,
-    pages: &mut P,
-    sink: &mut S,
-    out: &mut T,
-    err: &mut E,
-) -> Status
-    requires out { T.faults out.old + 1 < 2 ^ 64 }
-    requires sink { S.faults sink.old + 1 < 2 ^ 64 }
-    requires pages { P.faults pages.old + 1 < 2 ^ 64 }
-
-    // What a run of these words answers.
-    ensures answers { Answered (command_in handed)
-        (outside P.PageSource S.TargetSink T.TextSink pages.old sink.old out.old)
-        (outside P.PageSource S.TargetSink T.TextSink pages.new sink.new out.new)
-        (pages.new ≡ pages.old) (sink.new ≡ sink.old) (out.new ≡ out.old) result }
-
-    // Where the words can't be had, memory is wanting, and nothing is done.
-    ensures no_words { words_in handed ≡ None → (result ≡ Status.NoMemory)
-        × (pages.new ≡ pages.old) × (sink.new ≡ sink.old) × (out.new ≡ out.old) }
-
-    // Which file is blamed, and why.
-    ensures told { IfSome (complaint result (blame P.Blamed pages.new) (blame S.Blamed sink.new) (blame T.Blamed out.new))
-        (Tells (E.contents err.old) (E.contents err.new)) }
-    ensures quiet { (result ≡ Status.Done) ⊎ (result ≡ Status.Broken) → err.new ≡ err.old }
-{
-    match words_of(alloc, handed) {
-        Ok(words) => {
-            let status = run(alloc, words.as_slice(), pages, sink, out);
-            complain(alloc, words.as_slice(), status, pages, sink, out, err);
-            status
-        }
-        Err(_) => {
-            complain(alloc, &[], Status::NoMemory, pages, sink, out, err);
-            Status::NoMemory
-        }
-    }
-}
-
-/// Runs the words that the system hands over, as `run_handed` does, and ends. `main` makes the objects and calls it, and can't have
-/// clauses itself.
+/// Runs the words that the system hands over, the program's name first, says on standard error why it ended, where it wasn't
+/// done and broke no rule, and ends. Words that aren't text give no command, as no words do. `main` makes the objects and calls
+/// it, and can't have clauses itself.
 fn run_words<P: PageSource + Blamed, S: TargetSink + Blamed, T: TextSink + Blamed, E: Write>(
     alloc: Global,
     handed: io::Result<Args>,
@@ -118,8 +64,17 @@ fn run_words<P: PageSource + Blamed, S: TargetSink + Blamed, T: TextSink + Blame
     ensures quiet { (status : Status) × EndsWith result status
         × ((status ≡ Status.Done) ⊎ (status ≡ Status.Broken) → err.new ≡ err.old) }
 {
-    let status = run_handed(alloc, handed, pages, sink, out, err);
-    ended(status)
+    match words_of(alloc, handed) {
+        Ok(words) => {
+            let status = run(alloc, words.as_slice(), pages, sink, out);
+            complain(alloc, words.as_slice(), status, pages, sink, out, err);
+            ended(status)
+        }
+        Err(_) => {
+            complain(alloc, &[], Status::NoMemory, pages, sink, out, err);
+            ended(Status::NoMemory)
+        }
+    }
 }
 
 fn main(rt: HostRuntime) -> ExitCode {

@@ -15,6 +15,7 @@ pub mod NumberLaws
 pub mod OutcomeLaws
 pub mod PlainLaws
 pub mod ReadBackLaws
+pub mod ReadyLaws
 pub mod RearrangedPages
 pub mod ReportLaws
 pub mod ScriptLaws

@@ -1,5 +1,5 @@
 -- What a run answers to a session, put together from what its parts answer.
-use Rattle.std.proofs.Common.{◌≡◌, ◌⊎◌, sym, refl, ℕ, ◌<◌, false, IsTrue, List, [], Option, Some, None, IfSome, subst, inl, inr, arith}
+use Rattle.std.proofs.Common.{◌≡◌, ◌⊎◌, refl, ℕ, ◌<◌, false, IsTrue, List, [], Option, Some, None, IfSome, subst, inl, inr, arith}
 use Rattle.ix_base.specs.Outside.{TextGainsFront}
 use Rattle.ixds_run.specs.Answers.{Answers, Outside}
 use Rattle.ixds_run.specs.Commands.{is_session, number_of}
@@ -116,22 +116,7 @@ untouched (Some (Session base dir script)) old A B C a b d =
 pub along_answered : (old new : Outside) (A B C : Type 0) (s : Status) (o o' : Option Command) → o ≡ o' → Answered o old new A B C s → Answered o' old new A B C s
 along_answered old new A B C s o o' e h = subst (λ (k : Option Command). Answered k old new A B C s) e h
 
--- what is answered to the words' own kind of command
-
-pub session_answered : (c : Command) (base dir script b d n : List ℕ) (old new : Outside) (A B C : Type 0) (s : Status) → c ≡ Session base dir script → b ≡ base → d ≡ dir → n ≡ script
-    → SessionAnswers (record { base = b; dir = d; script = n }) old new B C s → Answered (Some c) old new A B C s
-session_answered c base dir script b d n old new A B C s is e f g h =
-    subst (λ (k : Command). Answered (Some k) old new A B C s) (sym is)
-    (subst (λ (x : Following). SessionAnswers x old new B C s) (λ i. record { base = e i; dir = f i; script = g i }) h)
-
-pub others_answered : (c : Command) (old new : Outside) (A B C : Type 0) (s : Status) → is_session c ≡ false → Answers (Some c) old new A B C s → Answered (Some c) old new A B C s
-others_answered (Extract base dir pages) old new A B C s is h = h
-others_answered (Check base pages) old new A B C s is h = h
-others_answered (Sample number) old new A B C s is h = h
-others_answered (Plain page) old new A B C s is h = h
-others_answered (Trace base pages) old new A B C s is h = h
-others_answered (Session base dir script) old new A B C s is h = absurd (let z = is in cc)
-
+-- a command that isn't a session
 pub no_session : (c : Command) → ((base dir script : List ℕ) → c ≡ Session base dir script → ⊥) → is_session c ≡ false
 no_session (Extract base dir pages) none = refl
 no_session (Check base pages) none = refl

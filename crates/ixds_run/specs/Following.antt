@@ -17,7 +17,7 @@ use Rattle.ixds_run.specs.DueTables.{outcome_of}
 use Rattle.ixds_run.specs.Gains.{GainsStarts}
 use Rattle.ixds_run.specs.Reading.{IsAmong}
 use Rattle.ixds_run.specs.SessionBytes.{OfScript, to_read}
-use Rattle.ixds_run.specs.SessionOutcomes.{AreChecked, IsCourseDue}
+use Rattle.ixds_run.specs.SessionOutcomes.{AreChecked, IsCourseDue, IsSession}
 use Rattle.ixds_run.specs.Texts.{cannot_read_line}
 use Rattle.ixds_run.specs.declared.due.Due.{Due}
 use Rattle.ixds_run.specs.declared.forest.Stopped.{Stopped}
@@ -128,6 +128,18 @@ WhyUnread script old new (stopped.Failed line) = (old.faults < new.faults)
     × OfScript old.page script (λ text bs. (name : List ℕ) × IsAmong old.page (to_read script text bs) new.asked name
     × (line.items ≡ cannot_read_line name) × IsTrue new.failed)
 WhyUnread script old new stopped.NoMemory = new.faults ≡ old.faults
+
+-- A script was read and followed to its end, or why it wasn't, and what its source then tells.
+pub record IsFollowed (base script : List ℕ) (old new : Source) (result : Result Due Stopped) : Type 0 where
+  pub due : IfOk result (λ due. OfScript old.page script (λ text bs. (dir : List ℕ)
+      → IsSession base dir script text bs (outcome_of (Some dir) due)))
+  pub silent : IfOk result IsSilent
+  pub all_starts : OnOk result (OfScript old.page script (λ text bs. Started (to_read script text bs) old.starts new.starts))
+  pub starts : OfScript old.page script (λ text bs. GainsStarts (to_read script text bs) old.starts new.starts)
+  pub ok : OnOk result (new.faults ≡ old.faults)
+  pub stopped : IfErr result (WhyUnread script old new)
+  pub pages : new.page ≡ old.page
+  pub numbers : new.numbers ≡ old.numbers
 
 -- the end of following, or want of memory
 abbrev pub ended : Result Due NoMemory → Result (Option Due) Stopped

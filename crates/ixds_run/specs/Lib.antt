@@ -12,6 +12,7 @@ pub mod Gains
 pub mod InMemory
 pub mod Names
 pub mod Reading
+pub mod Ready
 pub mod Rearrangement
 pub mod Sample
 pub mod SessionAnswers

@@ -1,17 +1,60 @@
 //! The answer to a command.
-ghost use Rattle.std.specs.Prelude.{◌≡◌, ◌+◌, ◌^◌, ◌<◌, Some};
+ghost use Rattle.std.specs.Prelude.{◌≡◌, ◌⊎◌, ◌+◌, ◌^◌, ◌<◌, IsTrue, Some};
+ghost use Rattle.ix_base.specs.Outside.{TextGainsFront};
+ghost use Rattle.page_session.specs.Sources.{source_told};
 ghost use Rattle.ixds_run.specs.Answers.{outside};
 ghost use Rattle.ixds_run.specs.Commands.{IsGiven};
+ghost use Rattle.ixds_run.specs.Gains.{GainsText};
+ghost use Rattle.ixds_run.specs.Ready.{IsReady};
 ghost use Rattle.ixds_run.specs.SessionAnswers.{Answered};
 
 use crate::Status;
 use crate::command::Command;
-use crate::extract::extract;
-use crate::session::follow_script;
+use crate::deliver::deliver;
+use crate::due::Due;
+use crate::forest::Stopped;
+use crate::prepare::prepared;
+use crate::session::follow;
 use ix_base::{PageSource, TargetSink, TextSink};
 use std::alloc::Global;
 
-/// Answers a command: follows a script, or reads the command's pages and gives what is due of them.
+/// Follows a command's script, or reads its pages or makes them, and makes ready what is due.
+fn made_ready<P: PageSource>(
+    alloc: Global,
+    command: &Command,
+    pages: &mut P,
+) -> Result<Due, Stopped>
+    requires given { IsGiven command.now }
+    requires count { P.faults pages.old + 1 < 2 ^ 64 }
+    ensures { IsReady command.now (source_told P.PageSource pages.old) (source_told P.PageSource pages.new)
+        (pages.new ≡ pages.old) result }
+{
+    match command {
+        Command::Session(base, _, script) => {
+            follow(alloc, base.as_str(), script.as_str(), pages)
+        }
+        _ => prepared(alloc, command, pages),
+    }
+}
+
+/// Puts the line of a page that can't be read.
+fn put_read_fault<T: TextSink>(line: &[u8], out: &mut T) -> Status
+    requires out { T.faults out.old + 1 < 2 ^ 64 }
+    ensures either { (result ≡ Status.ReadFault) ⊎ (result ≡ Status.WriteFault) }
+    ensures read { result ≡ Status.ReadFault → GainsText line.now (T.taken out.old) (T.taken out.new) }
+    ensures quiet { result ≡ Status.ReadFault → T.faults out.new ≡ T.faults out.old }
+    ensures cause { result ≡ Status.WriteFault → T.faults out.old < T.faults out.new }
+    ensures last { result ≡ Status.WriteFault → IsTrue (T.last_failed out.new) }
+    ensures numbers { T.numbers out.new ≡ T.numbers out.old }
+    ensures front { result ≡ Status.WriteFault → TextGainsFront line.now (T.taken out.old) (T.taken out.new) }
+{
+    match out.put(line) {
+        Ok(()) => Status::ReadFault,
+        Err(_) => Status::WriteFault,
+    }
+}
+
+/// Answers a command: makes ready what is due, and then gives it.
 pub fn answer<P: PageSource, S: TargetSink, T: TextSink>(
     alloc: Global,
     command: &Command,
@@ -28,16 +71,9 @@ pub fn answer<P: PageSource, S: TargetSink, T: TextSink>(
         (outside P.PageSource S.TargetSink T.TextSink pages.new sink.new out.new)
         (pages.new ≡ pages.old) (sink.new ≡ sink.old) (out.new ≡ out.old) result }
 {
-    match command {
-        Command::Session(base, dir, script) => follow_script(
-            alloc,
-            base.as_str(),
-            dir.as_str(),
-            script.as_str(),
-            pages,
-            sink,
-            out,
-        ),
-        _ => extract(alloc, command, pages, sink, out),
+    match made_ready(alloc, command, pages) {
+        Err(Stopped::NoMemory) => Status::NoMemory,
+        Err(Stopped::Failed(line)) => put_read_fault(line.as_slice(), out),
+        Ok(due) => deliver(&due, command.dir(), sink, out),
     }
 }

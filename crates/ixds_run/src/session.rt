@@ -1,24 +1,16 @@
-//! A session, from its script to its answer.
-ghost use Rattle.std.specs.Prelude.{◌≡◌, ◌+◌, ◌^◌, ◌<◌, ◌≤◌, ℕ, List, Some, length, IfErr, IfOk, OnOk};
+//! A session, from its script up to what is due of it.
+ghost use Rattle.std.specs.Prelude.{◌≡◌, ◌+◌, ◌^◌, ◌<◌, ◌≤◌, length, IfErr, IfOk, OnOk};
 ghost use Rattle.page_session.specs.Course.{names_read};
 ghost use Rattle.page_session.specs.Sources.{source_told};
-ghost use Rattle.ixds_run.specs.Answers.{outside};
-ghost use Rattle.ixds_run.specs.DueTables.{outcome_of};
-ghost use Rattle.ixds_run.specs.Following.{AreLines, IsEnded, IsSilent, OfLines, Started, WhyUnfollowed, WhyUnread};
+ghost use Rattle.ixds_run.specs.Following.{AreLines, IsEnded, IsFollowed, IsSilent, OfLines, WhyUnfollowed};
 ghost use Rattle.ixds_run.specs.Gains.{GainsStarts};
-ghost use Rattle.ixds_run.specs.SessionAnswers.{SessionAnswers};
-ghost use Rattle.ixds_run.specs.SessionBytes.{OfScript, to_read};
-ghost use Rattle.ixds_run.specs.SessionOutcomes.{IsSession};
 
-use crate::Status;
-use crate::deliver::deliver;
 use crate::due::Due;
-use crate::extract::put_read_fault;
 use crate::follow::{due_of_line, follow_line};
 use crate::forest::Stopped;
 use crate::lines::cannot_read;
 use bumpalo::Bump;
-use ix_base::{PageSource, Rule, TargetSink, Text, TextSink};
+use ix_base::{PageSource, Rule, Text};
 use page_session::laws::lines_by_calls;
 use page_session::reading::ReadError;
 use page_session::{Script, ScriptLine, Session, read_script};
@@ -71,17 +63,7 @@ pub fn follow<P: PageSource>(
 ) -> Result<Due, Stopped>
     requires count { P.faults pages.old + 1 < 2 ^ 64 }
     requires name { length script.now ≤ 4096 }
-    ensures due { IfOk result (λ due. OfScript (P.page pages.old) script.now (λ text bs. (dir : List ℕ)
-        → IsSession base.now dir script.now text bs (outcome_of (Some dir) due))) }
-    ensures silent { IfOk result IsSilent }
-    ensures all_starts { OnOk result (OfScript (P.page pages.old) script.now (λ text bs.
-        Started (to_read script.now text bs) (P.starts pages.old) (P.starts pages.new))) }
-    ensures starts { OfScript (P.page pages.old) script.now (λ text bs.
-        GainsStarts (to_read script.now text bs) (P.starts pages.old) (P.starts pages.new)) }
-    ensures ok { OnOk result (P.faults pages.new ≡ P.faults pages.old) }
-    ensures stopped { IfErr result (WhyUnread script.now (source_told P.PageSource pages.old) (source_told P.PageSource pages.new)) }
-    ensures pages { P.page pages.new ≡ P.page pages.old }
-    ensures numbers { P.numbers pages.new ≡ P.numbers pages.old }
+    ensures { IsFollowed base.now script.now (source_told P.PageSource pages.old) (source_told P.PageSource pages.new) result }
 {
     let Ok(line) = cannot_read(alloc, script) else {
         return Err(Stopped::NoMemory);
@@ -94,31 +76,5 @@ pub fn follow<P: PageSource>(
             Err(_) => Err(Stopped::NoMemory),
         },
         Ok(Script::Good(lines)) => follow_lines(alloc, base, script, lines.as_slice(), pages),
-    }
-}
-
-/// Answers a session: follows its script, and then gives what is due.
-pub fn follow_script<P: PageSource, S: TargetSink, T: TextSink>(
-    alloc: Global,
-    base: &str,
-    dir: &str,
-    script: &str,
-    pages: &mut P,
-    sink: &mut S,
-    out: &mut T,
-) -> Status
-    requires name { length script.now ≤ 4096 }
-    requires pages { P.faults pages.old + 1 < 2 ^ 64 }
-    requires sink { S.faults sink.old + 1 < 2 ^ 64 }
-    requires out { T.faults out.old + 1 < 2 ^ 64 }
-    ensures { SessionAnswers (record { base = base.now; dir = dir.now; script = script.now })
-        (outside P.PageSource S.TargetSink T.TextSink pages.old sink.old out.old)
-        (outside P.PageSource S.TargetSink T.TextSink pages.new sink.new out.new)
-        (sink.new ≡ sink.old) (out.new ≡ out.old) result }
-{
-    match follow(alloc, base, script, pages) {
-        Err(Stopped::NoMemory) => Status::NoMemory,
-        Err(Stopped::Failed(line)) => put_read_fault(line.as_slice(), out),
-        Ok(due) => deliver(&due, Some(dir), sink, out),
     }
 }

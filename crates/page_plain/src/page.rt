@@ -1,5 +1,6 @@
 //! A page without its inline markup, as it is written.
 ghost use Rattle.std.specs.Prelude.{◌≡◌, ◌++◌, ◌∷◌, [], ◌<◌, OnOk, IfOk, Some, map, false};
+ghost use Rattle.ix_base.specs.Escapes.{ae};
 ghost use Rattle.ix_base.specs.Markup.{declaration};
 ghost use Rattle.ix_base.specs.Trees.{before, named, nodes_of, none, tree_of, valued};
 ghost use Rattle.ix_base.specs.Written.{attrs_text, close_text};
@@ -10,7 +11,7 @@ ghost use Rattle.page_plain.specs.Theorem.{IsPageOf};
 ghost use Rattle.page_plain.specs.Parts.{element_bytes, is_short, is_silent, kept_bytes, node_bytes, open_bytes, rest_bytes};
 
 use crate::names::{is_dropped, is_inline, is_opened};
-use crate::prefixes::{Prefixes, prefix_of_number};
+use crate::prefixes::{Prefixes, push_prefix};
 use crate::spaces::spaces_of;
 use escape_text::ends_short;
 use ix_base::namespaces::XML;
@@ -44,42 +45,61 @@ fn gives_nothing(node: &Node<'_>) -> bool
     }
 }
 
-/// A local name behind a prefix.
-fn qualified(alloc: Global, prefix: &str, local: &str) -> Result<Text, NoMemory>
-    ensures { IfOk result (λ t. t ≡ spec.qualified (Some prefix.now) local.now) }
+/// Appends a local name behind the prefix of this number.
+fn push_qualified(alloc: Global, number: usize, local: &str, out: &mut Text) -> Result<(), NoMemory>
+    requires { 0 < number }
+    ensures { OnOk result (out.new ≡ out.old ++ spec.qualified (Some (spec.prefix_at number)) local.now) }
 {
-    let mut text = Text::of(alloc, prefix)?;
-    text.push(":")?;
-    text.push(local)?;
-    Ok(text)
+    push_prefix(alloc, number, out)?;
+    out.push(":")?;
+    out.push(local)
 }
 
-/// The name of an attribute as it is written.
+/// Appends the name of an attribute.
 #[tactic(auto, unfolding(ix_base::specs::Namespaces::xml_namespace))]
-fn attr_name(alloc: Global, prefixes: &Prefixes<'_>, name: &Name<'_>) -> Result<Text, NoMemory>
-    ensures { IfOk result (λ t. t ≡ spec.attr_name (spec.numbered 1 prefixes.now) (named name.now)) }
+fn push_name(
+    alloc: Global,
+    prefixes: &Prefixes<'_>,
+    name: &Name<'_>,
+    out: &mut Text,
+) -> Result<(), NoMemory>
+    ensures { OnOk result (out.new ≡ out.old ++ spec.attr_name (spec.numbered 1 prefixes.now) (named name.now)) }
 {
     if name.ns.is_empty() {
-        return Text::of(alloc, name.local);
+        return out.push(name.local);
     }
     if name.ns == XML {
-        return qualified(alloc, "xml", name.local);
+        out.push("xml:")?;
+        return out.push(name.local);
     }
-    match prefixes.prefix(alloc, name.ns)? {
-        Some(prefix) => qualified(alloc, prefix.as_str(), name.local),
-        None => Text::of(alloc, name.local),
+    match prefixes.number(name.ns) {
+        Some(number) => push_qualified(alloc, number, name.local, out),
+        None => out.push(name.local),
     }
 }
 
-/// Appends an attribute.
-fn push_attribute(name: &str, value: &str, out: &mut Text) -> Result<(), NoMemory>
-    ensures { OnOk result (out.new ≡ out.old ++ attrs_text (record { name = name.now; value = value.now } ∷ []) []) }
+/// Appends the value of an attribute behind its name.
+fn push_value(value: &str, out: &mut Text) -> Result<(), NoMemory>
+    ensures { OnOk result (out.new ≡ out.old ++ 61 ∷ 34 ∷ (ae value.now ++ 34 ∷ [])) }
 {
-    out.push(" ")?;
-    out.push(name)?;
     out.push("=\"")?;
     push_ae(value, out)?;
     out.push("\"")
+}
+
+/// Appends an attribute.
+fn push_attr(
+    alloc: Global,
+    prefixes: &Prefixes<'_>,
+    attr: &Attr<'_>,
+    out: &mut Text,
+) -> Result<(), NoMemory>
+    ensures { OnOk result (out.new ≡ out.old
+        ++ attrs_text (spec.attr_in (spec.numbered 1 prefixes.now) (valued attr.now) ∷ []) []) }
+{
+    out.push(" ")?;
+    push_name(alloc, prefixes, &attr.name, out)?;
+    push_value(attr.value, out)
 }
 
 /// Appends a declaration of the default namespace, where it isn't the one around.
@@ -87,26 +107,10 @@ fn push_default(around: &str, ns: &str, out: &mut Text) -> Result<(), NoMemory>
     ensures { OnOk result (out.new ≡ out.old ++ attrs_text (declaration around.now ns.now) []) }
 {
     if ns != around {
-        return push_attribute("xmlns", ns, out);
+        out.push(" xmlns")?;
+        return push_value(ns, out);
     }
     Ok(())
-}
-
-/// Appends the declaration of the prefix of this number.
-fn push_declaration(
-    alloc: Global,
-    number: usize,
-    space: &str,
-    out: &mut Text,
-) -> Result<(), NoMemory>
-    requires { 0 < number }
-    ensures { OnOk result (out.new ≡ out.old
-        ++ attrs_text (declaring (record { prefix = spec.prefix_at number; ns = space.now }) ∷ []) []) }
-{
-    let mut name = Text::of(alloc, "xmlns:")?;
-    let prefix = prefix_of_number(alloc, number)?;
-    name.push(prefix.as_str())?;
-    push_attribute(name.as_str(), space, out)
 }
 
 /// Appends the declarations of the prefixes of these namespaces.
@@ -115,7 +119,9 @@ fn push_declarations(alloc: Global, spaces: &[&str], out: &mut Text) -> Result<(
 {
     let mut number = 1;
     for space in spaces {
-        push_declaration(alloc, number, space, out)?;
+        out.push(" xmlns:")?;
+        push_prefix(alloc, number, out)?;
+        push_value(space, out)?;
         number += 1;
     }
     Ok(())
@@ -134,8 +140,7 @@ fn push_attrs(
 {
     for attr in attrs {
         if !is_inline(attr) {
-            let name = attr_name(alloc, prefixes, &attr.name)?;
-            push_attribute(name.as_str(), attr.value, out)?;
+            push_attr(alloc, prefixes, attr, out)?;
         }
     }
     Ok(())

@@ -1,3 +1,5 @@
-mod HrefLemmas
+mod AsciiLemmas
+mod BackLemmas
 mod ColonLemmas
+mod HrefLemmas
 mod SpotLemmas

@@ -23,6 +23,7 @@ pub mod Exchanged
 mod FactsLaws
 mod FactsMoved
 mod FactsShuffled
+pub mod FaultlessLaws
 pub mod FaultsMoved
 mod FitLaws
 pub mod ForestLaws
@@ -36,6 +37,7 @@ pub mod HoldLaws
 pub mod HolderLaws
 pub mod IdsFit
 mod KeptLaws
+pub mod KindLinks
 mod LinkLaws
 mod LinkStandLaws
 pub mod LinksFit
@@ -45,6 +47,7 @@ pub mod LocatorFit
 pub mod MarkupTexts
 pub mod MemberLaws
 mod MembersSame
+mod MetLaws
 pub mod NameFits
 mod NoteLaws
 pub mod NoteSums

@@ -10,8 +10,7 @@ use Rattle.std.proofs.lemmas.List.Elements.{filter-append}
 use Rattle.std.proofs.lemmas.Slice.Eq.{bytes_eq-Decides}
 use Rattle.instance_out.proofs.PrefixLaws.{bytes_eq-sym}
 use Rattle.ix_base.proofs.OnceLemmas.{Contains-filter, Contains-first, Contains-nil}
-use Rattle.std.specs.Borrow.{Bor}
-use Rattle.indexmap.specs.IndexMap.{IndexMap}
+use Rattle.text_map.specs.Texts.{Texts}
 use Rattle.ix_base.specs.declared.kind.Kind.{Kind}
 use Rattle.ix_base.specs.declared.kind.Kind.TheVariants as kind
 use Rattle.ix_base.specs.Asks.{asks}
@@ -135,14 +134,14 @@ turn-arcrole kind.ArcroleRef = refl
 turn-arcrole k = refl
 
 -- whether a reference is of this kind, and its role was seen with two addresses
-abbrev pub seen-two : {S : Type 0} → IndexMap (Bor (List ℕ)) Seen S → Kind → Located → Bool
+abbrev pub seen-two : Texts Seen → Kind → Located → Bool
 seen-two m k e = is_kind k e && option_map_or (λ uri. two-of (seen_at m uri)) (uri_of e) false
 
 module _ (bases : Located → List ℕ) (es : List Located) (e : Located) where
   abbrev goes : Bool
   goes = is_some (uri_of e) && are_some (asks es) (redirects bases e)
 
-  by-uri : {S : Type 0} (m : IndexMap (Bor (List ℕ)) Seen S) (k : Kind) → AreSeen k bases es m → ((l : Kind) → same_kind k l ≡ same_kind l k) → Contains es e
+  by-uri : (m : Texts Seen) (k : Kind) → AreSeen k bases es m → ((l : Kind) → same_kind k l ≡ same_kind l k) → Contains es e
       → kind_of e.placed ≡ k → is_kind k e ≡ true → (o : Option (List ℕ)) → uri_of e ≡ o → seen-two m k e ≡ goes
   by-uri m k seen turn at is kind None u =
       ap (λ b. b && option_map_or (λ uri. two-of (seen_at m uri)) (uri_of e) false) kind
@@ -156,7 +155,7 @@ module _ (bases : Located → List ℕ) (es : List Located) (e : Located) where
       ∙ two-addresses bases es k q e turn at is kind u text
       ∙ sym (ap (λ (o : Option (List ℕ)). is_some o && are_some (asks es) (redirects bases e)) u)
 
-  not-so : {S : Type 0} (m : IndexMap (Bor (List ℕ)) Seen S) (k : Kind) → is_kind k e ≡ false → seen-two m k e ≡ false
+  not-so : (m : Texts Seen) (k : Kind) → is_kind k e ≡ false → seen-two m k e ≡ false
   not-so m k h = ap (λ b. b && option_map_or (λ uri. two-of (seen_at m uri)) (uri_of e) false) h
 
   by-kind : (r : SeenRoles) → SeesAll bases es r → Contains es e → (k : Kind) → kind_of e.placed ≡ k

@@ -6,6 +6,7 @@ pub mod Faults
 pub mod Forest
 pub mod Groups
 pub mod Holding
+pub mod LinkAttributes
 pub mod LinkStates
 pub mod LinkTables
 pub mod Linked

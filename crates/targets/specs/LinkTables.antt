@@ -9,7 +9,7 @@ use Rattle.ix_base.specs.Ids.{id_of, place_cmp, tuple_id_of}
 use Rattle.ix_base.specs.Located.{Located, is_text, located}
 use Rattle.ix_base.specs.Spots.{IsOnOnePage}
 use Rattle.targets.specs.declared.standing.Links.{Links}
-use Rattle.targets.specs.declared.standing.Named.{Named}
+use Rattle.targets.specs.declared.met_ids.Named.{Named}
 use Rattle.targets.specs.declared.agreeing.Standing.{Standing}
 use Rattle.targets.specs.declared.agreeing.Standing.TheVariants as code
 use Rattle.targets.specs.LinkStates.{Link, is_tuple_ref, links}

@@ -1,6 +1,6 @@
 -- Roles that have two addresses, told by what was seen of each as the references to it came.
 use Rattle.std.specs.Prelude.{◌≡◌, ◌||◌, ◌&&◌, not, ℕ, Bool, false, List, [], ◌∷◌, map, filter, Option, Some, None, bytes_eq, option_map}
-use Rattle.indexmap.specs.IndexMap.{IndexMap, get_by}
+use Rattle.text_map.specs.Texts.{Texts, get_in}
 use Rattle.ix_base.specs.declared.content.RoleRef.{RoleRef}
 use Rattle.ix_base.specs.declared.kind.Kind.{Kind}
 use Rattle.ix_base.specs.declared.kind.Kind.TheVariants as kind
@@ -8,11 +8,10 @@ use Rattle.ix_base.specs.LinkRules.{address_of, uri_of}
 use Rattle.ix_base.specs.Located.{Located, is_kind, is_text}
 use Rattle.targets.specs.declared.addresses.SeenRoles.{SeenRoles}
 use Rattle.targets.specs.declared.addresses.Seen.{Seen}
-use denote.Ref.{Bor}
 
 -- what was seen of the role with this URI
-abbrev pub seen_at : {S : Type 0} → IndexMap (Bor (List ℕ)) Seen S → List ℕ → Option Seen
-seen_at m q = get_by (λ k. bytes_eq q k.now) m
+abbrev pub seen_at : Texts Seen → List ℕ → Option Seen
+seen_at m q = get_in m q
 
 -- what is seen with one more address
 abbrev pub seen_with : Option Seen → List ℕ → Seen
@@ -29,7 +28,7 @@ abbrev pub refers_to : Kind → List ℕ → Located → Bool
 refers_to k q e = is_kind k e && is_text q (uri_of e)
 
 -- the table has what is seen of each role with the addresses of these elements
-abbrev pub AreSeen : {S : Type 0} → Kind → (Located → List ℕ) → List Located → IndexMap (Bor (List ℕ)) Seen S → Type 0
+abbrev pub AreSeen : Kind → (Located → List ℕ) → List Located → Texts Seen → Type 0
 AreSeen k bases es m = (q : List ℕ) → seen_at m q ≡ seen_from None (map (address_of bases) (filter (refers_to k q) es))
 
 -- both tables have what is seen with the addresses of these elements
@@ -38,5 +37,5 @@ pub record SeesAll (bases : Located → List ℕ) (es : List Located) (r : SeenR
   pub arcroles : AreSeen kind.ArcroleRef bases es r.arcroles
 
 -- the reference for the role with this URI, by what was seen of it
-abbrev pub role_seen : {S : Type 0} → IndexMap (Bor (List ℕ)) Seen S → List ℕ → Option RoleRef
+abbrev pub role_seen : Texts Seen → List ℕ → Option RoleRef
 role_seen m q = option_map (λ s. record { uri = q; href = s.address }) (seen_at m q)

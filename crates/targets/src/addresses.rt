@@ -20,13 +20,13 @@ ghost use Rattle.targets.specs.RoleAddresses.{AreSeen, SeesAll, refers_to, seen_
 ghost use Rattle.targets.specs.Seen.{AreOnPages};
 
 use id_table::Index;
-use indexmap::IndexMap;
 use ix_base::namespaces::XLINK;
 use ix_base::{
     Breaches, Element, Kind, NoMemory, Rule, Spot, Text, attr_of, kind_of, token, token_at,
 };
-use scopes::{Bases, resolved};
+use scopes::Bases;
 use std::alloc::Global;
+use text_map::TextMap;
 
 /// An attribute in the namespace of links.
 #[tactic(auto, unfolding(ix_base::specs::Namespaces::xlink_namespace))]
@@ -58,8 +58,7 @@ pub(crate) fn address_of(alloc: Global, bases: &Bases, spot: &Spot<'_>) -> Resul
     requires { (place_of spot.now).page < length bases.now.pages }
     ensures { IfOk result (λ t. t ≡ rules.address_of (base_in bases.now.pages) (located spot.now)) }
 {
-    let base = bases.of(spot)?;
-    resolved(alloc, base.as_str(), link_token(spot.element, "href"))
+    bases.resolved(alloc, spot, link_token(spot.element, "href"))
 }
 
 /// The address of the first reference to a role, and whether another one has another address.
@@ -70,23 +69,7 @@ pub(crate) struct Seen {
 }
 
 /// What was seen of each role, or of each arcrole, by its URI.
-pub(crate) type Roles<'a> = IndexMap<&'a str, Seen>;
-
-/// Takes out what was seen of a role.
-fn taken<'a>(roles: &mut Roles<'a>, uri: &str) -> Option<Seen>
-    ensures taken { result ≡ seen_at roles.old uri.now }
-    ensures left { (q : List ℕ) → seen_at roles.new q ≡ (if bytes_eq q uri.now then None else seen_at roles.old q) }
-{
-    roles.swap_remove(uri)
-}
-
-/// Puts what was seen of a role of which nothing is kept.
-fn put<'a>(roles: &mut Roles<'a>, uri: &'a str, seen: Seen) -> Result<(), NoMemory>
-    ensures { OnOk result ((q : List ℕ) → seen_at roles.new q ≡ (if bytes_eq q uri.entry.now then Some seen else seen_at roles.old q)) }
-{
-    roles.insert(uri, seen)?;
-    Ok(())
-}
+pub(crate) type Roles<'a> = TextMap<'a, Seen>;
 
 /// What is seen with one more address.
 fn with_address(seen: Option<Seen>, address: Text) -> Seen
@@ -109,8 +92,8 @@ fn note<'a>(roles: &mut Roles<'a>, uri: &'a str, address: Text) -> Result<(), No
     ensures { OnOk result ((q : List ℕ) → seen_at roles.new q
         ≡ (if bytes_eq q uri.entry.now then Some (seen_with (seen_at roles.old q) address) else seen_at roles.old q)) }
 {
-    let seen = taken(roles, uri);
-    put(roles, uri, with_address(seen, address))
+    let seen = roles.remove(uri);
+    roles.insert(uri, with_address(seen, address))
 }
 
 /// The URI that a reference of this kind is for.
@@ -157,7 +140,7 @@ fn roles_of<'a>(
     requires pages { AreOnPages bases.now.pages spots.now }
     ensures { IfOk result (AreSeen kind (base_in bases.now.pages) (all_located spots.now)) }
 {
-    let mut roles = IndexMap::new(alloc);
+    let mut roles = TextMap::new(alloc);
     for spot in spots {
         note_at(alloc, bases, kind, spot, &mut roles)?;
     }

@@ -8,7 +8,6 @@ ghost use Rattle.targets.specs.Groups.{key_by};
 
 use fact_view::target_of;
 use id_table::{Holders, enter};
-use indexmap::IndexMap;
 use ix_base::{Kind, NoMemory, Spot, kind_of};
 use std::alloc::Global;
 
@@ -56,9 +55,9 @@ pub(crate) fn grouped<'a>(
 ) -> Result<Holders<'a>, NoMemory>
     ensures { IfOk result (λ m. HasEach (key_by group) m spots.now) }
 {
-    let mut holders = IndexMap::new(alloc);
+    let mut holders = Holders::new(alloc);
     for spot in spots {
-        enter(alloc, &mut holders, key_of(group, spot), *spot)?;
+        enter(&mut holders, key_of(group, spot), *spot)?;
     }
     Ok(holders)
 }

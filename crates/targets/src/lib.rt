@@ -3,9 +3,9 @@
 //! `Set::add_page` enters a page's elements into an index and keeps the page's base. `Set::close` looks for the rules class by
 //! class: of elements, on links, of values; where none is broken it makes the contents. Facts, references and what items
 //! name are put together by their targets once, and so are the arcs of relationships, so that a target costs what it has; the
-//! value of an item is made twice, once for the rules of values and once for the content. References to roles are kept by
-//! their URIs, and a target looks up those that it uses. Beside the sorting of names, ids and lines the work grows with the
-//! pages and with what is written, and with the depth of the elements where a base or a path is followed.
+//! value of an item that may break a rule is made twice, once for the rules of values and once for the content. References to
+//! roles are kept by their URIs, and a target looks up those that it uses. Beside the sorting of names, ids and lines the work
+//! grows with the pages and with what is written, and with the depth of the elements where a base or a path is followed.
 #![tactic(auto)]
 
 mod addresses;
@@ -18,6 +18,7 @@ mod groups;
 pub mod laws;
 mod link_ids;
 mod links;
+mod met_ids;
 mod notes;
 mod outcome;
 mod parts;

@@ -1,15 +1,16 @@
 //! The ids to which an element links.
-ghost use Rattle.std.specs.Prelude.{◌≡◌, ◌++◌, ◌∷◌, ◌||◌, [], OnOk, IfOk, map, option_map, filter};
-ghost use Rattle.ix_base.specs.Chain.{continued_at as spec_continued_at};
+ghost use Rattle.std.specs.Prelude.{◌≡◌, ◌++◌, ◌∷◌, [], IfOk, OnOk, map, flat_map, option_map, filter};
 ghost use Rattle.ix_base.specs.Forms.{words_of};
-ghost use Rattle.ix_base.specs.Located.{is_continuation, is_kind, is_start, located};
-ghost use Rattle.ix_base.specs.declared.kind.Kind.TheVariants as kinds;
+ghost use Rattle.ix_base.specs.Kinds.{kind_of as spec_kind_of};
+ghost use Rattle.ix_base.specs.Located.{Located};
 ghost use Rattle.ix_base.specs.NcName.{is_ncname as spec_is_ncname};
-ghost use Rattle.targets.specs.LinkStates as states;
+ghost use Rattle.ix_base.specs.Once.{in_order};
+ghost use Rattle.ix_base.specs.Sorted.{text_cmp};
+ghost use Rattle.ix_base.specs.Trees.{tree_of};
+ghost use Rattle.targets.specs.LinkAttributes as spec;
+ghost use Rattle.targets.specs.LinkStates.{links_of};
 
-use crate::groups::is_fact;
-use crate::values::is_item;
-use ix_base::{Kind, NoMemory, Spot, attr_of, each_once, kind_of, token_at};
+use ix_base::{Element, Kind, NoMemory, attr_of, each_once, token_at};
 use scopes::is_ncname;
 use std::alloc::Global;
 use value_forms::first_word;
@@ -25,56 +26,48 @@ pub(crate) enum LinkAttribute {
     ToRefs,
 }
 
-/// Whether an element may go on elsewhere.
-fn may_go_on(spot: &Spot<'_>) -> bool
-    ensures { result ≡ (is_start (located spot.now) || is_continuation (located spot.now)) }
+/// The attributes by which an element of a kind links: what they name are all of its links.
+pub(crate) fn attributes_of(kind: Kind) -> &'static [LinkAttribute]
+    ensures { (e : Located) → spec_kind_of e.placed ≡ kind → flat_map (λ a. spec.links_in a e) result.now ≡ links_of e }
 {
-    matches!(
-        kind_of(spot),
-        Kind::NonNumeric | Kind::Footnote | Kind::Continuation
-    )
-}
-
-/// Where an element says that it goes on.
-fn continued_at<'a>(spot: &Spot<'a>) -> Option<&'a str>
-    ensures { option_map (λ s. s.now) result ≡ spec_continued_at (located spot.now) }
-{
-    if may_go_on(spot) {
-        return token_at(spot.element, "continuedAt");
+    match kind {
+        Kind::NonNumeric => &[
+            LinkAttribute::ContinuedAt,
+            LinkAttribute::ContextRef,
+            LinkAttribute::TupleRef,
+        ],
+        Kind::Footnote | Kind::Continuation => &[LinkAttribute::ContinuedAt],
+        Kind::NonFraction | Kind::Fraction => &[
+            LinkAttribute::ContextRef,
+            LinkAttribute::UnitRef,
+            LinkAttribute::TupleRef,
+        ],
+        Kind::Tuple => &[LinkAttribute::TupleRef],
+        Kind::Relationship => &[LinkAttribute::FromRefs, LinkAttribute::ToRefs],
+        _ => &[],
     }
-    None
 }
 
-/// Whether an element is a number, which has a unit.
-fn is_number(spot: &Spot<'_>) -> bool
-    ensures { result ≡ (is_kind kinds.NonFraction (located spot.now) || is_kind kinds.Fraction (located spot.now)) }
-{
-    matches!(kind_of(spot), Kind::NonFraction | Kind::Fraction)
-}
-
-/// The one id that an attribute of an element names, where the element may have it.
-fn single_at<'a>(attribute: LinkAttribute, spot: &Spot<'a>) -> Option<&'a str>
-    ensures { option_map (λ s. s.now) result ≡ states.single_at attribute (located spot.now) }
+/// What an attribute that names one id says.
+pub(crate) fn single_at<'a>(attribute: LinkAttribute, e: &Element<'a>) -> Option<&'a str>
+    ensures { option_map (λ s. s.now) result ≡ spec.single_in attribute (tree_of e.now) }
 {
     match attribute {
-        LinkAttribute::ContinuedAt => continued_at(spot),
-        LinkAttribute::ContextRef if is_item(spot) => token_at(spot.element, "contextRef"),
-        LinkAttribute::UnitRef if is_number(spot) => token_at(spot.element, "unitRef"),
-        LinkAttribute::TupleRef if is_fact(spot) => token_at(spot.element, "tupleRef"),
-        _ => None,
+        LinkAttribute::ContinuedAt => token_at(e, "continuedAt"),
+        LinkAttribute::ContextRef => token_at(e, "contextRef"),
+        LinkAttribute::UnitRef => token_at(e, "unitRef"),
+        LinkAttribute::TupleRef => token_at(e, "tupleRef"),
+        LinkAttribute::FromRefs | LinkAttribute::ToRefs => None,
     }
 }
 
-/// The list of ids that an attribute of an element names, where the element may have it.
-fn list_at<'a>(attribute: LinkAttribute, spot: &Spot<'a>) -> Option<&'a str>
-    ensures { option_map (λ s. s.now) result ≡ states.list_at attribute (located spot.now) }
+/// What an attribute that names a list of ids says.
+pub(crate) fn list_at<'a>(attribute: LinkAttribute, e: &Element<'a>) -> Option<&'a str>
+    ensures { option_map (λ s. s.now) result ≡ spec.list_in attribute (tree_of e.now) }
 {
-    if kind_of(spot) != Kind::Relationship {
-        return None;
-    }
     match attribute {
-        LinkAttribute::FromRefs => attr_of(spot.element, "", "fromRefs"),
-        LinkAttribute::ToRefs => attr_of(spot.element, "", "toRefs"),
+        LinkAttribute::FromRefs => attr_of(e, "", "fromRefs"),
+        LinkAttribute::ToRefs => attr_of(e, "", "toRefs"),
         _ => None,
     }
 }
@@ -103,21 +96,12 @@ fn push_words<'a>(ids: &mut Vec<&'a str>, text: &'a str) -> Result<(), NoMemory>
     Ok(())
 }
 
-/// The ids to which an attribute of an element links, in order, each once.
-pub(crate) fn ids_at<'a>(
-    alloc: Global,
-    attribute: LinkAttribute,
-    spot: &Spot<'a>,
-) -> Result<Vec<&'a str>, NoMemory>
-    ensures { IfOk result (λ v. map (λ s. s.now) v.items ≡ states.ids_at attribute (located spot.now)) }
+/// The words of a text that may be ids, in order, each once.
+pub(crate) fn ids_in<'a>(alloc: Global, text: &'a str) -> Result<Vec<&'a str>, NoMemory>
+    ensures { IfOk result (λ v. map (λ s. s.now) v.items ≡ in_order text_cmp (filter spec_is_ncname (words_of text.entry.now))) }
 {
     let mut ids = Vec::new(alloc);
-    if let Some(id) = single_at(attribute, spot) {
-        push_id(&mut ids, id)?;
-    }
-    if let Some(text) = list_at(attribute, spot) {
-        push_words(&mut ids, text)?;
-    }
+    push_words(&mut ids, text)?;
     each_once(&mut ids);
     Ok(ids)
 }

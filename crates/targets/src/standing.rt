@@ -3,33 +3,31 @@
 //! A link is an id that an attribute of an element names. It is pending as long as no element has the id, resolved where one has
 //! it, or several contexts or units of one normal form, and doubled where more have it that don't agree. Each id that was met
 //! lies in a hashed table, with how it stands and how many links name it; so an element that comes, and a link that comes, cost
-//! a hash each.
-ghost use Rattle.std.specs.Prelude.{◌≡◌, ◌++◌, ◌∷◌, ◌≤◌, [], ℕ, List, OnOk, IfOk, IfSome, map, option_map, if◌then◌else◌, bytes_eq, true, Some};
+//! one look-up each. Of an element that comes the kind is asked once, and only the attributes that its kind has are looked at.
+ghost use Rattle.std.specs.Prelude.{◌≡◌, ◌++◌, ◌∷◌, ◌≤◌, [], ℕ, List, OnOk, IfOk, IfSome, filter, option_map, if◌then◌else◌, bytes_eq, true};
+ghost use Rattle.ix_base.specs.Forms.{words_of};
 ghost use Rattle.ix_base.specs.Ids.{tuple_id_of};
+ghost use Rattle.ix_base.specs.Kinds.{kind_of as spec_kind_of};
 ghost use Rattle.ix_base.specs.Located.{Located, located};
+ghost use Rattle.ix_base.specs.NcName.{is_ncname as spec_is_ncname};
+ghost use Rattle.ix_base.specs.Once.{in_order};
+ghost use Rattle.ix_base.specs.Sorted.{text_cmp};
 ghost use Rattle.ix_base.specs.Spots.{IsOnOnePage};
 ghost use Rattle.id_table.specs.Tables.{AreOnOwnPages, all_located};
 ghost use Rattle.targets.specs.Holding.{names_of};
 ghost use Rattle.targets.specs.LinkTables as tables;
-ghost use Rattle.targets.specs.LinkTables.{AreFirstOnPages, AreLinked, AreLinks, AreOfSome, AreSomeLinks, IsFirstOnPage, found_in, kept_in, named_of, named_in};
-ghost use Rattle.targets.specs.LinkStates.{Link, links_from};
+ghost use Rattle.targets.specs.LinkTables.{AreFirstOnPages, AreLinked, AreLinks, AreOfSome, AreSomeLinks, IsFirstOnPage, kept_in, named_of, named_in};
+ghost use Rattle.targets.specs.LinkAttributes.{links_in, links_to};
+ghost use Rattle.targets.specs.LinkStates.{Link, links_of};
 
 use crate::agreeing::{PageNames, Standing, with_holder, with_tuple};
-use crate::link_ids::{LinkAttribute, ids_at};
+use crate::link_ids::{LinkAttribute, attributes_of, ids_in, list_at, single_at};
+use crate::met_ids::{Named, Names, known, name_once_more, unmet};
 use id_table::id_at;
 use indexmap::IndexMap;
 use ix_base::{Kind, NoMemory, Spot, kind_of, token_at};
+use scopes::is_ncname;
 use std::alloc::Global;
-
-/// How an id stands, and how many links name it.
-#[derive(Clone, Copy)]
-pub(crate) struct Named<'a> {
-    standing: Standing<'a>,
-    links: u64,
-}
-
-/// The ids that were met.
-type Names<'a> = IndexMap<&'a str, Named<'a>>;
 
 /// The links of the elements so far: the ids and the tuple ids that were met, and how many links are pending and doubled.
 #[derive(Drop)]
@@ -40,50 +38,15 @@ pub(crate) struct Links<'a> {
     doubled: u64,
 }
 
-/// The tuple id of an element.
-fn tuple_id_at<'a>(spot: &Spot<'a>) -> Option<&'a str>
+/// The tuple id of an element of this kind.
+fn tuple_id_at<'a>(kind: Kind, spot: &Spot<'a>) -> Option<&'a str>
+    requires { kind ≡ spec_kind_of (located spot.now).placed }
     ensures { option_map (λ s. s.now) result ≡ tuple_id_of (located spot.now) }
 {
-    match kind_of(spot) {
+    match kind {
         Kind::Tuple => token_at(spot.element, "tupleID"),
         _ => None,
     }
-}
-
-/// What is known of an id.
-fn known<'a>(names: &Names<'a>, id: &str) -> Named<'a>
-    ensures named { named_of result ≡ named_in names.now id.now }
-    ensures page { AreFirstOnPages names.now → IsFirstOnPage result.standing }
-{
-    match names.get(id) {
-        Some(named) => *named,
-        None => Named {
-            standing: Standing::Pending,
-            links: 0,
-        },
-    }
-}
-
-/// Keeps what is known of an id.
-fn keep<'a>(names: &mut Names<'a>, id: &'a str, named: Named<'a>) -> Result<(), NoMemory>
-    ensures { OnOk result ((q : List ℕ) → found_in names.new q
-        ≡ (if bytes_eq q id.entry.now then Some named.entry else found_in names.old q)) }
-{
-    names.insert(id, named)?;
-    Ok(())
-}
-
-/// One more link names an id: what was known of the id before.
-fn name_once_more<'a>(names: &mut Names<'a>, id: &'a str) -> Result<Named<'a>, NoMemory>
-    ensures before { IfOk result (λ n. named_of n ≡ named_in names.old id.entry.now) }
-    ensures kept { OnOk result ((q : List ℕ) → named_in names.new q
-        ≡ (if bytes_eq q id.entry.now then tables.named_once_more (named_in names.old q) else named_in names.old q)) }
-    ensures pages { AreFirstOnPages names.old → OnOk result (AreFirstOnPages names.new) }
-{
-    let before = known(names, id);
-    let links = before.links.checked_add(1).ok_or(NoMemory)?;
-    keep(names, id, Named { links, ..before })?;
-    Ok(before)
 }
 
 impl<'a> Links<'a> {
@@ -169,25 +132,28 @@ impl<'a> Links<'a> {
         let Some(id) = id_at(spot) else {
             return Ok(());
         };
-        let named = known(&self.ids, id);
-        let standing = with_holder(alloc, names, named.standing, spot)?;
-        self.count_holder(named, standing)?;
-        keep(&mut self.ids, id, Named { standing, ..named })
+        let named = self.ids.entry(id)?.or_insert(unmet());
+        let before = *named;
+        let standing = with_holder(alloc, names, before.standing, spot)?;
+        named.standing = standing;
+        self.count_holder(before, standing)
     }
 
-    /// An element comes that may have a tuple id.
-    fn hold_tuple(&mut self, spot: &'a Spot<'a>) -> Result<(), NoMemory>
-        requires { AreSomeLinks self.old }
+    /// An element of this kind comes that may have a tuple id.
+    fn hold_tuple(&mut self, kind: Kind, spot: &'a Spot<'a>) -> Result<(), NoMemory>
+        requires some { AreSomeLinks self.old }
+        requires kind { kind ≡ spec_kind_of (located spot.now).placed }
         ensures { (names : ℕ → List ℕ) (es ts : List Located) (ls : List Link) → AreLinked names es ts ls self.old
             → OnOk result (AreLinked names es (ts ++ located spot.entry.now ∷ []) ls self.new) }
     {
-        let Some(id) = tuple_id_at(spot) else {
+        let Some(id) = tuple_id_at(kind, spot) else {
             return Ok(());
         };
-        let named = known(&self.tuple_ids, id);
-        let standing = with_tuple(named.standing, spot);
-        self.count_holder(named, standing)?;
-        keep(&mut self.tuple_ids, id, Named { standing, ..named })
+        let named = self.tuple_ids.entry(id)?.or_insert(unmet());
+        let before = *named;
+        let standing = with_tuple(before.standing, spot);
+        named.standing = standing;
+        self.count_holder(before, standing)
     }
 
     /// A link comes.
@@ -202,19 +168,63 @@ impl<'a> Links<'a> {
         self.count_link(before)
     }
 
+    /// A link comes, where the text can be an id.
+    fn link_if_id(&mut self, attribute: LinkAttribute, text: &'a str) -> Result<(), NoMemory>
+        ensures { (names : ℕ → List ℕ) (es ts : List Located) (ls : List Link) (e : Located) → AreLinked names es ts ls self.old
+            → OnOk result (AreLinked names es ts
+            (ls ++ links_to attribute e (filter spec_is_ncname (text.entry.now ∷ []))) self.new) }
+    {
+        if is_ncname(text) {
+            return self.link(attribute, text);
+        }
+        Ok(())
+    }
+
+    /// The links to the ids of a list come.
+    fn link_each(
+        &mut self,
+        alloc: Global,
+        attribute: LinkAttribute,
+        list: &'a str,
+    ) -> Result<(), NoMemory>
+        ensures { (names : ℕ → List ℕ) (es ts : List Located) (ls : List Link) (e : Located) → AreLinked names es ts ls self.old
+            → OnOk result (AreLinked names es ts
+            (ls ++ links_to attribute e (in_order text_cmp (filter spec_is_ncname (words_of list.entry.now)))) self.new) }
+    {
+        let ids = ids_in(alloc, list)?;
+        for id in ids.as_slice() {
+            self.link(attribute, *id)?;
+        }
+        Ok(())
+    }
+
     /// The links of an attribute of an element come.
-    fn link_all(
+    fn link_by(
         &mut self,
         alloc: Global,
         attribute: LinkAttribute,
         spot: &Spot<'a>,
     ) -> Result<(), NoMemory>
         ensures { (names : ℕ → List ℕ) (es ts : List Located) (ls : List Link) → AreLinked names es ts ls self.old
-            → OnOk result (AreLinked names es ts (ls ++ links_from attribute (located spot.now)) self.new) }
+            → OnOk result (AreLinked names es ts (ls ++ links_in attribute (located spot.now)) self.new) }
     {
-        let ids = ids_at(alloc, attribute, spot)?;
-        for id in ids.as_slice() {
-            self.link(attribute, *id)?;
+        if let Some(id) = single_at(attribute, spot.element) {
+            return self.link_if_id(attribute, id);
+        }
+        match list_at(attribute, spot.element) {
+            Some(list) => self.link_each(alloc, attribute, list),
+            None => Ok(()),
+        }
+    }
+
+    /// The links of an element of this kind come.
+    fn link_all(&mut self, alloc: Global, kind: Kind, spot: &Spot<'a>) -> Result<(), NoMemory>
+        requires { kind ≡ spec_kind_of (located spot.now).placed }
+        ensures { (names : ℕ → List ℕ) (es ts : List Located) (ls : List Link) → AreLinked names es ts ls self.old
+            → OnOk result (AreLinked names es ts (ls ++ links_of (located spot.now)) self.new) }
+    {
+        for attribute in attributes_of(kind) {
+            self.link_by(alloc, *attribute, spot)?;
         }
         Ok(())
     }
@@ -231,14 +241,10 @@ impl<'a> Links<'a> {
         ensures { (es : List Located) → AreLinks (names_of names.now) es self.old
             → OnOk result (AreLinks (names_of names.now) (es ++ located spot.entry.now ∷ []) self.new) }
     {
+        let kind = kind_of(spot);
         self.hold(alloc, names, spot)?;
-        self.hold_tuple(spot)?;
-        self.link_all(alloc, LinkAttribute::ContinuedAt, spot)?;
-        self.link_all(alloc, LinkAttribute::ContextRef, spot)?;
-        self.link_all(alloc, LinkAttribute::UnitRef, spot)?;
-        self.link_all(alloc, LinkAttribute::TupleRef, spot)?;
-        self.link_all(alloc, LinkAttribute::FromRefs, spot)?;
-        self.link_all(alloc, LinkAttribute::ToRefs, spot)
+        self.hold_tuple(kind, spot)?;
+        self.link_all(alloc, kind, spot)
     }
 
     /// Elements come, with their links.

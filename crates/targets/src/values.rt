@@ -13,14 +13,15 @@ ghost use Rattle.ix_base.specs.declared.breach.Found.{Found};
 ghost use Rattle.facts.specs.ItemValue.{IsItem};
 ghost use Rattle.facts.specs.Verdicts.{said};
 ghost use Rattle.id_table.specs.Tables.{all_located};
-ghost use Rattle.targets.specs.Faults.{AreOfItems, fault_by, rule_said, value_fault};
+ghost use Rattle.targets.specs.Faults.{AreOfItems, fault_by, rule_said, faultless, value_fault};
 ghost use Rattle.targets.specs.Linked.{IsLinked, IsValued, all_of, bases_of};
 ghost use Rattle.targets.specs.Seen.{AreAmong};
 
 use crate::links::Linked;
 use facts::{ItemFault, item_of};
-use ix_base::{Breaches, Item, Kind, NoMemory, Rule, Spot, kind_of};
+use ix_base::{Breaches, Item, Kind, NoMemory, Rule, Spot, attr_of, kind_of};
 use std::alloc::Global;
+use value_forms::is_nil;
 
 pub(crate) fn is_item(spot: &Spot<'_>) -> bool
     ensures { result ≡ kinds.is_item (located spot.now) }
@@ -77,7 +78,16 @@ fn add_at(spot: &Spot<'_>, rule: Rule, found: &mut Breaches) -> Result<(), NoMem
     found.add(spot.element.place, rule)
 }
 
-/// Adds the rule of values that an item breaks, if it breaks one.
+/// Whether an item breaks no rule of values, as its attributes tell: it has no value, or its text as it stands.
+fn is_faultless(spot: &Spot<'_>) -> bool
+    ensures { result ≡ faultless (located spot.now) }
+{
+    let has_own_text = kind_of(spot) == Kind::NonNumeric
+        && attr_of(spot.element, "", "format").is_none();
+    has_own_text || is_nil(spot.element)
+}
+
+/// Adds the rule of values that an item breaks, if it breaks one. No item is made where its attributes tell that it breaks none.
 fn add_value<'a>(
     alloc: Global,
     linked: &Linked<'_, 'a>,
@@ -90,6 +100,9 @@ fn add_value<'a>(
         × IsItem (base_in (bases_of linked.now)) (asks (all_of linked.now)) (located spot.now) r
         × (found.new ≡ found.old ++ value_fault (located spot.now) r)) }
 {
+    if is_faultless(spot) {
+        return Ok(());
+    }
     let rule = rule_in(item_at(alloc, linked, spot))?;
     match rule {
         Some(rule) => add_at(spot, rule, found),

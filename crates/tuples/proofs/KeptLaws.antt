@@ -1,5 +1,5 @@
 -- Members that are kept, as contracts see them.
-use Rattle.std.proofs.Common.{◌≡◌, ◌∙◌, ℕ, Bool, true, false, cond, List, [], ◌∷◌, refl, ap, map, Option, Some, None, option_map}
+use Rattle.std.proofs.Common.{◌≡◌, ◌∙◌, ℕ, List, [], ◌∷◌, refl, ap, Option, Some, None, option_map}
 use Rattle.std.proofs.lemmas.Map.Made.{lookup-map_values}
 use Rattle.std.specs.Borrow.{Bor}
 use Rattle.std.specs.Global.{Global}
@@ -7,6 +7,7 @@ use Rattle.std.specs.Map.{lookup}
 use Rattle.std.specs.Option.{option_map_or}
 use Rattle.std.specs.Prelude.{Vec, bytes_eq}
 use Rattle.indexmap.specs.IndexMap.{IndexMap}
+use Rattle.text_map.specs.Texts.{Texts}
 use Rattle.ix_base.specs.Asks.{Asks, only}
 use Rattle.ix_base.specs.Ids.{one_tuple}
 use Rattle.ix_base.specs.Located.{Located, located}
@@ -27,25 +28,14 @@ only-map [] = refl
 only-map (x ∷ []) = refl
 only-map (x ∷ y ∷ xs) = refl
 
-found-by : (b : Bool) (v : Vec (Bor Spot) Global) (p : Option (List Located)) (q : Option (Vec (Bor Spot) Global))
-    → p ≡ option_map (λ (w : Vec (Bor Spot) Global). all_located w.items) q
-    → cond b (Some (all_located v.items)) p ≡ option_map (λ (w : Vec (Bor Spot) Global). all_located w.items) (cond b (Some v) q)
-found-by true v p q h = refl
-found-by false v p q h = h
-
-lookup-texts : (id : List ℕ) (es : List (Bor (List ℕ) × Vec (Bor Spot) Global))
-    → lookup (bytes_eq id) (map (λ e. (e.0.now, all_located e.1.items)) es) ≡ option_map (λ (w : Vec (Bor Spot) Global). all_located w.items) (lookup (λ k. bytes_eq id k.now) es)
-lookup-texts id [] = refl
-lookup-texts id (e ∷ es) = found-by (bytes_eq id e.0.now) e.1 _ _ (lookup-texts id es)
-
 one-of : (o : Option (Vec (Bor Spot) Global))
     → only (option_map_or (λ l. l) (option_map (λ (w : Vec (Bor Spot) Global). all_located w.items) o) []) ≡ option_map (λ s. located s.now) (only (option_map_or (λ (w : Vec (Bor Spot) Global). w.items) o []))
 one-of None = refl
 one-of (Some v) = only-map v.items
 
-pub tuple-is : {S : Type 0} (m : IndexMap (Bor (List ℕ)) (Vec (Bor Spot) Global) S) (ls : List ((ℕ × ℕ) × List Located)) (id : List ℕ)
+pub tuple-is : (m : Texts (Vec (Bor Spot) Global)) (ls : List ((ℕ × ℕ) × List Located)) (id : List ℕ)
     → tuple_at (record { lists = ls; tuples = tuples_in m }) id ≡ option_map (λ s. located s.now) (only (spots_at m id))
-tuple-is m ls id = ap (λ o. only (option_map_or (λ l. l) o [])) (lookup-texts id m.entries) ∙ one-of (lookup (λ k. bytes_eq id k.now) m.entries)
+tuple-is m ls id = ap (λ o. only (option_map_or (λ l. l) o [])) (lookup-map_values (λ (w : Vec (Bor Spot) Global). all_located w.items) (bytes_eq id) m) ∙ one-of (lookup (bytes_eq id) m)
 
 -- owners by tables in which the one tuple stands at each tuple id
 pub owner-same : (k : Kept) (a : Asks Located) → ((id : List ℕ) → tuple_at k id ≡ one_tuple a id) → (e : Located) (o : Option (List ℕ)) → owner_by k e o ≡ spec.owner_by a e o

@@ -5,7 +5,7 @@ use Rattle.std.specs.Coded.{Coded, code_by, coded×, coded_ℕ, coded_list}
 use Rattle.std.specs.Global.{Global}
 use Rattle.std.specs.Map.{lookup}
 use Rattle.std.specs.Option.{option_map_or}
-use Rattle.indexmap.specs.IndexMap.{IndexMap}
+use Rattle.text_map.specs.Texts.{Texts}
 use Rattle.ix_base.specs.Asks.{asks, only}
 use Rattle.ix_base.specs.Located.{Located, offset_of}
 use Rattle.ix_base.specs.Membership.{members, nearest_tuple, owner, tuple_ref_of}
@@ -40,12 +40,12 @@ pub record AreMembersOf (k : Kept) (es : List Located) : Type 0 where
   pub owners : (e : Located) → owner_in k e ≡ owner (asks es) e
 
 -- what stands above each spot of the table is of its page
-abbrev pub AreAllOnOwnPages : {S : Type 0} → IndexMap (Bor (List ℕ)) (Vec (Bor Spot) Global) S → Type 0
+abbrev pub AreAllOnOwnPages : Texts (Vec (Bor Spot) Global) → Type 0
 AreAllOnOwnPages m = (id : List ℕ) → AreOnOwnPages (spots_at m id)
 
 -- tuples by their tuple ids
-abbrev pub tuples_in : {S : Type 0} → IndexMap (Bor (List ℕ)) (Vec (Bor Spot) Global) S → List (List ℕ × List Located)
-tuples_in m = map (λ e. (e.0.now, all_located e.1.items)) m.entries
+abbrev pub tuples_in : Texts (Vec (Bor Spot) Global) → List (List ℕ × List Located)
+tuples_in m = map (λ e. (e.0, all_located e.1.items)) m
 
 abbrev pub kept_code : Coded Kept
 kept_code = code_by (List ((ℕ × ℕ) × List Located) × List (List ℕ × List Located))

@@ -21,7 +21,6 @@ use crate::slice::Slice;
 use crate::slices::{Slices, slices_of};
 use bumpalo::Bump;
 use id_table::{Holders, Index, enter};
-use indexmap::IndexMap;
 use ix_base::{NoMemory, Spot, token_at};
 use std::alloc::Global;
 use std::marker::Model;
@@ -64,9 +63,9 @@ fn tuples_of<'a>(alloc: Global, index: &Index<'a>) -> Result<Holders<'a>, NoMemo
         → option_map (λ s. located s.now) (only (spots_at m id)) ≡ ids.one_tuple (asked index.now) id) }
     ensures pages { IfOk result (λ m. AreAllOnOwnPages m) }
 {
-    let mut tuples = IndexMap::new(alloc);
+    let mut tuples = Holders::new(alloc);
     for spot in index.spots() {
-        enter(alloc, &mut tuples, tuple_id_of(spot), *spot)?;
+        enter(&mut tuples, tuple_id_of(spot), *spot)?;
     }
     Ok(tuples)
 }

@@ -4,9 +4,9 @@ ghost use Rattle.instance_out.specs.Denotation as spec;
 ghost use Rattle.instance_out.specs.Lists.{are_apart};
 ghost use Rattle.instance_in.specs.Reading.{HasEnds, end_of, id_at, labels_of};
 
-use indexmap::IndexMap;
 use ix_base::{Footnote, NoMemory, Text};
 use std::alloc::Global;
+use text_map::TextMap;
 
 /// A label, and the id of what has it.
 #[derive(Clone, Copy)]
@@ -16,7 +16,7 @@ pub(super) struct End<'a> {
 }
 
 /// The id at each label.
-pub(super) type Ends<'a> = IndexMap<&'a str, &'a str>;
+pub(super) type Ends<'a> = TextMap<'a, &'a str>;
 
 /// The id at a label. It takes no memory.
 pub(super) fn id_of<'a>(ends: &Ends<'a>, label: &str) -> Option<&'a str>
@@ -31,7 +31,9 @@ fn put<'a>(ends: &mut Ends<'a>, end: End<'a>) -> Result<bool, NoMemory>
     ensures ids { IfOk result (λ _. (q : List ℕ) → id_at ends.new q
         ≡ (if bytes_eq q end.entry.label.now then Some end.entry.id.now else id_at ends.old q)) }
 {
-    Ok(ends.insert(end.label, end.id)?.is_none())
+    let is_new = ends.get(end.label).is_none();
+    ends.insert(end.label, end.id)?;
+    Ok(is_new)
 }
 
 /// The ids at the labels of some ends, if no two have one label. The ends are put from the last to the first.
@@ -39,7 +41,7 @@ pub(super) fn table_of<'a>(alloc: Global, ends: &[End<'a>]) -> Result<Option<End
     ensures apart { IfOk result (λ o. is_some o ≡ are_apart (labels_of (map end_of ends.now))) }
     ensures ids { IfOk result (λ o. IfSome o (λ table. HasEnds table (map end_of ends.now))) }
 {
-    let mut table = IndexMap::new(alloc);
+    let mut table = TextMap::new(alloc);
     let mut left = ends.len();
     while left > 0 {
         left -= 1;

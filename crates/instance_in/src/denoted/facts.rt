@@ -97,11 +97,6 @@ pub(super) fn facts_among(alloc: Global, nodes: &[Node<'_>]) -> Result<Option<Li
     let mut facts = List::new(alloc);
     for node in nodes {
         match node {
-            Node::Chars(text) => {
-                if !is_blank(text) {
-                    return Ok(None);
-                }
-            }
             Node::Elem(e) => {
                 if is_part(&e.name) {
                     continue;
@@ -110,6 +105,11 @@ pub(super) fn facts_among(alloc: Global, nodes: &[Node<'_>]) -> Result<Option<Li
                     return Ok(None);
                 };
                 facts.push(fact)?;
+            }
+            Node::Chars(text) => {
+                if !is_blank(text) {
+                    return Ok(None);
+                }
             }
         }
     }

@@ -1,11 +1,9 @@
 //! What a person is told on standard error.
 
-use super::Slow;
-use crate::blamed::Blamed;
-use crate::cause::Cause;
 use crate::complaint::complain;
 use crate::wrong::wrong_line;
 use ix_base::{NoMemory, Text};
+use ixds_files::{Blamed, Cause};
 use ixds_run::Status;
 use std::alloc::Global;
 use std::test::Fail;
@@ -74,14 +72,14 @@ fn a_person_is_told_what_failed(rt: HostRuntime) -> Result<(), Fail> {
         (Status::Done, None, None, b""),
     ];
     for (status, name, cause, due) in rows {
-        let mut err = Slow::new(alloc, 0, 100, 100);
+        let mut err = Vec::new(alloc);
         let file = Told { name, cause };
         let out = Told {
             name: Some("standard output"),
             cause: Some(Cause::Unread),
         };
         complain(alloc, &[], status, &file, &file, &out, &mut err);
-        assert!(rt; err.bytes.as_slice() == due, "{name:?}");
+        assert!(rt; err.as_slice() == due, "{name:?}");
     }
     Ok(())
 }

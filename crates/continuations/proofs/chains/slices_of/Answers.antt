@@ -1,28 +1,41 @@
-use Rattle.std.proofs.Common.{◌∙◌, ◌+◌, ap, take, List, option_map}
-use Rattle.std.proofs.lemmas.List.{take_all}
-use Rattle.ix_base.specs.Chain.{chain_of}
+use Rattle.std.proofs.Common.{◌≡◌, ◌∙◌, ◌+◌, ◌<◌, ap, arith, sym, take, length, option_map, Some, List}
+use Rattle.std.proofs.lemmas.List.{length-map, take_all}
+use Rattle.std.specs.Borrow.{Bor}
+use Rattle.std.specs.List.{slice_get}
+use Rattle.std.specs.Map.{lookup}
+use Rattle.ix_base.specs.declared.tree.Spot.{Spot}
+use Rattle.ix_base.specs.Chain.{chain}
 use Rattle.ix_base.specs.Located.{Located, located}
 use Rattle.id_table.specs.Held.{asked}
 use Rattle.id_table.specs.Tables.{all_located}
-use Rattle.id_table.proofs.OnPages.{on_page-at}
-use Rattle.continuations.specs.Slices.{slice_at, first_start}
-use Rattle.continuations.proofs.SliceLaws.{kept-more, located-take}
+use Rattle.continuations.specs.Slices.{chain_in, first_start, is_key, slice_at}
+use Rattle.continuations.proofs.Numbering.{got-at}
+use Rattle.continuations.proofs.SliceLaws.{first-of-both, first-of-none, start-more}
 use Rattle.continuations.proofs.chains.slices_of.Goals as goal
+
+pub loop-number-preserved : goal.loop-number-preserved
+loop-number-preserved c = λ page offset.
+    let l = c.args.links.now in
+    let xs = all_located l.spots.items in
+    let many : length xs ≡ length l.spots.items = length-map l.spots.items (λ (s : Bor Spot). located s.now) in
+    let within : c.loop-number.number < length xs = omega (arith, many, l.spots.ok.0, c.len-number-end.ensures, c.loop-number-test.true) in
+    let at : (e : Located) × (slice_get xs c.loop-number.number ≡ Some e) = got-at xs c.loop-number.number within in
+    start-more (chain (asked c.args.index.now)) page offset (slice_at c.loop-number.slices page offset) (slice_at c.enter_chain.new.slices page offset) c.args.index.now.spots xs
+    l.continuations c.loop-number.number at.0 c.requires.spots c.requires.counted c.loop-number.auto.number at.1
+    (c.loop-number.invariant page offset) (c.in_ok-enter_chain.ensures at.0 at.1 page offset)
+
+pub loop-number-init : goal.loop-number-init
+loop-number-init c = λ page offset.
+    ap (λ entries. option_map chain_in (lookup (is_key page offset) entries)) c.in_ok-slices.ensures.empty
+    ∙ sym (ap (option_map (chain (asked c.args.index.now)))
+    (first-of-none page offset c.args.index.now.spots (all_located c.args.links.now.spots.items) c.args.links.now.continuations c.requires.spots c.requires.counted))
 
 pub returns : goal.returns
 returns c = λ page offset.
-    c.loop-spot.invariant page offset
-    ∙ ap (λ (es : List Located). option_map (chain_of (asked c.args.index.now) c.most_in-most.result) (first_start page offset es))
-    (ap all_located (take_all c.loop-spot.spot-index c.spots-spot-items.result.now c.loop-spot-test.false) ∙ c.spots-spot-items.ensures.elements)
-    ∙ ap (λ m. option_map (chain_of (asked c.args.index.now) m) (first_start page offset c.args.index.now.spots)) c.most_in-most.ensures
-
-pub loop-spot-preserved : goal.loop-spot-preserved
-loop-spot-preserved c = λ page offset.
-    kept-more (chain_of (asked c.args.index.now) c.most_in-most.result) page offset (slice_at c.loop-spot.slices page offset) (slice_at c.enter_start.new.slices page offset)
-    (all_located (take c.loop-spot.spot-index c.spots-spot-items.result.now)) (all_located (take (c.loop-spot.spot-index + 1) c.spots-spot-items.result.now))
-    (located c.spot-item.result.now)
-    (located-take c.spots-spot-items.result.now c.loop-spot.spot-index c.spot-item.result c.loop-spot-test.true c.spot-item.is)
-    (c.loop-spot.invariant page offset) (c.in_ok-enter_start.ensures page offset)
-
-pub enter_start-requires : goal.enter_start-requires
-enter_start-requires c = on_page-at c.spots-spot-items.result.now c.loop-spot.spot-index c.spot-item.result c.loop-spot-test.true c.spot-item.is c.spots-spot-items.ensures.pages
+    let l = c.args.links.now in
+    let xs = all_located l.spots.items in
+    let many : length xs ≡ length l.spots.items = length-map l.spots.items (λ (s : Bor Spot). located s.now) in
+    c.loop-number.invariant page offset
+    ∙ ap (λ ys. option_map (chain (asked c.args.index.now)) (first_start page offset ys))
+    (take_all c.loop-number.number xs (omega (arith, many, l.spots.ok.0, c.len-number-end.ensures, c.loop-number-test.false)))
+    ∙ ap (option_map (chain (asked c.args.index.now))) (first-of-both page offset c.args.index.now.spots xs c.requires.spots)

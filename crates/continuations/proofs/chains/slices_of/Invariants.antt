@@ -1,11 +1,11 @@
 use Rattle.std.proofs.Common.{◌≡◌, ℕ, take, option_map}
-use Rattle.ix_base.specs.Chain.{chain_of}
+use Rattle.ix_base.specs.Chain.{chain}
 use Rattle.id_table.specs.Held.{asked}
 use Rattle.id_table.specs.Tables.{all_located}
 use Rattle.continuations.specs.Slices.{slice_at, first_start}
 use Rattle.continuations.proofs.chains.slices_of.Given as goal
 
 -- the chains of the elements before here are kept
-abbrev pub invariant-loop-spot : goal.invariant-loop-spot
-invariant-loop-spot l = (page offset : ℕ) → slice_at l.slices page offset
-    ≡ option_map (chain_of (asked l.index) l.most) (first_start page offset (all_located (take l.spot-index l.spot-items)))
+abbrev pub invariant-loop-number : goal.invariant-loop-number
+invariant-loop-number l = (page offset : ℕ) → slice_at l.slices page offset
+    ≡ option_map (chain (asked l.index)) (first_start page offset (take l.number (all_located l.links.spots.items)))

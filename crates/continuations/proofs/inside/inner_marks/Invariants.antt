@@ -7,5 +7,5 @@ use Rattle.continuations.proofs.inside.inner_marks.Given as goal
 abbrev pub invariant-loop-x : goal.invariant-loop-x
 invariant-loop-x l = record {
   len : length l.marks.items ≡ l.x;
-  inner : AreInner l.nexts l.first l.numbers (all_located l.spots) l.x l.marks.items;
+  inner : AreInner l.courses.nexts.now l.courses.first l.numbers (all_located l.spots) l.x l.marks.items;
 }

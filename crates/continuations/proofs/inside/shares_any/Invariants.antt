@@ -4,4 +4,4 @@ use Rattle.continuations.proofs.inside.shares_any.Given as goal
 
 -- none of those before here is shared
 abbrev pub invariant-loop-y : goal.invariant-loop-y
-invariant-loop-y l = SharesAny l.nexts l.first (take l.y-index l.numbers) l.x → ⊥
+invariant-loop-y l = SharesAny l.courses.nexts.now l.courses.first (take l.y-index l.numbers) l.x → ⊥

@@ -8,7 +8,7 @@ use Rattle.id_table.specs.Tables.{all_located}
 use Rattle.continuations.specs.Inside.{AreInner, ArePlaced}
 use Rattle.continuations.specs.Places.{HoldsMarked}
 use Rattle.continuations.proofs.Inner.{inner-stands}
-use Rattle.continuations.proofs.Standing.{AreOf, of-same}
+use Rattle.continuations.proofs.Standing.{AreOf, of-links, of-same}
 use Rattle.continuations.proofs.seen.inner_places.Goals as goal
 
 pub returns : goal.returns
@@ -20,7 +20,7 @@ returns c =
     let marks = c.in_ok-marks.marks.items in
     let o : AreOf c.args.index.now.spots xs l.continuations nexts
     = of-same c.args.index.now.spots (all_located l.spots.items) xs l.continuations l.nexts.items nexts
-    (ap all_located c.as_slice-spots.ensures.value) c.as_slice-nexts.ensures.value (record { spots = c.requires.spots; counted = c.requires.count; nexts = c.requires.nexts }) in
+    (ap all_located c.as_slice-spots.ensures.value) c.as_slice-nexts.ensures.value (of-links c.args.index.now.spots l c.requires) in
     let n : length c.as_slice-spots.result.now ≡ length xs = sym (length-map c.as_slice-spots.result.now (λ (s : Bor Spot). located s.now)) in
     IfOk-weaker _ _ _
     (λ p h. inner-stands p numbers c.args.index.now.spots xs l.continuations nexts marks o

@@ -1,19 +1,24 @@
-use Rattle.std.proofs.Common.{ap, subst, length, List, Bool}
+use Rattle.std.proofs.Common.{◌≡◌, ◌∙◌, ap, sym, subst, length, List}
+use Rattle.std.proofs.lemmas.List.{length-map}
 use Rattle.std.proofs.lemmas.Result.{IfOk-weaker}
+use Rattle.std.specs.Borrow.{Bor}
+use Rattle.ix_base.specs.declared.tree.Spot.{Spot}
+use Rattle.ix_base.specs.Located.{located}
 use Rattle.id_table.specs.Tables.{all_located}
 use Rattle.continuations.specs.Places.{HoldsMarked}
-use Rattle.continuations.proofs.Standing.{AreOf, of-same, reached-stands}
+use Rattle.continuations.proofs.Standing.{of-links, reached-stands}
 use Rattle.continuations.proofs.seen.reached_places.Goals as goal
+
+pub marked_places-requires : goal.marked_places-requires
+marked_places-requires c =
+    c.requires.len ∙ c.requires.links.nexts.length_is ∙ length-map c.args.links.now.spots.items (λ (s : Bor Spot). located s.now)
+    ∙ sym (ap length c.as_slice.ensures.value)
 
 pub returns : goal.returns
 returns c =
     let l = c.args.links.now in
-    let xs = all_located c.as_slice.result.now in
-    let marks = c.in_ok-reached.reached.items in
-    let o : AreOf c.args.index.now.spots xs l.continuations c.as_slice-nexts.result.now
-    = of-same c.args.index.now.spots (all_located l.spots.items) xs l.continuations l.nexts.items c.as_slice-nexts.result.now
-    (ap all_located c.as_slice.ensures.value) c.as_slice-nexts.ensures.value (record { spots = c.requires.spots; counted = c.requires.count; nexts = c.requires.nexts }) in
     IfOk-weaker _ _ _
-    (λ p h. reached-stands p c.args.index.now.spots xs l.continuations c.as_slice-nexts.result.now marks o c.in_ok-reached.ensures.marked
-    (subst (λ (ms : List Bool). HoldsMarked p xs ms (length xs)) c.as_slice-2.ensures.value h))
+    (λ p h. reached-stands p c.args.index.now.spots (all_located l.spots.items) l.continuations l.nexts.items c.args.marks.now
+    (of-links c.args.index.now.spots l c.requires.links) c.requires.marked
+    (subst (λ (xs : List (Bor Spot)). HoldsMarked p (all_located xs) c.args.marks.now (length (all_located xs))) c.as_slice.ensures.value h))
     c.marked_places.ensures

@@ -16,4 +16,4 @@ returns c a same =
     let own = item_text bases a e in
     said-weaker (IsItemOf given e.placed) (IsItemOf own e.placed) _
     (λ r h. item_along given own e.placed r (λ is. ap (text_along bases escape) (same is) ∙ text-along bases a e) h)
-    c.item_over.ensures
+    (c.item_by.ensures given c.value_of-value.ensures)

@@ -13,5 +13,5 @@ returns-in-Some c =
     IfOk-weaker c.links_of.result _ _
     (λ l e. e
     ∙ ap (λ fans. links_by (note_in (base_in c.args.bases.now.pages) c.args.chains.now) (arcs_along fans))
-    (c.as_slice.ensures.value ∙ ap (λ o. option_map_or (λ (v : Vec Fan Global). v.items) o []) c.in-Some.ensures.value))
+    (c.as_slice.ensures.value ∙ ap (λ o. option_map_or (λ (v : Vec Fan Global). v.items) o []) c.in-Some.ensures))
     c.links_of.ensures

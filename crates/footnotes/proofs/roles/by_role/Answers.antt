@@ -12,4 +12,4 @@ loop-fan-preserved c = λ q.
     let p = λ (f : Fan). bytes_eq q f.tie.role.now in
     step-all (filter p) (filter-append p) c.args.fans.now c.loop-fan.fan-index c.fan-item.result c.loop-fan-test.true c.fan-item.is _ _
     (c.loop-fan.invariant q)
-    (grouped (fans_at c.loop-fan.groups q) (fans_at c.enter.new.fans q) c.fan-item.result (p c.fan-item.result) (c.in_ok-enter.ensures q))
+    (grouped (fans_at c.loop-fan.groups q) (fans_at c.push_at.new.self q) c.fan-item.result (p c.fan-item.result) (c.in_ok-push_at.ensures.ok q))

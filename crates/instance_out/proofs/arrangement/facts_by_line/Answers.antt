@@ -1,16 +1,22 @@
-use Rattle.std.proofs.Common.{◌∙◌, ap, map}
-use Rattle.ix_base.specs.declared.content.Fact.{Fact}
-use Rattle.instance_out.specs.Elements.{fact_line}
-use Rattle.instance_out.specs.declared.sort.Keyed.{Keyed}
-use Rattle.instance_out.proofs.Sorting.{by_keys_of}
-use Rattle.instance_out.proofs.Steps.{all_moved}
+use Rattle.std.proofs.Common.{◌∙◌, ap, subst}
+use Rattle.std.specs.List.{range_with_len}
+use Rattle.std.specs.List.Sorted.{IsPermutation}
+use Rattle.ix_base.specs.Sorted.{sorted}
+use Rattle.instance_out.specs.Arranged.{by_line}
+use Rattle.instance_out.specs.Elements.{fact_line, fact_markup}
+use Rattle.instance_out.specs.Numbered.{numbers_by}
+use Rattle.instance_out.proofs.NumberLaws.{numbers-moved, sorted-by_numbers}
 use Rattle.instance_out.proofs.arrangement.facts_by_line.Goals as goal
+
+pub put_in_order-requires : goal.put_in_order-requires
+put_in_order-requires c =
+    subst (λ n. IsPermutation (range_with_len 0 n) c.in_ok-numbers.numbers.items) c.as_slice.ensures.len
+    (rw c.in_ok-numbers.ensures (numbers-moved (fact_line c.args.prefixes.now) c.as_slice.result.now))
 
 pub returns : goal.returns
 returns c =
-    let f : Fact → Keyed Fact = λ x. record { key = fact_line c.args.prefixes.now x; item = x } in
-    let xs = c.args.facts in
-    let all = all_moved _ _ c.next.new.self xs _ (c.into_iter-fact-iterator.ensures.into_iter_gives.0 ∙ c.into_vec-fact-items.ensures)
-    c.loop-fact.yielded_by c.in-None.is c.next.ensures.steps in
-    c.of.ensures ∙ c.in_ok-facts.ensures ∙ by_keys_of (λ (x : Fact). fact_line c.args.prefixes.now x) xs c.loop-fact.keyed.items
-    (c.loop-fact.invariant ∙ ap (map f) all)
+    let key = fact_line c.args.prefixes.now in
+    c.of.ensures
+    ∙ sorted-by_numbers key c.into_vec-facts.result.items c.put_in_order.new.things.items c.in_ok-numbers.numbers.items
+    (c.in_ok-numbers.ensures ∙ ap (numbers_by key) c.as_slice.ensures.value) c.in_ok-put_in_order.ensures
+    ∙ ap (sorted (by_line (fact_markup c.args.prefixes.now))) c.into_vec-facts.ensures

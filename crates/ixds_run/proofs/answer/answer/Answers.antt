@@ -1,7 +1,42 @@
-use Rattle.ixds_run.proofs.SessionLaws.{session_answered}
+use Rattle.std.proofs.Common.{◌≡◌, List, Option, ℕ, refl, subst}
+use Rattle.ixds_run.specs.Answers.{Outside, outside}
+use Rattle.ixds_run.proofs.DueLaws.{dir_none}
+use Rattle.ixds_run.proofs.ReadyLaws.{Delivered, Told, due_answered, fault_answered, memory_answered}
 use Rattle.ixds_run.proofs.answer.answer.Goals as goal
 
-pub returns-in-Session : goal.returns-in-Session
-returns-in-Session g c =
-    session_answered c.args.command.now c.in-Session.base c.in-Session.dir c.in-Session.script _ _ _ _ _ _ _ _ _ c.in-Session.is c.as_str.ensures c.as_str-in-Session.ensures c.as_str-in-Session-2.ensures
-    c.follow_script.ensures
+pub returns-in-Err-NoMemory : goal.returns-in-Err-NoMemory
+returns-in-Err-NoMemory g c =
+    memory_answered _ _ _ _ _ refl refl refl refl c.args.command.now (rw c.in-Err-NoMemory.field-0-is at c.in-Err-NoMemory.ensures)
+
+pub returns-in-Err-Failed : goal.returns-in-Err-Failed
+returns-in-Err-Failed g c =
+    let old : Outside = outside g.P.PageSource g.S.TargetSink g.T.TextSink c.args.pages.now c.args.sink.now c.args.out.now in
+    let new : Outside = outside g.P.PageSource g.S.TargetSink g.T.TextSink c.made_ready.new.pages c.args.sink.now c.put_read_fault.new.out in
+    let put = c.put_read_fault.ensures in
+    let line = c.in-Err-Failed.line in
+    let told : Told line.items old new c.put_read_fault.result =
+    subst (λ (l : List ℕ). Told l old new c.put_read_fault.result) c.as_slice.ensures.value
+    (record { either = put.either; read = put.read; quiet = put.quiet; cause = put.cause; last = put.last; front = put.front }) in
+    fault_answered old new (c.made_ready.new.pages ≡ c.args.pages.now) (c.args.sink.now ≡ c.args.sink.now) (c.put_read_fault.new.out ≡ c.args.out.now)
+    c.put_read_fault.result line told refl refl refl put.numbers c.args.command.now (rw c.in-Err-Failed.field-0-is at c.in-Err-Failed.ensures)
+
+pub returns-in-Ok : goal.returns-in-Ok
+returns-in-Ok g c =
+    let old : Outside = outside g.P.PageSource g.S.TargetSink g.T.TextSink c.args.pages.now c.args.sink.now c.args.out.now in
+    let new : Outside = outside g.P.PageSource g.S.TargetSink g.T.TextSink c.made_ready.new.pages c.deliver.new.sink c.deliver.new.out in
+    let put = c.deliver.ensures in
+    due_answered old new (c.made_ready.new.pages ≡ c.args.pages.now) (c.deliver.new.sink ≡ c.args.sink.now) (c.deliver.new.out ≡ c.args.out.now) c.in-Ok.due c.deliver.result c.args.command.now c.in-Ok.ensures
+    (subst (λ (d : Option (List ℕ)). Delivered c.in-Ok.due d old new (c.deliver.new.sink ≡ c.args.sink.now) (c.deliver.new.out ≡ c.args.out.now) c.deliver.result) c.dir.ensures (record {
+      either = put.either;
+      targets = put.targets;
+      text = put.text;
+      quiet = put.quiet;
+      cause = put.cause;
+      last = put.last;
+      last_text = put.last_text;
+      numbers = put.numbers;
+      part = put.part;
+      all = put.all;
+      no_dir = λ e. put.no_dir (dir_none c.dir.result e);
+      none = put.none;
+    }))

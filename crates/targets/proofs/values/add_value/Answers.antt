@@ -1,14 +1,22 @@
 use Rattle.std.proofs.Common.{◌∙◌, sym, append-nil}
 use Rattle.std.proofs.Common.{None, Some}
+use Rattle.std.specs.Prelude.{Ok}
 use Rattle.ix_base.specs.Asks.{asks}
 use Rattle.ix_base.specs.Located.{base_in, located}
 use Rattle.facts.specs.ItemValue.{IsItem}
 use Rattle.facts.specs.Verdicts.{said}
 use Rattle.targets.specs.Linked.{all_of, bases_of}
+use Rattle.targets.proofs.FaultlessLaws.{faultless-says}
 use Rattle.targets.proofs.ValueLaws.{value-added}
 use Rattle.indexmap.proofs.MapLemmas.{OnOk-map}
 use Rattle.std.proofs.Common.{ap}
 use Rattle.targets.proofs.values.add_value.Goals as goal
+
+pub returns-then-is_faultless : goal.returns-then-is_faultless
+returns-then-is_faultless c =
+    let said = faultless-says (base_in (bases_of c.args.linked.now)) (asks (all_of c.args.linked.now)) (located c.args.spot.now)
+    (sym c.is_faultless.ensures ∙ c.if-is_faultless.true) in
+    (Ok said.0, said.1, sym (append-nil c.args.found.now))
 
 pub returns-in-Some : goal.returns-in-Some
 returns-in-Some c =

@@ -1,12 +1,14 @@
-use Rattle.std.proofs.Common.{◌≡◌, ◌∙◌, ap, sym, subst, ◌≤◌, Some, true, option_map}
+use Rattle.std.proofs.Common.{◌≡◌, ◌∙◌, ap, sym, subst, ℕ, List, ◌≤◌, Some, true, option_map, arith}
 use Rattle.std.specs.Prelude.{bytes_eq, if◌then◌else◌}
+use Rattle.std.specs.Option.{unwrap_or}
+use Rattle.std.proofs.lemmas.Map.Text.{text_keys}
 use Rattle.std.proofs.lemmas.Result.{on_ok_weaker}
 use Rattle.ix_base.specs.Ids.{tuple_id_of}
 use Rattle.ix_base.specs.Located.{Located, located}
-use Rattle.targets.specs.declared.standing.Links.{Links}
-use Rattle.targets.specs.declared.standing.Named.{Named}
+use Rattle.targets.specs.declared.met_ids.Named.{Named}
 use Rattle.targets.specs.LinkTables.{Known, found_in, is_none, kept_in, kept_with, named_in, named_of, never, with_holder, counts_of}
-use Rattle.targets.proofs.StandingLaws.{tuple-none, tuple-waits, tuple-kept}
+use Rattle.targets.proofs.MetLaws.{known-met}
+use Rattle.targets.proofs.StandingLaws.{tuple-kept, tuple-none, tuple-waits}
 use Rattle.targets.proofs.standing.Links.hold_tuple.Goals as goal
 
 pub returns-in_default : goal.returns-in_default
@@ -15,30 +17,31 @@ returns-in_default c names es ts ls are =
 
 pub count_holder-requires : goal.count_holder-requires
 count_holder-requires c p =
-    let r = c.requires in
-    let same : named_of c.known-named.result ≡ named_in c.args.self.now.tuple_ids c.in-Some.id.now = c.known-named.ensures.named in
-    let own : tuple_id_of (located c.args.spot.now) ≡ Some c.in-Some.id.now = sym c.tuple_id_at.ensures ∙ ap (option_map (λ s. s.now)) c.in-Some.is in
-    subst (λ (k : Known). k.links ≤ c.args.self.now.pending) (sym same)
-    (tuple-waits r.0 r.1 r.2 r.3 c.args.self.now r.4 (located c.args.spot.now) c.in-Some.id.now own (subst (λ (k : Known). is_none k.kept ≡ true) same p))
+    let r = c.requires.some in
+    let kept = c.args.self.now in
+    let id = c.in-Some.id.now in
+    let before = c.or_insert-named.result.now in
+    let met : before ≡ unwrap_or (found_in kept.tuple_ids id) c.unmet.result = c.or_insert-named.ensures.value ∙ ap (λ o. unwrap_or o c.unmet.result) c.in_ok-self.ensures.value in
+    let same : named_of before ≡ named_in kept.tuple_ids id = known-met (found_in kept.tuple_ids id) c.unmet.result before met c.unmet.ensures.known in
+    let own : tuple_id_of (located c.args.spot.now) ≡ Some id = sym c.tuple_id_at.ensures ∙ ap (option_map (λ s. s.now)) c.in-Some.is in
+    subst (λ (k : Known). k.links ≤ kept.pending) (sym same)
+    (tuple-waits r.0 r.1 r.2 r.3 kept r.4 (located c.args.spot.now) id own (subst (λ (k : Known). is_none k.kept ≡ true) same p))
 
 pub returns : goal.returns
 returns c names es ts ls are =
-    let kept = c.args.self.now in
     let e : Located = located c.args.spot.now in
+    let kept = c.args.self.now in
     let id = c.in-Some.id.now in
-    let named = c.known-named.result in
-    let counted = c.count_holder.new.self in
-    let new : Links = record { ids = counted.ids; tuple_ids = c.keep.new.names; pending = counted.pending; doubled = counted.doubled } in
-    let now : Named = record { standing = c.with_tuple-standing.result; links = named.links } in
-    let same : named_of named ≡ named_in kept.tuple_ids id = c.known-named.ensures.named in
-    let own : tuple_id_of e ≡ Some id = sym c.tuple_id_at.ensures ∙ ap (option_map (λ s. s.now)) c.in-Some.is in
+    let before = c.or_insert-named.result.now in
+    let met : before ≡ unwrap_or (found_in kept.tuple_ids id) c.unmet.result = c.or_insert-named.ensures.value ∙ ap (λ o. unwrap_or o c.unmet.result) c.in_ok-self.ensures.value in
+    let same : named_of before ≡ named_in kept.tuple_ids id = known-met (found_in kept.tuple_ids id) c.unmet.result before met c.unmet.ensures.known in
+    let own : tuple_id_of (located c.args.spot.now) ≡ Some id = sym c.tuple_id_at.ensures ∙ ap (option_map (λ s. s.now)) c.in-Some.is in
+    let now : Named = record { standing = c.with_tuple-standing.result; links = before.links } in
     let after : kept_in now.standing ≡ kept_with never names (named_in kept.tuple_ids id).kept e =
     c.with_tuple-standing.ensures names ∙ ap (λ (k : Known). kept_with never names k.kept e) same in
-    let known : named_of now ≡ record { kept = kept_with never names (named_in kept.tuple_ids id).kept e; links = (named_in kept.tuple_ids id).links } =
-    (λ i. record { kept = after i; links = (same i).links }) in
-    let counts : counts_of new ≡ with_holder (named_in kept.tuple_ids id) (kept_with never names (named_in kept.tuple_ids id).kept e) (counts_of kept) =
-    c.in_ok-count_holder.ensures.counts ∙ (λ i. with_holder (same i) (after i) (counts_of kept)) in
-    on_ok_weaker c.keep.result
-    (λ h. tuple-kept names es ts ls kept are e id new now own c.in_ok-count_holder.ensures.same.0
-    (λ q. h q ∙ ap (λ m. if bytes_eq q id then Some now else found_in m q) c.in_ok-count_holder.ensures.same.1) known counts)
-    c.keep.ensures
+    let set : (q : List ℕ) → found_in c.count_holder.new.self.tuple_ids q ≡ (if bytes_eq q id then Some now else found_in kept.tuple_ids q) = λ q. grind (arith, text_keys) in
+    on_ok_weaker c.count_holder.result
+    (λ h. tuple-kept names es ts ls kept are e id c.count_holder.new.self now own c.count_holder.ensures.same.0 set
+    (λ i. record { kept = after i; links = (same i).links })
+    (h ∙ (λ i. with_holder (same i) (after i) (counts_of kept))))
+    c.count_holder.ensures.counts

@@ -1,34 +1,32 @@
-use Rattle.std.proofs.Common.{◌≡◌, ◌∙◌, ◌<◌, ap, sym, subst, ℕ, List, [], ◌∷◌, ◌++◌, length, map, take, get_or, append_assoc, append-nil, arith}
-use Rattle.std.specs.Borrow.{Bor}
-use Rattle.std.proofs.lemmas.List.{map_more, take_all}
+use Rattle.std.proofs.Common.{◌≡◌, ◌∙◌, ◌<◌, ap, sym, subst, List, ◌++◌, length, take, get_or, append-nil, arith}
+use Rattle.std.specs.List.{flat_map}
+use Rattle.std.proofs.lemmas.List.{flat_map_more, take_all, take_more}
 use Rattle.ix_base.specs.Located.{Located, located}
-use Rattle.id_table.proofs.Renumbered.{map-twice}
+use Rattle.targets.specs.declared.link_ids.LinkAttribute.{LinkAttribute}
+use Rattle.targets.specs.declared.link_ids.LinkAttribute.TheVariants as attribute
+use Rattle.targets.specs.LinkAttributes.{links_in}
 use Rattle.targets.specs.LinkTables.{AreLinked}
-use Rattle.targets.specs.LinkStates.{Link, ids_at, links_from}
+use Rattle.targets.specs.LinkStates.{Link}
 use Rattle.targets.proofs.standing.Links.link_all.Goals as goal
 
-pub loop-id-init : goal.loop-id-init
-loop-id-init c names es ts ls are = subst (λ (l : List Link). AreLinked names es ts l c.args.self.now) (sym (append-nil ls)) are
+pub loop-attribute-init : goal.loop-attribute-init
+loop-attribute-init c names es ts ls are = subst (λ (l : List Link). AreLinked names es ts l c.args.self.now) (sym (append-nil ls)) are
 
-pub loop-id-preserved : goal.loop-id-preserved
-loop-id-preserved c names es ts ls are =
-    let e : Located = located c.args.spot.now in
-    let ids = c.as_slice-id-items.result.now in
-    let i = c.loop-id.id-index in
-    let to : Bor (List ℕ) → Link = λ s. record { attribute = c.args.attribute; id = s.now; element = e } in
-    let below : i < length ids = omega arith in
-    let d : Bor (List ℕ) = record { ref_ptr = (0, 0); now = [] } in
-    let next = c.in_ok-link.ensures names es ts (ls ++ map to (take i ids)) e (c.loop-id.invariant names es ts ls are) in
-    subst (λ (l : List Link). AreLinked names es ts l c.link.new.self)
-    (append_assoc ls (map to (take i ids)) (to (get_or ids i d) ∷ []) ∙ ap (λ l. ls ++ l) (sym (map_more to ids i d below))) next
+pub loop-attribute-preserved : goal.loop-attribute-preserved
+loop-attribute-preserved c names es ts ls are =
+    let attributes = c.attributes_of-attribute-items.result.now in
+    let i = c.loop-attribute.attribute-index in
+    let by : LinkAttribute → List Link = λ a. links_in a (located c.args.spot.now) in
+    let below : i < length attributes = omega arith in
+    let next = c.in_ok-link_by.ensures names es ts (ls ++ flat_map by (take i attributes)) (c.loop-attribute.invariant names es ts ls are) in
+    subst (λ (l : List Link). AreLinked names es ts l c.link_by.new.self)
+    (flat_map_more by ls (take i attributes) (get_or attributes i attribute.ContinuedAt)
+    ∙ ap (λ l. ls ++ flat_map by l) (sym (take_more attributes i attribute.ContinuedAt below))) next
 
 pub returns : goal.returns
 returns c names es ts ls are =
     let e : Located = located c.args.spot.now in
-    let ids = c.as_slice-id-items.result.now in
-    let to : Bor (List ℕ) → Link = λ s. record { attribute = c.args.attribute; id = s.now; element = e } in
-    let whole : take c.loop-id.id-index ids ≡ ids = take_all c.loop-id.id-index ids c.loop-id-test.false in
-    let one : map (λ s. s.now) ids ≡ ids_at c.args.attribute e = ap (map (λ s. s.now)) c.as_slice-id-items.ensures.value ∙ c.in_ok-ids.ensures in
-    let is : map to (take c.loop-id.id-index ids) ≡ links_from c.args.attribute e =
-    ap (map to) whole ∙ sym (map-twice (λ id. record { attribute = c.args.attribute; id = id; element = e }) (λ s. s.now) ids) ∙ ap (map (λ id. record { attribute = c.args.attribute; id = id; element = e })) one in
-    subst (λ (l : List Link). AreLinked names es ts (ls ++ l) c.loop-id.self) is (c.loop-id.invariant names es ts ls are)
+    let attributes = c.attributes_of-attribute-items.result.now in
+    let whole : take c.loop-attribute.attribute-index attributes ≡ attributes = take_all c.loop-attribute.attribute-index attributes c.loop-attribute-test.false in
+    subst (λ (l : List Link). AreLinked names es ts (ls ++ l) c.loop-attribute.self)
+    (ap (flat_map (λ a. links_in a e)) whole ∙ c.attributes_of-attribute-items.ensures e (sym c.requires)) (c.loop-attribute.invariant names es ts ls are)

@@ -1,10 +1,12 @@
-use Rattle.std.proofs.Common.{◌++◌, ℕ, List, map, take}
+use Rattle.std.proofs.Common.{◌++◌, ℕ, List, take}
+use Rattle.std.specs.List.{flat_map}
 use Rattle.ix_base.specs.Located.{Located, located}
+use Rattle.targets.specs.LinkAttributes.{links_in}
 use Rattle.targets.specs.LinkTables.{AreLinked}
 use Rattle.targets.specs.LinkStates.{Link}
 use Rattle.targets.proofs.standing.Links.link_all.Given as goal
 
--- the links of the ids so far have come
-abbrev pub invariant-loop-id : goal.invariant-loop-id
-invariant-loop-id l = (names : ℕ → List ℕ) (es ts : List Located) (ls : List Link) → AreLinked names es ts ls l.initial.self
-    → AreLinked names es ts (ls ++ map (λ s. record { attribute = l.attribute; id = s.now; element = located l.spot }) (take l.id-index l.id-items)) l.self
+-- the links of the attributes so far have come
+abbrev pub invariant-loop-attribute : goal.invariant-loop-attribute
+invariant-loop-attribute l = (names : ℕ → List ℕ) (es ts : List Located) (ls : List Link) → AreLinked names es ts ls l.initial.self
+    → AreLinked names es ts (ls ++ flat_map (λ a. links_in a (located l.spot)) (take l.attribute-index l.attribute-items)) l.self

@@ -1,0 +1,146 @@
+-- What the numbered elements of a set say of all of it.
+use Rattle.std.proofs.Common.{◌≡◌, ◌∙◌, ◌++◌, ◌+◌, ◌<◌, ◌≤◌, ℕ, Bool, true, false, cond, List, [], ◌∷◌, length, get_or, take, refl, ap, sym, subst, append-nil, Option, Some, None, option_map}
+use Rattle.std.proofs.lemmas.Bool.{true≢false, or_left, or_right}
+use Rattle.std.proofs.lemmas.List.{length-map, map-append, take_all}
+use Rattle.std.proofs.lemmas.List.Elements.{All-append, All-filter}
+use Rattle.std.specs.Borrow.{Bor}
+use Rattle.std.specs.Prelude.{◌&&◌, ◌||◌, is_some, is_none, option_and_then}
+use Rattle.std.specs.List.{filter, flat_map, list_any, slice_get}
+use Rattle.std.specs.Option.{option_map_or}
+use Rattle.ix_base.specs.declared.rule.Rule.{Rule}
+use Rattle.ix_base.specs.declared.breach.Found.{Found}
+use Rattle.ix_base.specs.Asks.{Asks, asks}
+use Rattle.ix_base.specs.declared.tree.Spot.{Spot}
+use Rattle.ix_base.specs.Chain.{continuation, continued_at}
+use Rattle.ix_base.specs.LinkRules.{breaking, breaks_link, broken_at, found_at, lacks_continuation}
+use Rattle.ix_base.specs.Located.{Located, located, is_continuation, is_start}
+use Rattle.ix_base.specs.Rows.{row}
+use Rattle.ix_base.specs.Spots.{IsOnOnePage}
+use Rattle.id_table.specs.Tables.{all_located, AreOnOwnPages}
+use Rattle.id_table.proofs.Asking.{map-filter}
+use Rattle.continuations.specs.Numbers.{NameNexts}
+use Rattle.continuations.specs.Walks.{AreNexts}
+use Rattle.continuations.proofs.KeptLaws.{some-map}
+use Rattle.continuations.proofs.Numbering.{IsIn, in-filter, filter-in, links-are}
+use Rattle.continuations.proofs.Inner.{any-in, in-any}
+use Rattle.continuations.proofs.Reaching.{same-bool}
+use Rattle.continuations.proofs.SeenLaws.{any-append}
+use Rattle.continuations.proofs.SliceLaws.{located-take}
+
+or-false : (b : Bool) → (b || false) ≡ b
+or-false true = refl
+or-false false = refl
+
+-- a rule that no element breaks has no breaches
+none-by : (a : Asks Located) (r : Rule) (e : Located) (b : Bool) → b ≡ false → row b (found_at e r) ≡ []
+none-by a r e true h = absurd (true≢false h)
+none-by a r e false h = refl
+
+unbroken : (a : Asks Located) (r : Rule) (es : List Located) → list_any (λ e. breaks_link a e r) es ≡ false → flat_map (broken_at a r) es ≡ []
+unbroken a r [] h = refl
+unbroken a r (e ∷ es) h = by (breaks_link a e r) refl (unbroken a r es) h where
+  by : (b : Bool) → breaks_link a e r ≡ b → (list_any (λ e. breaks_link a e r) es ≡ false → flat_map (broken_at a r) es ≡ [])
+      → (b || list_any (λ e. breaks_link a e r) es) ≡ false → flat_map (broken_at a r) (e ∷ es) ≡ []
+  by true t later h = absurd (true≢false h)
+  by false t later h = ap (λ x. x ++ flat_map (broken_at a r) es) (none-by a r e (breaks_link a e r) t) ∙ later h
+
+pub nothing-added : (old : List Found) (r : Rule) (es : List Located) → list_any (λ e. breaks_link (asks es) e r) es ≡ false → old ≡ old ++ breaking r es
+nothing-added old r es h = sym (append-nil old) ∙ ap (λ x. old ++ x) (sym (unbroken (asks es) r es h))
+
+-- a test that only elements of chains pass is passed by some of these where it is by some of all
+pub any-kinds : (p : Located → Bool) → ((e : Located) → p e ≡ true → (is_start e || is_continuation e) ≡ true) → (es : List Located)
+    → list_any p (filter is_continuation es ++ filter is_start es) ≡ list_any p es
+any-kinds p of es =
+    any-append p (filter is_continuation es) (filter is_start es)
+    ∙ same-bool (list_any p (filter is_continuation es) || list_any p (filter is_start es)) (list_any p es) (to (list_any p (filter is_continuation es)) refl, from) where
+      part : (q : Located → Bool) → list_any p (filter q es) ≡ true → list_any p es ≡ true
+      part q h =
+          let x : (x : Located) × IsIn x (filter q es) × (p x ≡ true) = any-in p (filter q es) h in
+          in-any p es x.0 (in-filter q es x.0 x.1).0 x.2
+
+      to : (b : Bool) → list_any p (filter is_continuation es) ≡ b → (b || list_any p (filter is_start es)) ≡ true → list_any p es ≡ true
+      to true e h = part is_continuation e
+      to false e h = part is_start h
+
+      by : (x : Located) → IsIn x es → p x ≡ true → (b : Bool) → is_start x ≡ b → (b || is_continuation x) ≡ true
+          → (list_any p (filter is_continuation es) || list_any p (filter is_start es)) ≡ true
+      by x i h true e k = or_right (list_any p (filter is_continuation es)) (list_any p (filter is_start es)) (in-any p (filter is_start es) x (filter-in is_start es x i e) h)
+      by x i h false e k = or_left (list_any p (filter is_continuation es)) (list_any p (filter is_start es)) (in-any p (filter is_continuation es) x (filter-in is_continuation es x i k) h)
+
+      from : list_any p es ≡ true → (list_any p (filter is_continuation es) || list_any p (filter is_start es)) ≡ true
+      from h = let x : (x : Located) × IsIn x es × (p x ≡ true) = any-in p es h in by x.0 x.1 x.2 (is_start x.0) refl (of x.0 x.2)
+
+-- only elements of chains go on
+continued-kind : (e : Located) (o : Option (List ℕ)) → is_some (cond (is_start e || is_continuation e) o None) ≡ true → (is_start e || is_continuation e) ≡ true
+continued-kind e o h = by (is_start e || is_continuation e) h where
+  by : (b : Bool) → is_some (cond b o None) ≡ true → b ≡ true
+  by true h = refl
+  by false h = h
+
+pub goes-on-kind : (e : Located) → is_some (continued_at e) ≡ true → (is_start e || is_continuation e) ≡ true
+goes-on-kind e h = continued-kind e _ h
+
+pub lacking-some : (f : List ℕ → Bool) (o : Option (List ℕ)) → option_map_or f o false ≡ true → is_some o ≡ true
+lacking-some f None h = absurd (true≢false (sym h))
+lacking-some f (Some q) h = refl
+
+pub lacking-kind : (a : Asks Located) (e : Located) → lacks_continuation a e ≡ true → (is_start e || is_continuation e) ≡ true
+lacking-kind a e h = goes-on-kind e (lacking-some (λ q. is_none (continuation a q)) (continued_at e) h)
+
+-- an element whose id has no number lacks its continuation
+pub lacking-is : {X : Type 0} (f : List ℕ → Option Located) (g : ℕ → X) (h : Located → X) (o : Option (List ℕ)) (n : Option ℕ)
+    → option_map g n ≡ option_map h (option_and_then f o) → option_map_or (λ q. is_none (f q)) o false ≡ (is_some o && is_none n)
+lacking-is f g h None n e = refl
+lacking-is f g h (Some q) n e = by (f q) n e where
+  by : (p : Option Located) (n : Option ℕ) → option_map g n ≡ option_map h p → is_none p ≡ is_none n
+  by None None e = refl
+  by None (Some k) e = absurd cc
+  by (Some x) None e = absurd cc
+  by (Some x) (Some k) e = refl
+
+-- one element more is looked at
+pub lacks-more : (a : Asks Located) (conts : List Located) (spots : List (Bor Spot)) (i : ℕ) (s : Bor Spot) (id : Option (Bor (List ℕ))) (n : Option ℕ) (lacks lost : Bool)
+    → i < length spots → s ≡ get_or spots i s → option_map (λ (t : Bor (List ℕ)). t.now) id ≡ continued_at (located s.now)
+    → option_map (slice_get conts) n ≡ option_map Some (option_and_then (continuation a) (option_map (λ (t : Bor (List ℕ)). t.now) id))
+    → lost ≡ (is_some id && is_none n) → lacks ≡ list_any (lacks_continuation a) (all_located (take i spots))
+    → (lacks || lost) ≡ list_any (lacks_continuation a) (all_located (take (i + 1) spots))
+lacks-more a conts spots i s id n lacks lost l at named next is before =
+    let here : lacks_continuation a (located s.now) ≡ lost
+    = ap (λ o. option_map_or (λ q. is_none (continuation a q)) o false) (sym named)
+    ∙ lacking-is (continuation a) (slice_get conts) Some (option_map (λ (t : Bor (List ℕ)). t.now) id) n next
+    ∙ ap (λ b. b && is_none n) (some-map (λ (t : Bor (List ℕ)). t.now) id) ∙ sym is in
+    (λ j. before j || sym here j)
+    ∙ ap (λ b. list_any (lacks_continuation a) (all_located (take i spots)) || b) (sym (or-false (lacks_continuation a (located s.now))))
+    ∙ sym (any-append (lacks_continuation a) (all_located (take i spots)) (located s.now ∷ []))
+    ∙ ap (list_any (lacks_continuation a)) (sym (located-take spots i s l at))
+
+-- the numbers of the elements of a set
+pub linked : (es : List Located) (both spots : List (Bor Spot)) (count : ℕ) (ns : List (Option ℕ)) → all_located both ≡ filter is_continuation es ++ filter is_start es
+    → count ≡ length (filter is_continuation es) → spots ≡ both → NameNexts (asks es) (filter is_continuation es) (all_located spots) (length spots) ns
+    → length ns ≡ length spots → AreNexts (asks es) (all_located both) count ns
+linked es both spots count ns all n same names len =
+    subst (λ (ss : List (Bor Spot)). AreNexts (asks es) (all_located ss) count ns) same
+    (links-are (asks es) (filter is_continuation es) (filter is_start es) (all_located spots) ns count (length spots) (ap all_located same ∙ all) n len
+    (sym (length-map spots (λ (s : Bor Spot). located s.now))) names)
+
+-- the continuations, and behind them the elements with which chains begin
+pub first-spots : (es : List Located) (none first : List (Bor Spot)) → none ≡ [] → all_located first ≡ all_located none ++ filter is_continuation es → all_located first ≡ filter is_continuation es
+first-spots es none first e f = f ∙ ap (λ (xs : List (Bor Spot)). all_located xs ++ filter is_continuation es) e
+
+-- those of some kind of the elements of a set are added
+abbrev kept : (Located → Bool) → List (Bor Spot) → List (Bor Spot)
+kept p spots = filter (λ (s : Bor Spot). p (located s.now)) spots
+
+pub pushed : (p : Located → Bool) (old new spots : List (Bor Spot)) (i : ℕ) (es : List Located) → length spots ≤ i → all_located spots ≡ es
+    → new ≡ old ++ filter (λ s. p (located s.now)) (take i spots) → all_located new ≡ all_located old ++ filter p es
+pushed p old new spots i es all e h =
+    ap all_located (h ∙ ap (λ (ss : List (Bor Spot)). old ++ kept p ss) (take_all i spots all))
+    ∙ map-append (λ (s : Bor Spot). located s.now) old (kept p spots)
+    ∙ ap (λ xs. all_located old ++ xs) (map-filter (λ (s : Bor Spot). located s.now) p spots ∙ ap (filter p) e)
+
+pub pushed-pages : (p : Located → Bool) (old new spots : List (Bor Spot)) (i : ℕ) → length spots ≤ i → new ≡ old ++ filter (λ s. p (located s.now)) (take i spots)
+    → AreOnOwnPages old → AreOnOwnPages spots → AreOnOwnPages new
+pushed-pages p old new spots i all h before each =
+    subst AreOnOwnPages (sym (h ∙ ap (λ (ss : List (Bor Spot)). old ++ kept p ss) (take_all i spots all)))
+    (All-append (λ (s : Bor Spot). IsOnOnePage s.now) old (kept p spots) before
+    (All-filter (λ (s : Bor Spot). p (located s.now)) (λ (s : Bor Spot). IsOnOnePage s.now) spots each))

@@ -1,0 +1,10 @@
+use Rattle.ix_base.proofs.FrontLemmas.{Grows}
+use Rattle.ix_base.specs.declared.rule.Rule.TheVariants.{L5}
+use Rattle.ix_base.specs.LinkRules.{breaking}
+use Rattle.id_table.specs.Held.{asked}
+use Rattle.continuations.proofs.Adding.{from_on}
+use Rattle.continuations.proofs.named.add_all_named_twice.Given as goal
+
+-- the breaches of the elements before here are added, and those from here on are left
+abbrev pub invariant-loop-spot : goal.invariant-loop-spot
+invariant-loop-spot l = Grows l.initial.breaches l.breaches (from_on (asked l.index) L5 l.spot-items l.spot-index) (breaking L5 l.index.spots)

@@ -1,0 +1,86 @@
+//! Whether an element of a chain stands inside another one of it, chain by chain.
+ghost use Rattle.std.specs.Prelude.{◌≡◌, ℕ, OnOk, IfOk, filter};
+ghost use Rattle.std.specs.List.{list_any};
+ghost use Rattle.std.specs.List.Sorted.{IsSorted};
+ghost use Rattle.ix_base.specs.Chain as spec;
+ghost use Rattle.ix_base.specs.LinkRules.{is_at};
+ghost use Rattle.ix_base.specs.Located.{located, is_start as spec_is_start};
+ghost use Rattle.id_table.specs.Held.{asked};
+ghost use Rattle.id_table.specs.Tables.{all_located};
+ghost use Rattle.continuations.specs.Links.{AreLinks};
+ghost use Rattle.continuations.specs.Nested.{is_around, is_nested, key_cmp};
+ghost use Rattle.continuations.specs.Slices.{is_key};
+
+use crate::links::Links;
+use crate::trail::put_chain;
+use id_table::Index;
+use ix_base::{NoMemory, Spot};
+
+/// Puts the places of some elements, in order, in the place of what was there.
+fn put_places(spots: &[&Spot<'_>], places: &mut Vec<(u32, u64)>) -> Result<(), NoMemory>
+    ensures sorted { OnOk result (IsSorted key_cmp places.new.items) }
+    ensures places { OnOk result ((page offset : ℕ) → list_any (is_key page offset) places.new.items
+        ≡ list_any (is_at page offset) (all_located spots.now)) }
+{
+    places.clear();
+    for spot in spots {
+        let place = spot.element.place;
+        places.push((place.page, place.offset))?;
+    }
+    places.sort_unstable();
+    Ok(())
+}
+
+/// Whether a place is among these, by halving.
+fn has_key(places: &[(u32, u64)], page: u32, offset: u64) -> bool
+    requires { IsSorted key_cmp places.now }
+    ensures { result ≡ list_any (is_key page offset) places.now }
+{
+    places.binary_search(&(page, offset)).is_ok()
+}
+
+/// Whether an element around this one is at one of these places.
+fn stands_within(places: &[(u32, u64)], spot: &Spot<'_>) -> bool
+    requires { IsSorted key_cmp places.now }
+    ensures { result ≡ is_around places.now (located spot.now) }
+{
+    let page = spot.element.place.page;
+    let mut up = spot.up;
+    while let Some(around) = up {
+        if has_key(places, page, around.element.place.offset) {
+            return true;
+        }
+        up = around.up;
+    }
+    false
+}
+
+/// Whether one of these elements stands inside another one of them. The places are put where others were.
+fn any_within(spots: &[&Spot<'_>], places: &mut Vec<(u32, u64)>) -> Result<bool, NoMemory>
+    ensures { IfOk result (λ b. b ≡ is_nested (all_located spots.now)) }
+{
+    put_places(spots, places)?;
+    for spot in spots {
+        if stands_within(places.as_slice(), *spot) {
+            return Ok(true);
+        }
+    }
+    Ok(false)
+}
+
+/// Whether an element of a chain stands inside another one of it. Where chains share no element, all of them together
+/// are no longer than the elements are many.
+pub(crate) fn any_nested<'a>(index: &Index<'a>, links: &Links<'a>) -> Result<bool, NoMemory>
+    requires { AreLinks index.now.spots links.now }
+    ensures { IfOk result (λ b. b ≡ list_any (λ s. is_nested (spec.chain (asked index.now) s)) (filter spec_is_start index.now.spots)) }
+{
+    let mut chain = Vec::new(links.alloc);
+    let mut places = Vec::new(links.alloc);
+    for number in links.continuations..links.spots.len() {
+        put_chain(index, links, number, &mut chain)?;
+        if any_within(chain.as_slice(), &mut places)? {
+            return Ok(true);
+        }
+    }
+    Ok(false)
+}

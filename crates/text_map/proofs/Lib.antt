@@ -1,0 +1,3 @@
+pub mod Classes
+pub mod Finding
+pub mod Placing

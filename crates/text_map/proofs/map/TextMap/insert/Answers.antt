@@ -1,0 +1,17 @@
+use Rattle.std.proofs.Common.{◌∙◌, ap, bytes_eq, cond, Some, sym}
+use Rattle.std.proofs.lemmas.Result.{on_err_weaker, on_ok_weaker}
+use Rattle.text_map.specs.Texts.{get_in}
+use Rattle.text_map.proofs.Finding.{get-found}
+use Rattle.text_map.proofs.map.TextMap.insert.Goals as goal
+
+pub returns-clause-ok : goal.returns-clause-ok
+returns-clause-ok g c =
+    on_ok_weaker c.put.result
+    (λ e q. get-found c.put.new.self q ∙ e q
+    ∙ ap (λ o. cond (bytes_eq q c.args.text.now) (Some c.args.value) o) (sym (get-found c.self.inside.tables q) ∙ ap (λ m. get_in m q) c.self.view_is))
+    c.put.ensures.ok
+
+pub returns-clause-err : goal.returns-clause-err
+returns-clause-err g c =
+    on_err_weaker c.put.result
+    (λ e q. get-found c.put.new.self q ∙ e q ∙ sym (get-found c.self.inside.tables q) ∙ ap (λ m. get_in m q) c.self.view_is) c.put.ensures.err
