@@ -5,8 +5,16 @@ mod placing;
 mod system;
 
 use std::alloc::Global;
-use std::io;
 use std::io::{Read, Write};
+use std::{fs, io};
+
+/// Whether a file stands at a path and holds these bytes.
+fn holds(rt: &HostRuntime, path: &str, bytes: &[u8]) -> bool {
+    match fs::read(rt, path) {
+        Ok(found) => found.as_slice() == bytes,
+        Err(_) => false,
+    }
+}
 
 /// A file of a test: it is interrupted so often, then takes or gives at most so many bytes at a time, and fails once it has
 /// taken or given so many in all.

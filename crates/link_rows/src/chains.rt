@@ -3,29 +3,31 @@ ghost use Rattle.std.specs.Prelude.{◌≡◌, ◌<◌, All, length, nat_lt};
 ghost use Rattle.std.specs.List.{list_all};
 ghost use Rattle.ix_base.specs.Located.{located};
 
-use crate::sets::{index_of, letters};
-use anyhow::{Context, Result, bail, ensure};
+use crate::sets::letters;
+use anyhow::{Context, Result, ensure};
 use bumpalo::Bump;
 use continuations::{Chains, link};
 use escape_text::plain;
-use ix_base::{Breaches, Spot, Text};
-use row_tables::{Cell, owned};
+use id_table::Index;
+use ix_base::{Breach, Breaches, Spot, Text};
+use row_tables::owned;
 use std::alloc::Global;
 
-/// The lines of the report of breaches on pages of these names, each as `PAGE:OFFSET CODE;`.
+/// Appends a line of a report as `PAGE:OFFSET CODE;`.
+fn push_line(line: &Breach, lines: &mut String) -> Result<()> {
+    let (page, code) = (line.page.as_str(), line.rule.code());
+    write!(lines, "{page}:{} {code};", line.offset)?;
+    Ok(())
+}
+
+/// The lines of the report of breaches on pages of these names.
 fn lines_of(alloc: Global, breaches: Breaches, names: &[Text]) -> Result<String>
     requires { All (λ f. f.place.page < length names.now) breaches }
 {
     let report = breaches.report(names)?;
     let mut lines = String::new(alloc);
     for line in report.lines.as_slice() {
-        write!(
-            lines,
-            "{}:{} {};",
-            line.page.as_str(),
-            line.offset,
-            line.rule.code()
-        )?;
+        push_line(line, &mut lines)?;
     }
     Ok(lines)
 }
@@ -43,26 +45,42 @@ fn are_within(spots: &[&Spot<'_>], count: usize) -> bool
     spots.iter().all(|spot| is_within(spot, count))
 }
 
-/// The report on ids that stand more than once in pages, which are called by letters.
-pub(crate) fn doubled(alloc: Global, cells: &[Cell]) -> Result<String> {
-    let arena = Bump::new(alloc);
-    let index = index_of(alloc, &arena, cells)?;
-    let names = letters(alloc, cells.len())?;
+/// The report on ids that stand more than once in an index, on pages of these names.
+fn doubled_in(alloc: Global, index: &Index<'_>, names: &[Text]) -> Result<String> {
     ensure!(are_within(index.spots(), names.len()), "another page");
     let mut breaches = Breaches::new(alloc);
     index.doubled(&mut breaches)?;
-    lines_of(alloc, breaches, names.as_slice())
+    lines_of(alloc, breaches, names)
 }
 
-/// The report on the continuations of pages.
-pub(crate) fn linked(alloc: Global, cells: &[Cell]) -> Result<String> {
-    let mut breaches = Breaches::new(alloc);
-    let arena = Bump::new(alloc);
-    let names = letters(alloc, cells.len())?;
-    let index = index_of(alloc, &arena, cells)?;
+/// The report on ids that stand more than once in the index of so many pages, which are called by letters.
+pub(crate) fn doubled(alloc: Global, index: &Index<'_>, count: usize) -> Result<String> {
+    let names = letters(alloc, count)?;
+    doubled_in(alloc, index, names.as_slice())
+}
+
+/// The report on the continuations of an index, on pages of these names.
+fn linked_in<'a>(
+    alloc: Global,
+    arena: &'a Bump,
+    index: &Index<'a>,
+    names: &[Text],
+) -> Result<String> {
     ensure!(are_within(index.spots(), names.len()), "another page");
-    let _ = link(alloc, &arena, &index, &mut breaches)?;
-    lines_of(alloc, breaches, names.as_slice())
+    let mut breaches = Breaches::new(alloc);
+    let _ = link(alloc, arena, index, &mut breaches)?;
+    lines_of(alloc, breaches, names)
+}
+
+/// The report on the continuations of the index of so many pages, which are called by letters.
+pub(crate) fn linked<'a>(
+    alloc: Global,
+    arena: &'a Bump,
+    index: &Index<'a>,
+    count: usize,
+) -> Result<String> {
+    let names = letters(alloc, count)?;
+    linked_in(alloc, arena, index, names.as_slice())
 }
 
 /// The text of the chain that begins at an element; `none` where no chain begins there.
@@ -76,14 +94,14 @@ fn text_from<'a>(alloc: Global, chains: &Chains<'a>, spot: &Spot<'a>) -> Result<
 }
 
 /// The text of the chain that begins at the element of an id.
-pub(crate) fn text(alloc: Global, cells: &[Cell]) -> Result<String> {
-    let Some((head, pages)) = cells.split_first() else {
-        bail!("an id and pages are wanted");
-    };
-    let arena = Bump::new(alloc);
-    let index = index_of(alloc, &arena, pages)?;
+pub(crate) fn text<'a>(
+    alloc: Global,
+    arena: &'a Bump,
+    index: &Index<'a>,
+    id: &str,
+) -> Result<String> {
+    let entry = index.one(id).context("no such element")?;
     let mut breaches = Breaches::new(alloc);
-    let chains = link(alloc, &arena, &index, &mut breaches)?;
-    let entry = index.one(head.text()?).context("no such element")?;
+    let chains = link(alloc, arena, index, &mut breaches)?;
     text_from(alloc, &chains, entry.spot)
 }

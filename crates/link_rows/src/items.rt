@@ -2,10 +2,9 @@
 ghost use Rattle.std.specs.Prelude.{◌≡◌, [], OnOk};
 ghost use Rattle.id_table.specs.Held.{AreChosen};
 
-use crate::sets::index_of;
 use anyhow::{Result, bail, ensure};
 use bumpalo::Bump;
-use fact_view::view;
+use fact_view::{FactView, view};
 use facts::{ItemFault, item_of, refs_of};
 use id_table::Index;
 use ix_base::{Accuracy, Breaches, Item, Spot, Text, Value};
@@ -25,17 +24,22 @@ fn said(alloc: Global, page: &str) -> Result<Result<Item, ItemFault>> {
     Ok(item_of(alloc, &spot, &[&spot], &bases))
 }
 
-/// The value that the root of a page says: a text in quotes, two numbers with `/` between them, or `nil`; or the rule that it breaks.
+/// A value: a text in quotes, two numbers with `/` between them, or `nil`.
+fn value_said(alloc: Global, value: &Value) -> Result<String> {
+    match value {
+        Value::Nil => owned(alloc, "nil"),
+        Value::Plain(text) => quoted(alloc, Some(text.as_str())),
+        Value::Fraction(n, d) => Ok(format!(in alloc; "{}/{}", n.as_str(), d.as_str())?),
+    }
+}
+
+/// The value that the root of a page says, or the rule that it breaks.
 pub(crate) fn value(alloc: Global, cells: &[Cell]) -> Result<String> {
     let [page] = cells else {
         bail!("a page is wanted");
     };
     match said(alloc, page.text()?)? {
-        Ok(item) => match &item.value {
-            Value::Nil => owned(alloc, "nil"),
-            Value::Plain(text) => quoted(alloc, Some(text.as_str())),
-            Value::Fraction(n, d) => Ok(format!(in alloc; "{}/{}", n.as_str(), d.as_str())?),
-        },
+        Ok(item) => value_said(alloc, &item.value),
         Err(ItemFault::Breach(rule)) => owned(alloc, rule.code()),
         Err(ItemFault::NoMemory) => bail!("no memory"),
     }
@@ -49,24 +53,35 @@ fn or_dash(text: &Option<Text>) -> &str {
     }
 }
 
+/// Appends the accuracy of an item, or a dash.
+fn push_accuracy(accuracy: &Option<Accuracy>, text: &mut String) -> Result<()> {
+    match accuracy {
+        Some(Accuracy::Decimals(exact)) => write!(text, "decimals={}", exact.as_str())?,
+        Some(Accuracy::Precision(exact)) => write!(text, "precision={}", exact.as_str())?,
+        None => text.push_str("-")?,
+    }
+    Ok(())
+}
+
+/// The name, context, unit, accuracy and id of an item.
+fn fields_of(alloc: Global, item: &Item) -> Result<String> {
+    let (ns, local) = (item.name.ns.as_str(), item.name.local.as_str());
+    let (context, unit) = (item.context.as_str(), or_dash(&item.unit));
+    let mut text = format!(in alloc; "{{{ns}}}{local} {context} {unit} ")?;
+    push_accuracy(&item.accuracy, &mut text)?;
+    write!(text, " {}", or_dash(&item.id))?;
+    Ok(text)
+}
+
 /// What stands beside the value of what the root of a page says: its name, context, unit, accuracy and id.
 pub(crate) fn fields(alloc: Global, cells: &[Cell]) -> Result<String> {
     let [page] = cells else {
         bail!("a page is wanted");
     };
-    let Ok(item) = said(alloc, page.text()?)? else {
-        bail!("a rule is broken");
-    };
-    let (ns, local) = (item.name.ns.as_str(), item.name.local.as_str());
-    let (context, unit) = (item.context.as_str(), or_dash(&item.unit));
-    let mut text = format!(in alloc; "{{{ns}}}{local} {context} {unit} ")?;
-    match &item.accuracy {
-        Some(Accuracy::Decimals(exact)) => write!(text, "decimals={}", exact.as_str())?,
-        Some(Accuracy::Precision(exact)) => write!(text, "precision={}", exact.as_str())?,
-        None => text.push_str("-")?,
+    match said(alloc, page.text()?)? {
+        Ok(item) => fields_of(alloc, &item),
+        Err(_) => bail!("a rule is broken"),
     }
-    write!(text, " {}", or_dash(&item.id))?;
-    Ok(text)
 }
 
 /// Refuses pages of which two elements have one id, or two tuples one tuple id.
@@ -80,26 +95,28 @@ fn ensure_apart(alloc: Global, index: &Index<'_>) -> Result<()>
     Ok(())
 }
 
-/// How many contexts and units the elements of pages miss.
-pub(crate) fn missed(alloc: Global, cells: &[Cell]) -> Result<String> {
-    let arena = Bump::new(alloc);
-    let index = index_of(alloc, &arena, cells)?;
-    ensure_apart(alloc, &index)?;
-    let mut breaches = Breaches::new(alloc);
+/// Adds the contexts and units that the elements of an index miss.
+fn add_missed(index: &Index<'_>, breaches: &mut Breaches) -> Result<()>
+    requires { AreChosen index.now }
+{
     for spot in index.spots() {
-        refs_of(spot, &index, &mut breaches)?;
+        refs_of(spot, index, breaches)?;
     }
+    Ok(())
+}
+
+/// How many contexts and units the elements of an index miss.
+pub(crate) fn missed(alloc: Global, index: &Index<'_>) -> Result<String>
+    requires { index.now.choices ≡ [] }
+{
+    ensure_apart(alloc, index)?;
+    let mut breaches = Breaches::new(alloc);
+    add_missed(index, &mut breaches)?;
     Ok(breaches.len().to_string(alloc)?)
 }
 
-/// What the attributes of the root of a page say.
-pub(crate) fn viewed(alloc: Global, cells: &[Cell]) -> Result<String> {
-    let [page] = cells else {
-        bail!("a page is wanted");
-    };
-    let arena = Bump::new(alloc);
-    let element = sound_root(alloc, &arena, 0, page.text()?)?;
-    let seen = view(&Spot { element, up: None });
+/// What the attributes of a fact say.
+fn view_said(alloc: Global, seen: &FactView<'_>) -> Result<String> {
     let mut text = String::new(alloc);
     push_name(&mut text, seen.name.ns, seen.name.local)?;
     write!(text, " target={} nil={}", seen.target, seen.nil)?;
@@ -110,4 +127,14 @@ pub(crate) fn viewed(alloc: Global, cells: &[Cell]) -> Result<String> {
         None => text.push_str("none")?,
     }
     Ok(text)
+}
+
+/// What the attributes of the root of a page say.
+pub(crate) fn viewed(alloc: Global, cells: &[Cell]) -> Result<String> {
+    let [page] = cells else {
+        bail!("a page is wanted");
+    };
+    let arena = Bump::new(alloc);
+    let element = sound_root(alloc, &arena, 0, page.text()?)?;
+    view_said(alloc, &view(&Spot { element, up: None }))
 }

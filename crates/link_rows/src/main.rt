@@ -4,6 +4,8 @@
 //! `row_tables` says what a table is, and how it is written.
 #![tactic(auto)]
 
+ghost use Rattle.std.specs.Prelude.{◌≡◌, []};
+
 mod chains;
 mod items;
 mod markups;
@@ -11,25 +13,63 @@ mod members;
 mod notes;
 mod sets;
 
-use anyhow::{Result, bail};
+use anyhow::{Context, Result, bail};
+use bumpalo::Bump;
+use id_table::Index;
 use row_tables::{Cell, run_tables};
+use sets::index_of;
 use std::alloc::Global;
 use std::process::ExitCode;
+
+/// The word that stands in front of the pages of a row, empty where its table has none, and the pages.
+fn word_and_pages<'c>(table: &str, cells: &'c [Cell]) -> Result<(&'c str, &'c [Cell])> {
+    match table {
+        "chains" | "footnote_links" => {
+            let (head, pages) = cells.split_first().context("a word and pages")?;
+            Ok((head.text()?, pages))
+        }
+        _ => Ok(("", cells)),
+    }
+}
+
+/// What is seen of a call on the index of so many pages, which may be given a word.
+fn seen_in<'a>(
+    alloc: Global,
+    arena: &'a Bump,
+    index: &Index<'a>,
+    count: usize,
+    table: &str,
+    word: &str,
+) -> Result<String>
+    requires { index.now.choices ≡ [] }
+{
+    match table {
+        "broken_chains" => chains::linked(alloc, arena, index, count),
+        "chains" => chains::text(alloc, arena, index, word),
+        "doubled_ids" => chains::doubled(alloc, index, count),
+        "footnote_links" => notes::of_target(alloc, arena, index, count, word),
+        "members" => members::of_first(alloc, arena, index),
+        "missed_references" => items::missed(alloc, index),
+        _ => bail!("no such table"),
+    }
+}
+
+/// What is seen of a call of a table on pages. The index is held here alone, and each call is lent it.
+fn of_pages(alloc: Global, table: &str, cells: &[Cell]) -> Result<String> {
+    let (word, pages) = word_and_pages(table, cells)?;
+    let arena = Bump::new(alloc);
+    let index = index_of(alloc, &arena, pages)?;
+    seen_in(alloc, &arena, &index, pages.len(), table, word)
+}
 
 /// What is seen of a call of a table, which is given these cells.
 fn seen(alloc: Global, table: &str, cells: &[Cell]) -> Result<String> {
     match table {
-        "broken_chains" => chains::linked(alloc, cells),
-        "chains" => chains::text(alloc, cells),
-        "doubled_ids" => chains::doubled(alloc, cells),
-        "footnote_links" => notes::of_target(alloc, cells),
         "item_fields" => items::fields(alloc, cells),
         "items" => items::value(alloc, cells),
         "markups" => markups::text(alloc, cells),
-        "members" => members::of_first(alloc, cells),
-        "missed_references" => items::missed(alloc, cells),
         "views" => items::viewed(alloc, cells),
-        _ => bail!("no such table"),
+        _ => of_pages(alloc, table, cells),
     }
 }
 

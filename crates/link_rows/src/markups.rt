@@ -1,4 +1,6 @@
 //! What stands in a nonNumeric of a page, plain and as markup.
+ghost use Rattle.std.specs.Prelude.{◌<◌, All, length};
+ghost use Rattle.ix_base.specs.Elements.{place_of};
 ghost use Rattle.ix_base.specs.Sound.{IsSoundRoot};
 
 use anyhow::{Context, Result, bail, ensure};
@@ -35,32 +37,23 @@ fn first_text<'a>(
     Ok(first_in(&index))
 }
 
-/// The texts of what one element holds.
-#[derive(Drop)]
-struct Texts {
-    plain: Text,
-    resolved: Text,
-    written: Text,
-}
-
-/// The plain text of what the first nonNumeric of a page holds, its markup within the namespace of xhtml, and its markup within
-/// none with links as they are written.
-fn texts_of(alloc: Global, page: &str) -> Result<Texts> {
-    let arena = Bump::new(alloc);
-    let root = sound_root(alloc, &arena, 0, page)?;
-    let spot = first_text(alloc, &arena, root)?.context("no text")?;
-    let mut bases = Bases::new(alloc);
-    bases.add_page("http://example.com/r/", "a.html", root)?;
-    ensure!(spot.element.place.page == 0, "another page");
-    let mut texts = Texts {
-        plain: Text::of(alloc, "")?,
-        resolved: Text::of(alloc, "")?,
-        written: Text::of(alloc, "")?,
-    };
-    plain(&[spot], &mut texts.plain)?;
-    markup(alloc, &[spot], &bases, XHTML, &mut texts.resolved)?;
-    markup_as_is(alloc, spot.element.children, "", &mut texts.written)?;
-    Ok(texts)
+/// What the elements of a chain hold: the plain text, the markup within the namespace of xhtml, or the markup within none with links
+/// as they are written.
+fn text_of(alloc: Global, which: &str, chain: &[&Spot<'_>], bases: &Bases) -> Result<Text>
+    requires { All (λ s. (place_of s.now).page < length bases.now.pages) chain.now }
+{
+    let mut text = Text::of(alloc, "")?;
+    match which {
+        "plain" => plain(chain, &mut text)?,
+        "resolved" => markup(alloc, chain, bases, XHTML, &mut text)?,
+        "written" => {
+            for spot in chain {
+                markup_as_is(alloc, spot.element.children, "", &mut text)?;
+            }
+        }
+        _ => bail!("no such text"),
+    }
+    Ok(text)
 }
 
 /// One of the three texts of a page's first nonNumeric.
@@ -68,11 +61,12 @@ pub(crate) fn text(alloc: Global, cells: &[Cell]) -> Result<String> {
     let [which, page] = cells else {
         bail!("which text, and a page, are wanted");
     };
-    let texts = texts_of(alloc, page.text()?)?;
-    match which.text()? {
-        "plain" => owned(alloc, texts.plain.as_str()),
-        "resolved" => owned(alloc, texts.resolved.as_str()),
-        "written" => owned(alloc, texts.written.as_str()),
-        _ => bail!("no such text"),
-    }
+    let arena = Bump::new(alloc);
+    let root = sound_root(alloc, &arena, 0, page.text()?)?;
+    let spot = first_text(alloc, &arena, root)?.context("no text")?;
+    ensure!(spot.element.place.page == 0, "another page");
+    let mut bases = Bases::new(alloc);
+    bases.add_page("http://example.com/r/", "a.html", root)?;
+    let text = text_of(alloc, which.text()?, &[spot], &bases)?;
+    owned(alloc, text.as_str())
 }

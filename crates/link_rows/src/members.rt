@@ -5,11 +5,10 @@ ghost use Rattle.ix_base.specs.Located.{located};
 ghost use Rattle.ix_base.specs.Membership.{order_of};
 ghost use Rattle.tuples.specs.Fits.{fits, is_number};
 
-use crate::sets::index_of;
 use anyhow::{Result, ensure};
 use bumpalo::Bump;
+use id_table::Index;
 use ix_base::{Breaches, Spot, attr_of, is_fact, kind_of};
-use row_tables::Cell;
 use std::alloc::Global;
 use tuples::{Members, membership};
 use value_forms::{Form, has_form};
@@ -52,18 +51,26 @@ fn push_said<'a>(
     Ok(())
 }
 
-/// How many breaches there are in a set of pages, the pages of the members of the first page's root, and that of its owner.
-pub(crate) fn of_first(alloc: Global, cells: &[Cell]) -> Result<String> {
-    let arena = Bump::new(alloc);
-    let index = index_of(alloc, &arena, cells)?;
-    ensure!(are_fit(index.spots()), "an order that is no number");
-    let mut breaches = Breaches::new(alloc);
-    let members = membership(alloc, &arena, &index, &mut breaches)?;
+/// What is said of the elements of the first page.
+fn said_of<'a>(
+    alloc: Global,
+    members: &Members<'a>,
+    breaches: usize,
+    spots: &[&'a Spot<'a>],
+) -> Result<String> {
     let mut said = String::new(alloc);
-    for spot in index.spots() {
+    for spot in spots {
         if spot.element.place.page == 0 {
-            push_said(&members, breaches.len(), *spot, &mut said)?;
+            push_said(members, breaches, *spot, &mut said)?;
         }
     }
     Ok(said)
+}
+
+/// How many breaches there are in an index, the pages of the members of the first page's root, and that of its owner.
+pub(crate) fn of_first<'a>(alloc: Global, arena: &'a Bump, index: &Index<'a>) -> Result<String> {
+    ensure!(are_fit(index.spots()), "an order that is no number");
+    let mut breaches = Breaches::new(alloc);
+    let members = membership(alloc, arena, index, &mut breaches)?;
+    said_of(alloc, &members, breaches.len(), index.spots())
 }

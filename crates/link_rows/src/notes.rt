@@ -4,8 +4,7 @@ ghost use Rattle.std.specs.List.{list_all};
 ghost use Rattle.ix_base.specs.Elements.{place_of};
 ghost use Rattle.continuations.specs.Kept.{AreChainsOf};
 
-use crate::sets::index_of;
-use anyhow::{Result, bail, ensure};
+use anyhow::{Result, ensure};
 use bumpalo::Bump;
 use continuations::{Chains, link};
 use footnotes::{Relations, relate};
@@ -13,7 +12,6 @@ use id_table::Index;
 use ix_base::{
     Arc, Attrs, Breaches, Element, Footnote, Name, NoMemory, NoteLink, Place, Scope, Spot,
 };
-use row_tables::Cell;
 use scopes::Bases;
 use std::alloc::Global;
 
@@ -103,29 +101,29 @@ fn push_link(link: &NoteLink, said: &mut String) -> Result<()> {
     Ok(())
 }
 
-/// The links of a target of a set of so many pages.
-fn push_links<'a>(
+/// Writes the links of a target of a set of so many pages, whose elements stand on them.
+fn push_notes<'a>(
     alloc: Global,
-    arena: &'a Bump,
     index: &Index<'a>,
     relations: &Relations<'a>,
+    chains: &Chains<'a>,
     count: usize,
     target: &str,
     said: &mut String,
-) -> Result<()> {
-    let chains = chains_of(alloc, arena, index)?;
+) -> Result<()>
+    requires { AreChainsOf chains.now index.now.spots }
+{
+    ensure!(are_below(index.spots(), count), "another page");
     let bases = bases_of(alloc, count)?;
-    if are_below(index.spots(), count) {
-        let links = relations.notes(alloc, target, &chains, &bases)?;
-        for link in links.as_slice() {
-            push_link(link, said)?;
-        }
+    let links = relations.notes(alloc, target, chains, &bases)?;
+    for link in links.as_slice() {
+        push_link(link, said)?;
     }
     Ok(())
 }
 
 /// How many rules on relationships the elements of so many pages break, and the links of a target.
-fn said_of<'a>(
+pub(crate) fn of_target<'a>(
     alloc: Global,
     arena: &'a Bump,
     index: &Index<'a>,
@@ -134,17 +132,8 @@ fn said_of<'a>(
 ) -> Result<String> {
     let mut breaches = Breaches::new(alloc);
     let relations = relate(alloc, arena, index, &mut breaches)?;
+    let chains = chains_of(alloc, arena, index)?;
     let mut said = breaches.len().to_string(alloc)?;
-    push_links(alloc, arena, index, &relations, count, target, &mut said)?;
+    push_notes(alloc, index, &relations, &chains, count, target, &mut said)?;
     Ok(said)
-}
-
-/// How many rules on relationships pages break, and the links of a target.
-pub(crate) fn of_target(alloc: Global, cells: &[Cell]) -> Result<String> {
-    let Some((target, pages)) = cells.split_first() else {
-        bail!("a target and pages are wanted");
-    };
-    let arena = Bump::new(alloc);
-    let index = index_of(alloc, &arena, pages)?;
-    said_of(alloc, &arena, &index, pages.len(), target.text()?)
 }

@@ -1,5 +1,5 @@
 //! Sets of pages: their elements, and their names.
-ghost use Rattle.std.specs.Prelude.{◌≡◌, [], IfOk};
+ghost use Rattle.std.specs.Prelude.{◌≡◌, [], IfOk, OnOk};
 
 use anyhow::{Context, Result};
 use bumpalo::Bump;
@@ -9,17 +9,31 @@ use row_tables::Cell;
 use sound_pages::sound_root;
 use std::alloc::Global;
 
-/// The index of pages that are added in this order, in which nothing is chosen.
-pub(crate) fn index_of<'a>(alloc: Global, arena: &'a Bump, pages: &[Cell]) -> Result<Index<'a>>
-    ensures { IfOk result (λ i. i.choices ≡ []) }
+/// Adds pages to an index that has none, in this order. Nothing is chosen.
+fn add_pages<'a>(
+    alloc: Global,
+    arena: &'a Bump,
+    pages: &[Cell],
+    index: &mut Index<'a>,
+) -> Result<()>
+    requires { index.old.choices ≡ [] }
+    ensures { OnOk result (index.new.choices ≡ []) }
 {
-    let mut index = Index::new(alloc);
     let mut number = 0u32;
     for page in pages {
         let root = sound_root(alloc, arena, number, page.text()?)?;
         index.add_page(arena, root)?;
         number = number.checked_add(1).context("too many pages")?;
     }
+    Ok(())
+}
+
+/// The index of pages that are added in this order, in which nothing is chosen.
+pub(crate) fn index_of<'a>(alloc: Global, arena: &'a Bump, pages: &[Cell]) -> Result<Index<'a>>
+    ensures { IfOk result (λ i. i.choices ≡ []) }
+{
+    let mut index = Index::new(alloc);
+    add_pages(alloc, arena, pages, &mut index)?;
     Ok(index)
 }
 

@@ -31,16 +31,22 @@ fn push_counts(set: &Set<'_>, counts: &mut String) -> Result<()> {
     Ok(())
 }
 
+/// Writes the numbers of pending and of doubled links behind each of these pages.
+fn push_all<'a>(alloc: Global, arena: &'a Bump, pages: &[Cell], counts: &mut String) -> Result<()> {
+    let mut set = Set::new(alloc, arena, "http://example.com/r/")?;
+    let mut number = 0u32;
+    for page in pages {
+        add(alloc, arena, &mut set, number, page)?;
+        push_counts(&set, counts)?;
+        number = number.checked_add(1).context("too many pages")?;
+    }
+    Ok(())
+}
+
 /// The numbers of pending and of doubled links behind each of these pages, which are called by their numbers.
 pub(crate) fn counts(alloc: Global, cells: &[Cell]) -> Result<String> {
     let arena = Bump::new(alloc);
-    let mut set = Set::new(alloc, &arena, "http://example.com/r/")?;
-    let mut number = 0u32;
     let mut counts = String::new(alloc);
-    for page in cells {
-        add(alloc, &arena, &mut set, number, page)?;
-        push_counts(&set, &mut counts)?;
-        number = number.checked_add(1).context("too many pages")?;
-    }
+    push_all(alloc, &arena, cells, &mut counts)?;
     Ok(counts)
 }

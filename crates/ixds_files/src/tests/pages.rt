@@ -7,37 +7,36 @@ use crate::pages::{FilePages, read_some};
 use crate::system::SystemFolder;
 use crate::text::StdoutText;
 use ix_base::{PageSource, TextSink};
-use std::test::Fail;
 use std::{fs, io};
 
 #[test]
-fn a_page_is_read_in_pieces(rt: HostRuntime) -> Result<(), Fail> {
+fn a_page_is_read_in_pieces(rt: HostRuntime) {
     let _ = fs::remove_dir_all(&rt, "ixds_cli_pages");
-    fs::create_dir(&rt, "ixds_cli_pages")?;
-    fs::write(&rt, "ixds_cli_pages/a.html", b"0123456789".as_slice())?;
+    let page = "ixds_cli_pages/a.html";
+    fs::create_dir(&rt, "ixds_cli_pages").expect(&rt, "a folder");
+    fs::write(&rt, page, b"0123456789".as_slice()).expect(&rt, "a page");
     let mut pages = FilePages::new(SystemFolder::new(&rt));
     let mut buf = [0; 4];
-    pages.start("ixds_cli_pages/a.html")?;
-    let n = pages.read(&mut buf)?;
+    pages.start(page).expect(&rt, "a start");
+    let n = pages.read(&mut buf).expect(&rt, "a piece");
     assert!(rt; &buf[..n] == b"0123".as_slice());
-    let n = pages.read(&mut buf)?;
+    let n = pages.read(&mut buf).expect(&rt, "the next");
     assert!(rt; &buf[..n] == b"4567".as_slice());
-    let n = pages.read(&mut buf)?;
+    let n = pages.read(&mut buf).expect(&rt, "the last");
     assert!(rt; &buf[..n] == b"89".as_slice());
-    let n = pages.read(&mut buf)?;
+    let n = pages.read(&mut buf).expect(&rt, "the end");
     assert!(rt; n == 0);
     // A second start begins at the first byte again.
-    pages.start("ixds_cli_pages/a.html")?;
-    let n = pages.read(&mut buf)?;
+    pages.start(page).expect(&rt, "a second start");
+    let n = pages.read(&mut buf).expect(&rt, "a read");
     assert!(rt; &buf[..n] == b"0123".as_slice());
     assert!(rt; pages.start("ixds_cli_pages/missing.html").is_err());
     assert!(rt; pages.cause() == Some(Cause::Missing));
-    fs::remove_dir_all(&rt, "ixds_cli_pages")?;
-    Ok(())
+    fs::remove_dir_all(&rt, "ixds_cli_pages").expect(&rt, "no folder");
 }
 
 #[test]
-fn a_piece_is_read_or_the_read_fails(rt: HostRuntime) -> Result<(), Fail> {
+fn a_piece_is_read_or_the_read_fails(rt: HostRuntime) {
     let alloc = rt.alloc();
     let rows: [(u8, usize, usize, Result<usize, Cause>); 5] = [
         (0, 100, 100, Ok(4)),
@@ -54,11 +53,10 @@ fn a_piece_is_read_or_the_read_fails(rt: HostRuntime) -> Result<(), Fail> {
             "{interrupts} {most} {end}"
         );
     }
-    Ok(())
 }
 
 #[test]
-fn a_text_is_put_whole_or_fails(rt: HostRuntime) -> Result<(), Fail> {
+fn a_text_is_put_whole_or_fails(rt: HostRuntime) {
     let alloc = rt.alloc();
     let rows: [(u8, usize, usize, bool); 5] = [
         (0, 3, 100, true),
@@ -80,6 +78,6 @@ fn a_text_is_put_whole_or_fails(rt: HostRuntime) -> Result<(), Fail> {
         );
     }
     let mut out = StdoutText::new(io::writer(&rt));
-    out.put(b"printed by the test of the text\n")?;
-    Ok(())
+    out.put(b"printed by the test of the text\n")
+        .expect(&rt, "a text");
 }

@@ -1,7 +1,7 @@
 //! Targets that are written, over real files and over a folder in memory.
 ghost use Rattle.std.specs.Prelude.{None};
 
-use super::Slow;
+use super::{Slow, holds};
 use crate::blamed::Blamed;
 use crate::cause::Cause;
 use crate::folder::Folder;
@@ -11,44 +11,48 @@ use ix_base::{TargetSink, Text};
 use std::alloc::Global;
 use std::fs::Permissions;
 use std::os::unix::fs::PermissionsExt;
-use std::test::Fail;
 use std::{fs, io};
 
 #[test]
-fn targets_are_written_and_found(rt: HostRuntime) -> Result<(), Fail> {
-    let alloc = rt.alloc();
+fn targets_are_written_and_found(rt: HostRuntime) {
     let _ = fs::remove_dir_all(&rt, "ixds_cli_targets");
-    fs::create_dir(&rt, "ixds_cli_targets")?;
-    let mut sink = FileTargets::new(alloc, SystemFolder::new(&rt));
-    sink.begin("ixds_cli_targets", "")?;
-    sink.put(b"one\n")?;
-    sink.put(b"two\n")?;
-    sink.finish()?;
-    sink.begin("ixds_cli_targets", "x")?;
-    sink.put(b"three\n")?;
-    sink.finish()?;
-    let first = fs::read(&rt, "ixds_cli_targets/instance.xbrl")?;
-    assert!(rt; first.as_slice() == b"one\ntwo\n".as_slice());
-    let second = fs::read(&rt, "ixds_cli_targets/instance-x.xbrl")?;
-    assert!(rt; second.as_slice() == b"three\n".as_slice());
+    fs::create_dir(&rt, "ixds_cli_targets").expect(&rt, "a folder");
+    let mut sink = FileTargets::new(rt.alloc(), SystemFolder::new(&rt));
+    sink.begin("ixds_cli_targets", "").expect(&rt, "a target");
+    sink.put(b"one\n").expect(&rt, "its first line");
+    sink.put(b"two\n").expect(&rt, "its second line");
+    sink.finish().expect(&rt, "its end");
+    sink.begin("ixds_cli_targets", "x").expect(&rt, "another");
+    sink.put(b"three\n").expect(&rt, "its line");
+    sink.finish().expect(&rt, "its end");
+    assert!(rt; holds(&rt, "ixds_cli_targets/instance.xbrl", b"one\ntwo\n"));
+    assert!(rt; holds(&rt, "ixds_cli_targets/instance-x.xbrl", b"three\n"));
     assert!(rt; fs::read(&rt, "ixds_cli_targets/instance.xbrl.part").is_err());
-    // A target that isn't finished leaves the one that stands in its place, whose permissions it has.
-    let private = Permissions::from_mode(0o600);
-    fs::set_permissions(&rt, "ixds_cli_targets/instance.xbrl", private)?;
-    sink.begin("ixds_cli_targets", "")?;
-    sink.put(b"half")?;
-    let part = fs::metadata(&rt, "ixds_cli_targets/instance.xbrl.part")?;
-    assert!(rt; part.permissions().mode() & 0o777 == 0o600);
-    let still = fs::read(&rt, "ixds_cli_targets/instance.xbrl")?;
-    assert!(rt; still.as_slice() == b"one\ntwo\n".as_slice());
     assert!(rt; sink.cause().is_none());
     assert!(rt; sink.begin("ixds_cli_targets/missing", "").is_err());
     assert!(rt; sink.cause() == Some(Cause::Missing));
-    let blamed = sink.name(alloc)?;
+    let blamed = sink.name(rt.alloc()).expect(&rt, "a name");
     assert!(rt; blamed.as_slice() == b"ixds_cli_targets/missing/instance.xbrl".as_slice());
-    assert!(rt; fs::read(&rt, "ixds_cli_targets/instance.xbrl.part").is_err());
-    fs::remove_dir_all(&rt, "ixds_cli_targets")?;
-    Ok(())
+    fs::remove_dir_all(&rt, "ixds_cli_targets").expect(&rt, "no folder");
+}
+
+/// A target that isn't finished leaves the one that stands in its place, whose permissions it has.
+#[test]
+fn an_unfinished_target_leaves_its_place(rt: HostRuntime) {
+    let _ = fs::remove_dir_all(&rt, "ixds_cli_unfinished");
+    fs::create_dir(&rt, "ixds_cli_unfinished").expect(&rt, "a folder");
+    let place = "ixds_cli_unfinished/instance.xbrl";
+    fs::write(&rt, place, b"whole".as_slice()).expect(&rt, "a target");
+    fs::set_permissions(&rt, place, Permissions::from_mode(0o600)).expect(&rt, "its permissions");
+    let mut sink = FileTargets::new(rt.alloc(), SystemFolder::new(&rt));
+    sink.begin("ixds_cli_unfinished", "").expect(&rt, "a part");
+    sink.put(b"half").expect(&rt, "some bytes of it");
+    let part = fs::metadata(&rt, "ixds_cli_unfinished/instance.xbrl.part").expect(&rt, "its part");
+    assert!(rt; part.permissions().mode() & 0o777 == 0o600);
+    assert!(rt; holds(&rt, place, b"whole"));
+    assert!(rt; sink.begin("ixds_cli_unfinished/missing", "").is_err());
+    assert!(rt; fs::read(&rt, "ixds_cli_unfinished/instance.xbrl.part").is_err());
+    fs::remove_dir_all(&rt, "ixds_cli_unfinished").expect(&rt, "no folder");
 }
 
 /// A folder in memory, by the paths of the files that stand there. One of its calls fails; removing is no call that counts. It
@@ -62,6 +66,16 @@ struct Shelf {
 }
 
 impl Shelf {
+    /// An empty folder.
+    fn new(alloc: Global, fails: u8) -> Shelf {
+        Shelf {
+            alloc,
+            stand: Vec::new(alloc),
+            calls: 0,
+            fails,
+        }
+    }
+
     fn turn(&mut self) -> io::Result<()> {
         self.calls = self.calls.saturating_add(1);
         if self.calls == self.fails {
@@ -139,8 +153,7 @@ impl Folder for Shelf {
 /// A target takes its place when it is whole, and not before. Whichever call fails, no part of it stays, and what stood in its
 /// place stands; so does a part of another run. Only where the folder can't settle the target has its place already.
 #[test]
-fn no_half_target_stands(rt: HostRuntime) -> Result<(), Fail> {
-    let alloc = rt.alloc();
+fn no_half_target_stands(rt: HostRuntime) {
     let rows: [(u8, bool, bool); 8] = [
         (0, true, true),
         (1, false, false),
@@ -153,22 +166,16 @@ fn no_half_target_stands(rt: HostRuntime) -> Result<(), Fail> {
     ];
     for (fails, is_written, is_placed) in rows {
         for stood in [false, true] {
-            let mut shelf = Shelf {
-                alloc,
-                stand: Vec::new(alloc),
-                calls: 0,
-                fails,
-            };
+            let mut shelf = Shelf::new(rt.alloc(), fails);
             // The part that another run left makes one call more, that of the second path.
-            shelf.place("d/instance-x.xbrl.part")?;
+            shelf.place("d/instance-x.xbrl.part").expect(&rt, "a part");
             if stood {
-                shelf.place("d/instance-x.xbrl")?;
+                shelf.place("d/instance-x.xbrl").expect(&rt, "a target");
             }
-            let mut sink = FileTargets::new(alloc, shelf);
-            let is_done = match sink.begin("d", "x") {
-                Ok(()) => sink.put(b"whole").is_ok() && sink.finish().is_ok(),
-                Err(_) => false,
-            };
+            let mut sink = FileTargets::new(rt.alloc(), shelf);
+            let is_done = sink.begin("d", "x").is_ok()
+                && sink.put(b"whole").is_ok()
+                && sink.finish().is_ok();
             assert!(rt; is_done == is_written, "{fails}");
             assert!(rt; sink.folder().stands("d/instance-x.xbrl.part"), "{fails}");
             assert!(rt;
@@ -181,45 +188,39 @@ fn no_half_target_stands(rt: HostRuntime) -> Result<(), Fail> {
             );
         }
     }
-    Ok(())
+}
+
+/// A shelf on which so many parts of a target stand, at the paths that are tried first.
+fn parts_of_others(alloc: Global, taken: u8) -> io::Result<Shelf> {
+    let mut shelf = Shelf::new(alloc, 0);
+    for number in 0..taken {
+        let path = match number {
+            0 => String::from_str(alloc, "d/instance.xbrl.part")?,
+            _ => format!(in alloc; "d/instance.xbrl.part-{number}")?,
+        };
+        shelf.place(path.as_str())?;
+    }
+    Ok(shelf)
 }
 
 /// A hundred paths are tried for a part, in their order. A part that is open when another target is begun is removed.
 #[test]
-fn a_part_takes_the_first_free_path(rt: HostRuntime) -> Result<(), Fail> {
-    let alloc = rt.alloc();
-    for taken in [0, 1, 99, 100] {
-        let mut shelf = Shelf {
-            alloc,
-            stand: Vec::new(alloc),
-            calls: 0,
-            fails: 0,
-        };
-        for number in 0..taken {
-            let path = match number {
-                0 => String::from_str(alloc, "d/instance.xbrl.part")?,
-                _ => format!(in alloc; "d/instance.xbrl.part-{number}")?,
-            };
-            shelf.place(path.as_str())?;
-        }
-        let mut sink = FileTargets::new(alloc, shelf);
-        let due = match taken {
-            0 => "d/instance.xbrl.part",
-            1 => "d/instance.xbrl.part-1",
-            _ => "d/instance.xbrl.part-99",
-        };
-        match sink.begin("d", "") {
-            Ok(()) => {
-                assert!(rt; taken < 100, "{taken}");
-                assert!(rt; sink.folder().stands(due), "{taken}");
-                sink.begin("d", "x")?;
-                assert!(rt; !sink.folder().stands(due), "{taken}");
-            }
-            Err(_) => {
-                assert!(rt; taken == 100, "{taken}");
-                assert!(rt; sink.folder().stands(due), "{taken}");
-            }
+fn a_part_takes_the_first_free_path(rt: HostRuntime) {
+    let rows: [(u8, &str); 4] = [
+        (0, "d/instance.xbrl.part"),
+        (1, "d/instance.xbrl.part-1"),
+        (99, "d/instance.xbrl.part-99"),
+        (100, "d/instance.xbrl.part-99"),
+    ];
+    for (taken, due) in rows {
+        let shelf = parts_of_others(rt.alloc(), taken).expect(&rt, due);
+        let mut sink = FileTargets::new(rt.alloc(), shelf);
+        let is_begun = sink.begin("d", "").is_ok();
+        assert!(rt; is_begun == (taken < 100), "{taken}");
+        assert!(rt; sink.folder().stands(due), "{taken}");
+        if is_begun {
+            sink.begin("d", "x").expect(&rt, "another target");
+            assert!(rt; !sink.folder().stands(due), "{taken}");
         }
     }
-    Ok(())
 }

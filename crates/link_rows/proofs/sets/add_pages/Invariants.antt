@@ -1,5 +1,5 @@
 use Rattle.std.proofs.Common.{◌≡◌, []}
-use Rattle.link_rows.proofs.sets.index_of.Given as goal
+use Rattle.link_rows.proofs.sets.add_pages.Given as goal
 
 -- nothing is chosen
 abbrev pub invariant-loop-page : goal.invariant-loop-page

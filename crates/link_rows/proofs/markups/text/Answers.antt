@@ -4,10 +4,10 @@ use Rattle.std.specs.Borrow.{Bor}
 use Rattle.ix_base.specs.declared.tree.Spot.{Spot}
 use Rattle.ix_base.specs.Elements.{place_of}
 use Rattle.scopes.specs.Kept.{Kept}
-use Rattle.link_rows.proofs.markups.texts_of.Goals as goal
+use Rattle.link_rows.proofs.markups.text.Goals as goal
 
-pub markup-requires : goal.markup-requires
-markup-requires c =
+pub text_of-requires : goal.text_of-requires
+text_of-requires c =
     let first : (place_of c.in_ok-spot.spot.now).page ≡ 0 = search rules in
     let count = ap (λ (b : Kept). length b.pages) c.in_ok-add_page.ensures.ok ∙ length-append c.new-bases.result.pages (_ ∷ []) in
     let some : 0 < length c.add_page.new.self.pages = omega (arith, count) in

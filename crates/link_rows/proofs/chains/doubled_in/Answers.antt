@@ -7,17 +7,15 @@ use Rattle.ix_base.specs.declared.tree.Spot.{Spot}
 use Rattle.ix_base.specs.Located.{located}
 use Rattle.id_table.specs.Held.{Held, doubled_at}
 use Rattle.link_rows.proofs.FoundRows.{all-within, doubled-within}
-use Rattle.link_rows.proofs.chains.doubled.Goals as goal
+use Rattle.link_rows.proofs.chains.doubled_in.Goals as goal
 
 pub lines_of-requires : goal.lines_of-requires
 lines_of-requires c =
-    let count = length c.as_slice.result.now in
+    let count = length c.args.names.now in
     let P : List Found → Type 0 = λ fs. All (λ f. f.place.page < count) fs in
-    let Q : ℕ → Type 0 = λ n. list_all (λ (s : Bor Spot). nat_lt (located s.now).page n) c.spots.result.now ≡ true in
-    let es = c.in_ok-index.index.spots in
+    let es = c.args.index.now.spots in
     let is : c.are_within.result ≡ true = search rules in
-    let same : c.len.result ≡ count = search rules in
-    let within = subst (All (λ e. e.page < count)) c.spots.ensures.elements (all-within count c.spots.result.now (subst Q same (sym c.are_within.ensures ∙ is))) in
-    let h : Held = c.in_ok-index.index in
+    let within = subst (All (λ e. e.page < count)) c.spots.ensures.elements (all-within count c.spots.result.now (sym c.are_within.ensures ∙ is)) in
+    let h : Held = c.args.index.now in
     let found : c.doubled.new.breaches ≡ flat_map (doubled_at h) es = c.in_ok-doubled.ensures.ok ∙ ap (λ (b : List Found). b ++ flat_map (doubled_at h) es) c.new-breaches.ensures in
     subst P (sym found) (doubled-within h count within)

@@ -8,17 +8,15 @@ use Rattle.ix_base.specs.declared.tree.Spot.{Spot}
 use Rattle.ix_base.specs.LinkRules.{breaking}
 use Rattle.ix_base.specs.Located.{located}
 use Rattle.link_rows.proofs.FoundRows.{breaking-within, all-within, both-within}
-use Rattle.link_rows.proofs.chains.linked.Goals as goal
+use Rattle.link_rows.proofs.chains.linked_in.Goals as goal
 
 pub lines_of-requires : goal.lines_of-requires
 lines_of-requires c =
-    let count = length c.as_slice.result.now in
+    let count = length c.args.names.now in
     let P : List Found → Type 0 = λ fs. All (λ f. f.place.page < count) fs in
-    let Q : ℕ → Type 0 = λ n. list_all (λ (s : Bor Spot). nat_lt (located s.now).page n) c.spots.result.now ≡ true in
-    let es = c.in_ok-index.index.spots in
+    let es = c.args.index.now.spots in
     let is : c.are_within.result ≡ true = search rules in
-    let same : c.len.result ≡ count = search rules in
-    let within = subst (All (λ e. e.page < count)) c.spots.ensures.elements (all-within count c.spots.result.now (subst Q same (sym c.are_within.ensures ∙ is))) in
+    let within = subst (All (λ e. e.page < count)) c.spots.ensures.elements (all-within count c.spots.result.now (sym c.are_within.ensures ∙ is)) in
     let found : c.link.new.breaches ≡ [] ++ breaking L4 es ++ breaking L5 es ++ breaking L6 es ++ breaking L7 es = c.in_ok-link.ensures.breaches ∙ ap (λ (b : List Found). b ++ breaking L4 es ++ breaking L5 es ++ breaking L6 es ++ breaking L7 es) c.new-breaches.ensures in
     subst P (sym found)
     (both-within count ([] ++ breaking L4 es ++ breaking L5 es ++ breaking L6 es) (breaking L7 es)
