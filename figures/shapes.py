@@ -195,6 +195,11 @@ def namespaces(size, elements):
     return [frame() + [fact(0, ' escape="true"', '<x xmlns="u:%s">' % ('n' * size) + '<b/>' * elements + '</x>'), CLOSE]]
 
 
+def prefixed(size, elements):
+    """Elements with an attribute each whose namespace has so many bytes."""
+    return [frame() + ['<p xmlns:a="u:%s">' % ('n' * size) + '<b a:x="1"/>' * elements + '</p>', CLOSE]]
+
+
 def chain(length):
     """One text that goes on so many times."""
     page = frame() + [fact(0, ' continuedAt="k1"')]
@@ -251,8 +256,8 @@ def broken(count):
 
 
 SHAPES = (
-    sample, tables, blocks, hidden, words, bases, base, collide, decls, namespaces, chain, circle, one_chain, members, tuples, relations,
-    attributes, deep, broken,
+    sample, tables, blocks, hidden, words, bases, base, collide, decls, namespaces, prefixed, chain, circle, one_chain, members, tuples,
+    relations, attributes, deep, broken,
 )
 
 

@@ -3,9 +3,10 @@ use crate::pages::{PAGE, root_in_pieces, root_of, told_fault};
 use anyhow::{Context, Result, bail};
 use bumpalo::Bump;
 use holding::first_element;
-use ix_base::{Binding, Element, Node, attr_of, xml_base, xml_lang};
+use ix_base::{Binding, Element, Node, Scope, attr_of, xml_base, xml_lang};
 use row_tables::{Cell, push_name, quoted};
 use std::alloc::Global;
+use std::collections::BTreeSet;
 
 /// An element by its place, its name and its attributes in brackets, and what it holds: a text in parentheses, and an element as
 /// its name.
@@ -48,16 +49,29 @@ pub(crate) fn first_child<'a>(element: &Element<'a>) -> Result<&'a Element<'a>> 
     }
 }
 
-/// Bindings, in order. The namespace of `xml` isn't shown.
-fn bound(alloc: Global, bindings: &[Binding<'_>]) -> Result<String> {
+/// Adds the prefixes that an element declares.
+fn add_prefixes<'a>(declared: &[Binding<'a>], prefixes: &mut BTreeSet<&'a str>) -> Result<()> {
+    for binding in declared {
+        prefixes.insert(binding.prefix)?;
+    }
+    Ok(())
+}
+
+/// What is bound in a scope, in byte order of the prefixes. The namespace of `xml` isn't shown.
+fn bound(alloc: Global, scope: Scope<'_>) -> Result<String> {
+    let mut prefixes = BTreeSet::new(alloc);
+    let mut at = scope.level;
+    while let Some(level) = at {
+        add_prefixes(level.own.list, &mut prefixes)?;
+        at = level.above;
+    }
     let mut text = String::new(alloc);
-    for binding in bindings {
-        let ns = if binding.prefix == "xml" {
-            ""
-        } else {
-            binding.ns
+    for prefix in &prefixes {
+        let Some(ns) = scope.namespace_of(prefix) else {
+            continue;
         };
-        write!(text, "{}={ns} ", binding.prefix)?;
+        let ns = if *prefix == "xml" { "" } else { ns };
+        write!(text, "{prefix}={ns} ")?;
     }
     Ok(text)
 }
@@ -69,7 +83,7 @@ pub(crate) fn inner_scope(alloc: Global, cells: &[Cell]) -> Result<String> {
     };
     let arena = Bump::new(alloc);
     let root = root_of(alloc, &arena, page.bytes(), PAGE)?;
-    bound(alloc, first_child(root)?.scope.bindings)
+    bound(alloc, first_child(root)?.scope)
 }
 
 /// The value of an attribute of the root, by its namespace and its local name, or where the namespace is `xml` by the call for it.

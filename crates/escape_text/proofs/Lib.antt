@@ -3,3 +3,4 @@ pub mod LinkLaws
 pub mod MarkupLaws
 pub mod MarkupSteps
 pub mod PlainLaws
+pub mod WithinLaws

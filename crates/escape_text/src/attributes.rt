@@ -1,5 +1,5 @@
 //! The attributes of an element as they are written.
-ghost use Rattle.std.specs.Prelude.{◌≡◌, ◌++◌, ◌∷◌, map, IfOk, OnOk, option_map, []};
+ghost use Rattle.std.specs.Prelude.{◌≡◌, ◌++◌, ◌∷◌, ℕ, List, bytes_eq, map, IfOk, OnOk, option_map, []};
 ghost use Rattle.ix_base.specs.Markup as spec;
 ghost use Rattle.ix_base.specs.Trees.{named, valued, tree_of};
 ghost use Rattle.ix_base.specs.Written.{attrs_text};
@@ -152,13 +152,14 @@ fn push_attribute(name: &str, value: &str, out: &mut Text) -> Result<(), NoMemor
 }
 
 /// Appends a declaration of the default namespace, where it isn't the one around.
-pub(crate) fn push_declaration(around: &str, ns: &str, out: &mut Text) -> Result<(), NoMemory>
-    ensures { OnOk result (out.new ≡ out.old ++ attrs_text (spec.declaration around.now ns.now) []) }
+pub(crate) fn push_declaration(is_around: bool, ns: &str, out: &mut Text) -> Result<(), NoMemory>
+    ensures { (around : List ℕ) → is_around ≡ bytes_eq ns.now around
+        → OnOk result (out.new ≡ out.old ++ attrs_text (spec.declaration around ns.now) []) }
 {
-    if ns != around {
-        return push_attribute("xmlns", ns, out);
+    if is_around {
+        return Ok(());
     }
-    Ok(())
+    push_attribute("xmlns", ns, out)
 }
 
 /// Appends the attributes of an element.

@@ -1,28 +1,58 @@
 //! Texts as markup.
-ghost use Rattle.std.specs.Prelude.{◌≡◌, ◌++◌, ◌<◌, map, IfOk, OnOk, OnErr, option_map, Some, None, length, All};
+ghost use Rattle.std.specs.Prelude.{◌≡◌, ◌++◌, ◌∷◌, ◌<◌, List, true, flat_map, map, IfOk, OnOk, OnErr, option_map, Some, None, length, All};
 ghost use Rattle.ix_base.specs.Address.{joined_or};
 ghost use Rattle.ix_base.specs.Elements.{place_of};
 ghost use Rattle.ix_base.specs.Located.{located, base_in};
 ghost use Rattle.ix_base.specs.Markup as spec;
+ghost use Rattle.ix_base.specs.Spaces.{AreNumbered, IsOuter, Space, space_of, spaces_in, spaces_of};
+ghost use Rattle.ix_base.specs.Spots.{IsOnOnePage};
 ghost use Rattle.ix_base.specs.Trees.{nodes_of, tree_of};
 ghost use Rattle.ix_base.specs.Written.{close_text};
 ghost use Rattle.escape_text.specs.Kept.{element_markup, shown_by, open_text, rest_text, is_short};
 ghost use Rattle.escape_text.specs.Linked.{has_links as links_in};
-ghost use Rattle.escape_text.specs.Around.{base_of};
+ghost use Rattle.escape_text.specs.Around.{IsWithin, base_of};
 
 use crate::attributes::{push_attributes, push_declaration};
 use crate::links::{has_links, is_linked};
 use crate::names::{ends_short, is_left_out, is_opened};
-use ix_base::{Element, NoMemory, Node, Spot, Text, push_te, xml_base};
+use ix_base::{Element, Name, NoMemory, Node, Outer, Spot, Text, push_te, xml_base};
 use scopes::{Bases, ParsedBase};
 use std::alloc::Global;
 
-/// What stands around markup: the base, or none where links stay as they are written, and the default namespace.
+/// What stands around markup: the base, or none where links stay as they are written, and the default namespace. Namespaces are
+/// compared by their numbers where the nodes are known to be numbered.
 #[derive(Clone, Copy)]
 struct Around<'b, 'n> {
     alloc: Global,
     base: Option<&'b ParsedBase>,
-    ns: &'n str,
+    outer: Outer<'n>,
+    by_number: bool,
+}
+
+/// The default namespace around what an element of this name holds.
+#[tactic(auto, using(crate::proofs::WithinLaws::outer_named, crate::proofs::WithinLaws::outer_unnumbered))]
+fn outer_of<'n>(by_number: bool, name: Name<'n>) -> Outer<'n>
+    ensures ns { result.ns.now ≡ name.entry.ns.now }
+    ensures within { (spaces : List Space) → (by_number ≡ true → AreNumbered (space_of name.entry ∷ spaces)) → IsOuter result spaces }
+{
+    if by_number {
+        return Outer::of(name);
+    }
+    Outer::start(name.ns)
+}
+
+/// What stands around what an element of this name holds.
+fn inside<'b, 'n>(around: Around<'b, '_>, name: Name<'n>) -> Around<'b, 'n>
+    ensures base { base_of result ≡ base_of around.entry }
+    ensures ns { result.outer.ns.now ≡ name.entry.ns.now }
+    ensures within { (spaces : List Space) → IsWithin around.entry (space_of name.entry ∷ spaces) → IsWithin result spaces }
+{
+    Around {
+        alloc: around.alloc,
+        base: around.base,
+        outer: outer_of(around.by_number, name),
+        by_number: around.by_number,
+    }
 }
 
 /// Whether nodes give no markup: there is no text among them, and no element that is kept.
@@ -56,13 +86,14 @@ fn gives_nothing(element: &Element<'_>) -> bool
 }
 
 /// Appends the start tag of an element, without its end.
-#[tactic(auto, using(crate::proofs::MarkupLaws::attrs_laws))]
+#[tactic(auto, using(crate::proofs::MarkupLaws::attrs_laws, crate::proofs::WithinLaws::within_name))]
 fn push_open(around: Around<'_, '_>, element: &Element<'_>, out: &mut Text) -> Result<(), NoMemory>
-    ensures { OnOk result (out.new ≡ out.old ++ open_text (base_of around.entry) around.entry.ns.now (tree_of element.now).head) }
+    requires { IsWithin around (spaces_of element.now) }
+    ensures { OnOk result (out.new ≡ out.old ++ open_text (base_of around.entry) around.entry.outer.ns.now (tree_of element.now).head) }
 {
     out.push("<")?;
     out.push(element.name.local)?;
-    push_declaration(around.ns, element.name.ns, out)?;
+    push_declaration(around.outer.is_of(&element.name), element.name.ns, out)?;
     push_attributes(around.alloc, around.base, element, out)
 }
 
@@ -78,15 +109,15 @@ fn push_close(name: &str, out: &mut Text) -> Result<(), NoMemory>
 /// Appends what follows the attributes of an element that is kept.
 #[cycle(markup)]
 fn push_rest(around: Around<'_, '_>, element: &Element<'_>, out: &mut Text) -> Result<(), NoMemory>
+    requires { IsWithin around (spaces_of element.now) }
     ensures { OnOk result (out.new ≡ out.old ++ rest_text (is_short (tree_of element.now)) (tree_of element.now).head.name.local
         (spec.markup (base_of around.entry) (tree_of element.now).head.name.ns (tree_of element.now).children)) }
 {
     if ends_short(element.name) && is_silent(element) {
         return out.push("/>");
     }
-    let ns = element.name.ns;
     out.push(">")?;
-    push_nodes(Around { ns, ..around }, element.children, out)?;
+    push_nodes(inside(around, element.name), element.children, out)?;
     push_close(element.name.local, out)
 }
 
@@ -98,7 +129,8 @@ fn push_element(
     element: &Element<'_>,
     out: &mut Text,
 ) -> Result<(), NoMemory>
-    ensures { OnOk result (out.new ≡ out.old ++ element_markup (base_of around.entry) around.entry.ns.now (tree_of element.now)) }
+    requires { IsWithin around (spaces_of element.now) }
+    ensures { OnOk result (out.new ≡ out.old ++ element_markup (base_of around.entry) around.entry.outer.ns.now (tree_of element.now)) }
 {
     if is_left_out(element) {
         return Ok(());
@@ -119,8 +151,9 @@ fn push_based(
     element: &Element<'_>,
     out: &mut Text,
 ) -> Result<(), NoMemory>
+    requires { IsWithin around (spaces_of element.now) }
     ensures { OnOk result (out.new ≡ out.old
-        ++ shown_by (option_map (λ b. joined_or b text.now) (base_of around.entry)) around.entry.ns.now (tree_of element.now)) }
+        ++ shown_by (option_map (λ b. joined_or b text.now) (base_of around.entry)) around.entry.outer.ns.now (tree_of element.now)) }
 {
     match around.base {
         Some(base) if is_linked(element) => push_joined(around, base, text, element, out),
@@ -144,7 +177,8 @@ fn push_joined(
     element: &Element<'_>,
     out: &mut Text,
 ) -> Result<(), NoMemory>
-    ensures { OnOk result (out.new ≡ out.old ++ shown_by (Some (joined_or base.now text.now)) around.entry.ns.now (tree_of element.now)) }
+    requires { IsWithin around (spaces_of element.now) }
+    ensures { OnOk result (out.new ≡ out.old ++ shown_by (Some (joined_or base.now text.now)) around.entry.outer.ns.now (tree_of element.now)) }
 {
     match base.joined(text)? {
         Some(own) => {
@@ -161,7 +195,8 @@ fn push_joined(
 /// Appends the markup of an element that isn't left out, with this base below it.
 #[cycle(markup)]
 fn push_shown(around: Around<'_, '_>, element: &Element<'_>, out: &mut Text) -> Result<(), NoMemory>
-    ensures { OnOk result (out.new ≡ out.old ++ shown_by (base_of around.entry) around.entry.ns.now (tree_of element.now)) }
+    requires { IsWithin around (spaces_of element.now) }
+    ensures { OnOk result (out.new ≡ out.old ++ shown_by (base_of around.entry) around.entry.outer.ns.now (tree_of element.now)) }
 {
     if is_opened(element) {
         return push_nodes(around, element.children, out);
@@ -173,7 +208,8 @@ fn push_shown(around: Around<'_, '_>, element: &Element<'_>, out: &mut Text) -> 
 /// Appends the markup of some nodes.
 #[cycle(markup)]
 fn push_nodes(around: Around<'_, '_>, nodes: &[Node<'_>], out: &mut Text) -> Result<(), NoMemory>
-    ensures { OnOk result (out.new ≡ out.old ++ spec.markup (base_of around.entry) around.entry.ns.now (nodes_of nodes.now)) }
+    requires { IsWithin around (flat_map spaces_in nodes.now) }
+    ensures { OnOk result (out.new ≡ out.old ++ spec.markup (base_of around.entry) around.entry.outer.ns.now (nodes_of nodes.now)) }
 {
     for node in nodes {
         match node {
@@ -185,7 +221,7 @@ fn push_nodes(around: Around<'_, '_>, nodes: &[Node<'_>], out: &mut Text) -> Res
 }
 
 /// Appends the markup of some nodes within a namespace, links as they are written. After a refusal the text is as before:
-/// the markup is made beside it first.
+/// the markup is made beside it first. The nodes may be of any page: namespaces are compared by their texts.
 pub fn markup_as_is(
     alloc: Global,
     nodes: &[Node<'_>],
@@ -199,7 +235,8 @@ pub fn markup_as_is(
     let around = Around {
         alloc,
         base: None,
-        ns: start_ns,
+        outer: Outer::start(start_ns),
+        by_number: false,
     };
     push_nodes(around, nodes, &mut whole)?;
     text.push(whole.as_str())
@@ -212,11 +249,24 @@ fn holds_links(spot: &Spot<'_>) -> bool
     has_links(spot.element.children)
 }
 
-/// Appends the markup of what the element of a spot holds.
-fn push_held(around: Around<'_, '_>, spot: &Spot<'_>, text: &mut Text) -> Result<(), NoMemory>
+/// Appends the markup of what the element of a spot holds, within a namespace and with this base.
+fn push_held(
+    alloc: Global,
+    base: Option<&ParsedBase>,
+    spot: &Spot<'_>,
+    ns: &str,
+    text: &mut Text,
+) -> Result<(), NoMemory>
+    requires { IsOnOnePage spot.now }
     ensures { OnOk result (text.new ≡ text.old
-        ++ spec.markup (base_of around.entry) around.entry.ns.now (located spot.now).placed.tree.children) }
+        ++ spec.markup (option_map (λ b. b.now) base.entry) ns.now (located spot.now).placed.tree.children) }
 {
+    let around = Around {
+        alloc,
+        base,
+        outer: Outer::start(ns),
+        by_number: true,
+    };
     push_nodes(around, spot.element.children, text)
 }
 
@@ -230,23 +280,17 @@ fn push_spot(
     ns: &str,
     text: &mut Text,
 ) -> Result<(), NoMemory>
-    requires { (place_of spot.now).page < length bases.now.pages }
+    requires base { (place_of spot.now).page < length bases.now.pages }
+    requires page { IsOnOnePage spot.now }
     ensures { OnOk result (text.new ≡ text.old ++ spec.markup (Some (base_in bases.now.pages (located spot.now))) ns.now
         (located spot.now).placed.tree.children) }
 {
     if !holds_links(spot) {
-        let base = None;
-        return push_held(Around { alloc, base, ns }, spot, text);
+        return push_held(alloc, None, spot, ns, text);
     }
     match bases.own(spot)? {
-        Some(own) => {
-            let base = Some(&own);
-            push_held(Around { alloc, base, ns }, spot, text)
-        }
-        None => {
-            let base = Some(bases.page(spot));
-            push_held(Around { alloc, base, ns }, spot, text)
-        }
+        Some(own) => push_held(alloc, Some(&own), spot, ns, text),
+        None => push_held(alloc, Some(bases.page(spot)), spot, ns, text),
     }
 }
 
@@ -257,7 +301,8 @@ fn chain_markup(
     bases: &Bases,
     start_ns: &str,
 ) -> Result<Text, NoMemory>
-    requires { All (λ s. (place_of s.now).page < length bases.now.pages) chain.now }
+    requires bases { All (λ s. (place_of s.now).page < length bases.now.pages) chain.now }
+    requires pages { All (λ s. IsOnOnePage s.now) chain.now }
     ensures { IfOk result (λ t. t ≡ spec.markup_along (λ e. Some (base_in bases.now.pages e)) start_ns.now
         (map (λ s. located s.now) chain.now)) }
 {
@@ -277,7 +322,8 @@ pub fn markup(
     start_ns: &str,
     text: &mut Text,
 ) -> Result<(), NoMemory>
-    requires { All (λ s. (place_of s.now).page < length bases.now.pages) chain.now }
+    requires bases { All (λ s. (place_of s.now).page < length bases.now.pages) chain.now }
+    requires pages { All (λ s. IsOnOnePage s.now) chain.now }
     ensures ok { OnOk result (text.new ≡ text.old ++ spec.markup_along (λ e. Some (base_in bases.now.pages e)) start_ns.now
         (map (λ s. located s.now) chain.now)) }
     ensures err { OnErr result (text.new ≡ text.old) }

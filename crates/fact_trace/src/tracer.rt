@@ -3,6 +3,7 @@ ghost use Rattle.std.specs.Prelude.{◌≡◌, ◌++◌, ◌∷◌, [], false, t
 ghost use Rattle.std.specs.List.Sorted.{IsPermutation};
 ghost use Rattle.ix_base.specs.Elements.{pages_of};
 ghost use Rattle.ix_base.specs.LinkRules.{breaking};
+ghost use Rattle.ix_base.specs.Spaces.{AreNumbered, spaces_of};
 ghost use Rattle.ix_base.specs.Trees.{tree_of};
 ghost use Rattle.ix_base.specs.declared.rule.Rule.TheVariants as rules;
 ghost use Rattle.continuations.specs.Kept.{AreChainsOf};
@@ -102,6 +103,7 @@ impl<'a> Tracer<'a> {
     ) -> Result<(), NoMemory>
         requires tree { page_of bytes.now 256 (tree_of root.now) }
         requires number { All (λ n. n ≡ length self.old.sources) (pages_of root.now) }
+        requires spaces { AreNumbered (spaces_of root.now) }
         requires fresh { ¬ Contains (names_of self.old.sources) name.now }
         ensures ok { OnOk result (self.new ≡ record {
           sources = self.old.sources ++ record { name = name.now; bytes = bytes.now; tree = tree_of root.now } ∷ [];

@@ -31,7 +31,11 @@ pub fn fact_name<'a>(e: &Element<'a>) -> Name<'a>
 {
     match name_at(e, "name") {
         Some(name) => name,
-        None => Name { ns: "", local: "" },
+        None => Name {
+            ns: "",
+            local: "",
+            number: 0,
+        },
     }
 }
 

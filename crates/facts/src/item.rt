@@ -7,6 +7,7 @@ ghost use Rattle.ix_base.specs.Located.{Located, located, base_in, is_kind};
 ghost use Rattle.ix_base.specs.Markup.{plain_along};
 ghost use Rattle.ix_base.specs.OwnNames.{own};
 ghost use Rattle.ix_base.specs.Readers as reader;
+ghost use Rattle.ix_base.specs.Spots.{IsOnOnePage};
 ghost use Rattle.ix_base.specs.Trees.{named, tree_of};
 ghost use Rattle.ix_base.specs.Viewed as viewed;
 ghost use Rattle.ix_base.specs.declared.kind.Kind.TheVariants as kinds;
@@ -41,7 +42,8 @@ fn plain_of(alloc: Global, chain: &[&Spot<'_>]) -> Result<Text, NoMemory>
 /// The markup of a chain within the namespace of xhtml, links resolved.
 #[tactic(auto, unfolding(ix_base::specs::Namespaces::xhtml_namespace))]
 fn markup_of(alloc: Global, chain: &[&Spot<'_>], bases: &Bases) -> Result<Text, NoMemory>
-    requires { All (λ s. (place_of s.now).page < length bases.now.pages) chain.now }
+    requires bases { All (λ s. (place_of s.now).page < length bases.now.pages) chain.now }
+    requires pages { All (λ s. IsOnOnePage s.now) chain.now }
     ensures { IfOk result (λ t. t ≡ raw_along (base_in bases.now.pages) true (map (λ s. located s.now) chain.now)) }
 {
     let mut text = Text::of(alloc, "")?;
@@ -51,7 +53,8 @@ fn markup_of(alloc: Global, chain: &[&Spot<'_>], bases: &Bases) -> Result<Text, 
 
 /// The text of a chain as it stands: as markup where it is to be escaped, or else plain.
 fn raw_of(alloc: Global, chain: &[&Spot<'_>], bases: &Bases, escape: bool) -> Result<Text, NoMemory>
-    requires { All (λ s. (place_of s.now).page < length bases.now.pages) chain.now }
+    requires bases { All (λ s. (place_of s.now).page < length bases.now.pages) chain.now }
+    requires pages { All (λ s. IsOnOnePage s.now) chain.now }
     ensures { IfOk result (λ t. t ≡ raw_along (base_in bases.now.pages) escape (map (λ s. located s.now) chain.now)) }
 {
     if escape {
@@ -77,7 +80,8 @@ fn text_value(
     escape: bool,
     format: Option<Name<'_>>,
 ) -> Result<Text, ItemFault>
-    requires { All (λ s. (place_of s.now).page < length bases.now.pages) chain.now }
+    requires bases { All (λ s. (place_of s.now).page < length bases.now.pages) chain.now }
+    requires pages { All (λ s. IsOnOnePage s.now) chain.now }
     ensures { IfSome (said result) (spec.IsTextBy (option_map named format.entry)
         (text_along (base_in bases.now.pages) escape (map (λ s. located s.now) chain.now))) }
 {
@@ -101,7 +105,8 @@ fn nonnumeric_value(
     chain: &[&Spot<'_>],
     bases: &Bases,
 ) -> Result<Value, ItemFault>
-    requires { All (λ s. (place_of s.now).page < length bases.now.pages) chain.now }
+    requires bases { All (λ s. (place_of s.now).page < length bases.now.pages) chain.now }
+    requires pages { All (λ s. IsOnOnePage s.now) chain.now }
     ensures { IfSome (said result) (spec.IsPlain (spec.IsTextBy (viewed.view (tree_of e.now)).format
         (text_along (base_in bases.now.pages) (viewed.view (tree_of e.now)).escape (map (λ s. located s.now) chain.now)))) }
 {
@@ -125,7 +130,8 @@ fn value_as(
     chain: &[&Spot<'_>],
     bases: &Bases,
 ) -> Result<Value, ItemFault>
-    requires { All (λ s. (place_of s.now).page < length bases.now.pages) chain.now }
+    requires bases { All (λ s. (place_of s.now).page < length bases.now.pages) chain.now }
+    requires pages { All (λ s. IsOnOnePage s.now) chain.now }
     ensures { IfSome (said result) (spec.IsValueAs kind
         (text_along (base_in bases.now.pages) (viewed.view (placed spot.now).tree).escape (map (λ s. located s.now) chain.now))
         (placed spot.now).tree) }
@@ -144,7 +150,8 @@ fn value_of(
     chain: &[&Spot<'_>],
     bases: &Bases,
 ) -> Result<Value, ItemFault>
-    requires { All (λ s. (place_of s.now).page < length bases.now.pages) chain.now }
+    requires bases { All (λ s. (place_of s.now).page < length bases.now.pages) chain.now }
+    requires pages { All (λ s. IsOnOnePage s.now) chain.now }
     ensures { IfSome (said result) (spec.IsValueOf
         (text_along (base_in bases.now.pages) (viewed.view (placed spot.now).tree).escape (map (λ s. located s.now) chain.now))
         (placed spot.now)) }
@@ -195,16 +202,30 @@ fn unit_of(alloc: Global, kind: Kind, e: &Element<'_>) -> Result<Option<Text>, N
     }
 }
 
+/// The ids of the context and of the unit of an item of this kind.
+fn refs_in(alloc: Global, kind: Kind, e: &Element<'_>) -> Result<(Text, Option<Text>), NoMemory>
+    ensures { IfOk result (λ refs. (refs.0 ≡ unwrap_or (reader.token_at (codes "contextRef") (tree_of e.now)) [])
+        × (refs.1 ≡ spec.unit_of kind (tree_of e.now))) }
+{
+    let context = context_of(alloc, e)?;
+    let unit = unit_of(alloc, kind, e)?;
+    Ok((context, unit))
+}
+
 /// An item of this kind with a value.
 fn item_with(alloc: Global, kind: Kind, e: &Element<'_>, value: Value) -> Result<Item, NoMemory>
     ensures { IfOk result (λ i. i ≡ spec.item_with kind (tree_of e.now) value) }
 {
+    let accuracy = accuracy_of(alloc, kind, e)?;
+    let id = own_token(alloc, e, "id")?;
+    let (context, unit) = refs_in(alloc, kind, e)?;
+    let name = own_name(alloc, fact_name(e))?;
     Ok(Item {
-        name: own_name(alloc, fact_name(e))?,
-        context: context_of(alloc, e)?,
-        unit: unit_of(alloc, kind, e)?,
-        accuracy: accuracy_of(alloc, kind, e)?,
-        id: own_token(alloc, e, "id")?,
+        name,
+        context,
+        unit,
+        accuracy,
+        id,
         value,
     })
 }
@@ -233,7 +254,8 @@ pub fn item_of(
     chain: &[&Spot<'_>],
     bases: &Bases,
 ) -> Result<Item, ItemFault>
-    requires { All (λ s. (place_of s.now).page < length bases.now.pages) chain.now }
+    requires bases { All (λ s. (place_of s.now).page < length bases.now.pages) chain.now }
+    requires pages { All (λ s. IsOnOnePage s.now) chain.now }
     ensures { (a : Asks Located)
         → (is_kind kinds.NonNumeric (located spot.now) ≡ true → map (λ s. located s.now) chain.now ≡ chains.chain a (located spot.now))
         → IfSome (said result) (spec.IsItem (base_in bases.now.pages) a (located spot.now)) }

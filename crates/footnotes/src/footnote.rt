@@ -7,7 +7,7 @@ ghost use Rattle.ix_base.specs.Markup.{markup_along};
 ghost use Rattle.ix_base.specs.Readers as reader;
 ghost use Rattle.ix_base.specs.Token.{token_of};
 ghost use Rattle.ix_base.specs.Trees.{tree_of};
-ghost use Rattle.id_table.specs.Tables.{all_located};
+ghost use Rattle.id_table.specs.Tables.{all_located, AreOnOwnPages};
 ghost use Rattle.footnotes.specs.Kept.{AreOnPages};
 ghost use Rattle.footnotes.specs.Linked.{chain_kept, note_in};
 
@@ -55,7 +55,8 @@ fn title_of(alloc: Global, e: &Element<'_>) -> Result<Option<Text>, NoMemory>
 
 /// The chain that is kept for an element.
 fn chain_of<'a>(chains: &Chains<'a>, spot: &Spot<'a>) -> &'a [&'a Spot<'a>]
-    ensures { all_located result.now ≡ chain_kept chains.now (located spot.now) }
+    ensures chain { all_located result.now ≡ chain_kept chains.now (located spot.now) }
+    ensures pages { AreOnOwnPages result.now }
 {
     if chains.has(spot) {
         chains.of(spot)

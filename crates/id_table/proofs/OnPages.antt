@@ -11,8 +11,9 @@ use Rattle.ix_base.specs.declared.tree.Element.{Element}
 use Rattle.ix_base.specs.declared.tree.Node.{Node}
 use Rattle.ix_base.specs.declared.tree.Node.TheVariants.{Elem}
 use Rattle.ix_base.specs.Elements.{pages_in, pages_of, place_of}
-use Rattle.ix_base.specs.Spots.{pages_up, IsOnOnePage}
-use Rattle.id_table.specs.Tables.{pages_above, AreOnOwnPages}
+use Rattle.ix_base.specs.Spaces.{AreNumbered, spaces_of}
+use Rattle.ix_base.specs.Spots.{elements_up, IsOn, IsOnOnePage}
+use Rattle.id_table.specs.Tables.{elements_above, AreOnOwnPages}
 use Rattle.id_table.proofs.RowLemmas.{flat_map-next}
 use Rattle.id_table.proofs.Stepping.{pages-Elem, pages-Element}
 
@@ -20,9 +21,17 @@ use Rattle.id_table.proofs.Stepping.{pages-Elem, pages-Element}
 pub All-of : (n m : ℕ) (ps : List ℕ) → m ≡ n → All (λ p. p ≡ n) ps → All (λ p. p ≡ m) ps
 All-of n m ps e h = subst (λ k. All (λ p. p ≡ k) ps) (sym e) h
 
+-- what stands on one page stands on one of the same number
+pub On-of : (n m : ℕ) (es : List Element) → m ≡ n → All (IsOn n) es → All (IsOn m) es
+On-of n m es e h = subst (λ k. All (IsOn k) es) (sym e) h
+
 -- a spot of the page of all that stands above it
-pub spot-on_page : (s : Spot) (n : ℕ) (above : List ℕ) → (place_of s).page ≡ n → pages_up s ≡ n ∷ above → All (λ p. p ≡ n) above → IsOnOnePage s
-spot-on_page s n above at is h = All-of n (place_of s).page (pages_up s) at (subst (All (λ p. p ≡ n)) (sym is) (All-cons (λ p. p ≡ n) n above refl h))
+pub spot-on_page : (s : Spot) (e : Element) (above : List Element) → (place_of s).page ≡ e.place.page → elements_up s ≡ e ∷ above
+    → AreNumbered (spaces_of e) → All (IsOn e.place.page) above → IsOnOnePage s
+spot-on_page s e above at is numbered h =
+    let n = e.place.page in
+    On-of n (place_of s).page (elements_up s) at
+    (subst (All (IsOn n)) (sym is) (All-cons (IsOn n) e above (record { page = refl; spaces = numbered }) h))
 
 -- the only one of these, where there is one
 pub only-All : {X : Type 0} (P : X → Type 0) (xs : List X) → All P xs → IfSome (only xs) P
@@ -61,9 +70,9 @@ one-on_page test spots found r e f h =
     subst (λ q. IfSome q (λ (s : Bor Spot). IsOnOnePage s.now)) (sym (e ∙ ap only f))
     (only-All (λ (s : Bor Spot). IsOnOnePage s.now) (filter test spots) (All-filter test (λ (s : Bor Spot). IsOnOnePage s.now) spots h))
 
--- the page numbers of a spot are that of its element and those above
-pub pages_up-is : (s : Spot) → pages_up s ≡ (place_of s).page ∷ pages_above (out-Spot s).up
-pages_up-is s = search (rules, spot.the_lemmas)
+-- a spot's element and those above it
+pub elements_up-is : (s : Spot) → elements_up s ≡ (out-Spot s).element.now ∷ elements_above (out-Spot s).up
+elements_up-is s = search (rules, spot.the_lemmas)
 
 -- what stands below an element of one page
 pub below-on : (n : ℕ) (e : Element) → All (λ p. p ≡ n) (pages_of e) → All (λ p. p ≡ n) (flat_map (λ ps. ps) (map pages_in e.children.now))
@@ -77,5 +86,7 @@ pub child-on : (n : ℕ) (e : Bor Element) (d : Node) → d ≡ Elem e → All (
 child-on n e d is h = All-of n e.now.place.page (pages_of e.now) (child-at n e d is h) (subst (All (λ p. p ≡ n)) (ap pages_in is ∙ pages-Elem e) h)
 
 -- a spot and all above it
-pub spot-all : (s : Spot) (n : ℕ) (above : List ℕ) → pages_up s ≡ n ∷ above → All (λ p. p ≡ n) above → All (λ p. p ≡ n) (pages_up s)
-spot-all s n above is h = subst (All (λ p. p ≡ n)) (sym is) (All-cons (λ p. p ≡ n) n above refl h)
+pub spot-all : (s : Spot) (e : Element) (above : List Element) → elements_up s ≡ e ∷ above → AreNumbered (spaces_of e) → All (IsOn e.place.page) above
+    → All (IsOn e.place.page) (elements_up s)
+spot-all s e above is numbered h =
+    subst (All (IsOn e.place.page)) (sym is) (All-cons (IsOn e.place.page) e above (record { page = refl; spaces = numbered }) h)

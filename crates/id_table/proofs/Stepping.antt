@@ -5,10 +5,10 @@ use Rattle.std.specs.Borrow.{Bor}
 use Rattle.std.specs.List.{flat_map}
 use Rattle.ix_base.specs.declared.tree.Element.{Element}
 use Rattle.ix_base.specs.declared.tree.Node.{Node, the_lemmas}
-use Rattle.ix_base.specs.declared.tree.Node.TheVariants.{Elem}
+use Rattle.ix_base.specs.declared.tree.Node.TheVariants.{Chars, Elem}
 use Rattle.ix_base.specs.declared.tree.Spot.{Spot}
 use Rattle.ix_base.specs.Elements.{Placed, below, elements_from, pages_in, pages_of, path_of, place_of, placed, placed_at}
-use Rattle.ix_base.specs.Trees.{Nodes, Tree, before, elem, nodes_of, tree_of}
+use Rattle.ix_base.specs.Trees.{Nodes, Tree, before, chars, elem, nodes_of, tree_of}
 use Rattle.id_table.proofs.RowLemmas.{flat_map-next, front}
 
 -- the page numbers of an element, and of an element among nodes
@@ -20,6 +20,12 @@ pages-Elem e = search (rules, the_lemmas)
 
 children-is : (e : Element) → (tree_of e).children ≡ nodes_of e.children.now
 children-is e = search (rules, the_lemmas)
+
+pages-Chars : (text : Bor (List ℕ)) → pages_in (Chars text) ≡ []
+pages-Chars text = search (rules, the_lemmas)
+
+before-chars : (text : Bor (List ℕ)) (rest : Nodes) → before (Chars text) rest ≡ chars text.now rest
+before-chars text rest = search (rules, the_lemmas)
 
 before-elem : (e : Bor Element) (rest : Nodes) → before (Elem e) rest ≡ elem (tree_of e.now).head (tree_of e.now).children rest
 before-elem e rest = search (rules, the_lemmas)
@@ -42,6 +48,21 @@ pages-next nodes i d e old new all l is v n h =
     let left = flat_map (λ ps. ps) (map pages_in (drop (i + 1) nodes)) in
     gains old new (pages_of e.now) left (flat_map (λ ps. ps) (map pages_in (drop i nodes))) all n
     (flat_map-next (λ ps. ps) pages_in nodes i d l is ∙ ap (λ ps. ps ++ left) (ap pages_in v ∙ pages-Elem e)) h
+
+-- a text is passed
+pub elements-passed : (path : List Tree) (nodes : List Node) (i : ℕ) (d : Node) (text : Bor (List ℕ)) (walked all : List Placed)
+    → i < length nodes → d ≡ get_or nodes i d → d ≡ Chars text
+    → walked ++ below path (nodes_of (drop i nodes)) ≡ all → walked ++ below path (nodes_of (drop (i + 1) nodes)) ≡ all
+elements-passed path nodes i d text walked all l is v h =
+    let rest = nodes_of (drop (i + 1) nodes) in
+    ap (λ xs. walked ++ xs) (sym (ap (λ ns. below path (nodes_of ns)) (front nodes i d l is) ∙ ap (λ x. below path (before x rest)) v
+    ∙ ap (below path) (before-chars text rest))) ∙ h
+
+pub pages-passed : (nodes : List Node) (i : ℕ) (d : Node) (text : Bor (List ℕ)) (walked all : List ℕ) → i < length nodes → d ≡ get_or nodes i d → d ≡ Chars text
+    → walked ++ flat_map (λ ps. ps) (map pages_in (drop i nodes)) ≡ all → walked ++ flat_map (λ ps. ps) (map pages_in (drop (i + 1) nodes)) ≡ all
+pages-passed nodes i d text walked all l is v h =
+    let left = flat_map (λ ps. ps) (map pages_in (drop (i + 1) nodes)) in
+    ap (λ xs. walked ++ xs) (sym (flat_map-next (λ ps. ps) pages_in nodes i d l is ∙ ap (λ ps. ps ++ left) (ap pages_in v ∙ pages-Chars text))) ∙ h
 
 -- nothing is left
 done : {X : Type 0} (f : List Node → List X) (nodes : List Node) (i : ℕ) (walked all : List X) → f [] ≡ [] → length nodes ≤ i

@@ -10,6 +10,7 @@ ghost use Rattle.ix_base.specs.Ids as ids;
 ghost use Rattle.ix_base.specs.Kinds as kinds;
 ghost use Rattle.ix_base.specs.LinkRules.{breaking};
 ghost use Rattle.ix_base.specs.Located.{Located, located, is_kind, page_marked};
+ghost use Rattle.ix_base.specs.Spaces.{AreNumbered, spaces_of};
 ghost use Rattle.ix_base.specs.Spots.{IsOnOnePage};
 ghost use Rattle.ix_base.specs.Trees.{tree_of};
 ghost use Rattle.id_table.specs.Held.{AreChosen, IsHeldFor, IsHolder, IsOfOthers, asked, chosen, doubled_at, one_held, repeats_held};
@@ -93,7 +94,8 @@ impl<'a> Index<'a> {
     /// Adds the marked elements of a page, in document order. The choices stay as they are. Where memory is wanting, the index has no
     /// elements from then on, and each call answers so.
     pub fn add_page(&mut self, arena: &'a Bump, root: &'a Element<'a>) -> Result<(), NoMemory>
-        requires { All (λ p. p ≡ root.now.place.page) (pages_of root.now) }
+        requires page { All (λ p. p ≡ root.now.place.page) (pages_of root.now) }
+        requires spaces { AreNumbered (spaces_of root.now) }
         ensures ok { OnOk result (self.new ≡ record {
           spots = self.old.spots ++ page_marked root.now.place.page (tree_of root.now);
           choices = self.old.choices;

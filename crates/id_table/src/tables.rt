@@ -2,6 +2,7 @@
 ghost use Rattle.std.specs.Prelude.{◌≡◌, ◌++◌, ◌∷◌, [], OnOk, filter, All};
 ghost use Rattle.ix_base.specs.Elements.{pages_of};
 ghost use Rattle.ix_base.specs.Located.{located, is_marked as spec_is_marked, page_marked};
+ghost use Rattle.ix_base.specs.Spaces.{AreNumbered, spaces_of};
 ghost use Rattle.ix_base.specs.Spots.{IsOnOnePage};
 ghost use Rattle.ix_base.specs.Trees.{tree_of};
 ghost use Rattle.id_table.specs.Tables.{AreOnOwnPages, AreWhole, all_located};
@@ -84,6 +85,7 @@ impl<'a> Tables<'a> {
     ) -> Result<(), NoMemory>
         requires whole { AreWhole self.old.ids self.old.tuples self.old.spots.items }
         requires page { All (λ p. p ≡ root.now.place.page) (pages_of root.now) }
+        requires spaces { AreNumbered (spaces_of root.now) }
         ensures spots { OnOk result (all_located self.new.spots.items
             ≡ all_located self.old.spots.items ++ page_marked root.now.place.page (tree_of root.now)) }
         ensures whole { OnOk result (AreWhole self.new.ids self.new.tuples self.new.spots.items) }

@@ -13,13 +13,13 @@ use Rattle.ix_base.specs.declared.tree.Binding.{Binding}
 use Rattle.ix_base.specs.Bindings.{Bound, bound, is_below, are_ordered, place_of, has_at}
 use Rattle.ix_base.specs.Scope.{namespace_of}
 
-clash : {A : Type 0} (b : Bool) → b ≡ true → b ≡ false → A
+pub clash : {A : Type 0} (b : Bool) → b ≡ true → b ≡ false → A
 clash b t f = let z : true ≡ false = sym t ∙ f in absurd (cc)
 
-and_left : (a b : Bool) → (a && b) ≡ true → a ≡ true
+pub and_left : (a b : Bool) → (a && b) ≡ true → a ≡ true
 and_left a b h = (and_parts a b h).0
 
-and_right : (a b : Bool) → (a && b) ≡ true → b ≡ true
+pub and_right : (a b : Bool) → (a && b) ≡ true → b ≡ true
 and_right a b h = (and_parts a b h).1
 
 less-is : (o : Ordering) → is_lt o ≡ true → o ≡ Less

@@ -46,6 +46,7 @@ pub mod Shelf
 pub mod Slots
 pub mod Sorted
 pub mod Sound
+pub mod Spaces
 pub mod Spots
 pub mod Steps
 pub mod Times

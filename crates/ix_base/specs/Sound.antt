@@ -8,6 +8,7 @@ use Rattle.ix_base.specs.Trees.{Named, Valued, Bound, Head, Nodes, none, chars, 
 use Rattle.ix_base.specs.NcName.{is_ncname, are_allowed}
 use Rattle.ix_base.specs.Scope.{namespace_of}
 use Rattle.ix_base.specs.Namespaces.{xml_namespace, xmlns_namespace}
+use Rattle.ix_base.specs.Spaces.{AreNumbered, spaces_of}
 
 -- each number is below the next
 abbrev pub Rise : List ℕ → Type 0
@@ -75,7 +76,8 @@ pub record IsSoundTree (tree : Tree) (depth : ℕ) : Type 0 where
   pub nodes : AreSound depth (elem tree.head tree.children none)
   pub offsets : Rise (offsets_of (elem tree.head tree.children none))
 
--- a root of a sound tree whose elements are all of the page with this number
+-- a root of a sound tree whose elements are all of the page with this number, on which the namespaces are numbered
 pub record IsSoundRoot (root : Element) (page depth : ℕ) : Type 0 where
   pub tree : IsSoundTree (tree_of root) depth
   pub pages : All (λ p. p ≡ page) (pages_of root)
+  pub spaces : AreNumbered (spaces_of root)

@@ -1,11 +1,17 @@
 -- A page's tree without where it lies in memory.
-use Rattle.std.specs.Prelude.{ℕ, List, [], ◌∷◌, map}
+use Rattle.std.specs.Prelude.{ℕ, List, [], ◌∷◌, map, Option, Some, None}
+use Rattle.std.specs.Borrow.{Bor}
+use Rattle.std.specs.Option.{option_map_or}
 use Rattle.ix_base.specs.declared.attrs.Attrs.{Attrs}
 use Rattle.ix_base.specs.declared.tree.Node.{Node}
 use Rattle.ix_base.specs.declared.tree.Element.{Element}
+use Rattle.ix_base.specs.declared.tree.Level.{Level}
+use Rattle.ix_base.specs.declared.tree.Level.TheOpen.{Level-F}
+use Rattle.ix_base.specs.declared.tree.Level.TheFolds.{fold-Level}
 use Rattle.ix_base.specs.declared.tree.Scope.{Scope}
 pub use Rattle.ix_base.specs.Attributes.{Named, Valued, named, valued}
 pub use Rattle.ix_base.specs.Bindings.{Bound, bound}
+use Rattle.ix_base.specs.Scope.{scope_under}
 use Rattle.ix_base.specs.declared.tree.Node.TheOpen.{Node-F, Element-F}
 use Rattle.ix_base.specs.declared.tree.Node.TheFolds.{fold-Node, fold-Element}
 
@@ -30,9 +36,21 @@ pub record Tree : Type 0 where
 abbrev pub attrs_in : Attrs → List Valued
 attrs_in a = map valued a.written.now
 
+abbrev pub level_step : Level-F (List Bound) → List Bound
+level_step l = scope_under (option_map_or (λ above. above.now) l.above []) (map bound l.own.list.now)
+
+-- what is bound at a level: what is declared there, over what is bound above
+abbrev pub bindings_at : Level → List Bound
+bindings_at = fold-Level (List Bound) level_step
+
+-- what is bound at a level, where there is one
+abbrev pub bindings_above : Option (Bor Level) → List Bound
+bindings_above None = []
+bindings_above (Some l) = bindings_at l.now
+
 -- what a scope binds
 abbrev pub bindings_in : Scope → List Bound
-bindings_in s = map bound s.bindings.now
+bindings_in s = bindings_above s.level
 
 abbrev pub head_of : {X Y : Type 0} → Element-F X Y → Head
 head_of e = record { offset = e.place.offset; name = named e.name; attrs = attrs_in e.attrs; scope = bindings_in e.scope }

@@ -16,6 +16,7 @@ mod memory;
 mod name_fault;
 pub mod namespaces;
 mod once;
+mod outer;
 mod outside;
 mod place;
 mod rule;
@@ -38,14 +39,14 @@ pub use list::List;
 pub use memory::{MemPage, MemPages, MemTargets, MemText};
 pub use name_fault::NameFault;
 pub use once::each_once;
+pub use outer::Outer;
 pub use outside::{Failed, PageSource, TargetSink, TextSink};
 pub use place::Place;
 pub use rule::Rule;
-pub use scope::place_in;
 use std::alloc::{AllocError, AllocFailed};
 pub use text::Text;
 use thiserror::Error;
-pub use tree::{Attr, Binding, Element, Name, Node, Scope, Spot};
+pub use tree::{Attr, Binding, Declared, Element, Level, Name, Node, Scope, Spot};
 pub use white::{is_white, token, trim_start};
 
 /// Want of memory.

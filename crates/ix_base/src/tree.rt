@@ -6,10 +6,15 @@ use crate::attrs::Attrs;
 use crate::place::Place;
 
 /// An expanded name: the text of its namespace, empty where it has none, and its local name.
+///
+/// The number is that of the namespace among those of its page: 0 where it has none. Within a page, names have one number exactly
+/// where the texts of their namespaces are equal, so that these need not be compared to their end. It tells nothing else, and
+/// names of two pages, and one that is on no page, have nothing to do with each other's numbers.
 #[derive(Clone, Copy, Debug)]
 pub struct Name<'a> {
     pub ns: &'a str,
     pub local: &'a str,
+    pub number: usize,
 }
 
 /// An attribute. Namespace declarations aren't among the attributes of an element.
@@ -19,18 +24,35 @@ pub struct Attr<'a> {
     pub value: &'a str,
 }
 
-/// A prefix that is bound to a namespace. The empty prefix is the default namespace.
+/// A prefix that is bound to a namespace, with the number of that on its page. The empty prefix is the default namespace.
 #[derive(Clone, Copy, Debug)]
 pub struct Binding<'a> {
     pub prefix: &'a str,
     pub ns: &'a str,
+    pub number: usize,
 }
 
-/// The bindings that hold in an element, each prefix once, in byte order of the prefixes (Namespaces in XML 1.0, section 6).
+/// What one element declares, each prefix once, in byte order of the prefixes. An empty default namespace takes the default
+/// away.
+#[derive(Clone, Copy)]
+pub struct Declared<'a> {
+    pub list: &'a [Binding<'a>],
+    ghost ordered: { are_ordered (map bound list.now) ≡ true },
+}
+
+/// What an element declares, over what is declared around it: the next level is that of the nearest element around it that declares
+/// anything.
+#[derive(Clone, Copy)]
+pub struct Level<'a> {
+    pub own: Declared<'a>,
+    pub above: Option<&'a Level<'a>>,
+}
+
+/// What is bound in an element (Namespaces in XML 1.0, section 6): the level of the nearest element, itself or around it, that
+/// declares anything, if any does.
 #[derive(Clone, Copy)]
 pub struct Scope<'a> {
-    pub bindings: &'a [Binding<'a>],
-    ghost ordered: { are_ordered (map bound bindings.now) ≡ true },
+    pub level: Option<&'a Level<'a>>,
 }
 
 /// A child of an element: an element or a text.

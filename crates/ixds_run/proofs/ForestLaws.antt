@@ -3,6 +3,7 @@ use Rattle.std.proofs.Common.{◌≡◌, ◌⊎◌, inl, inr, ◌∙◌, ap, sym
 use Rattle.std.proofs.Math.Seq.{drop-cons, take-suc}
 use Rattle.std.proofs.lemmas.Bool.{and_from, le-leb, lt-ltb}
 use Rattle.std.specs.Borrow.{Bor}
+use Rattle.ix_base.specs.Spaces.{AreNumbered, spaces_of}
 use Rattle.ix_base.specs.Elements.{pages_of}
 use Rattle.ix_base.specs.Trees.{tree_of}
 use Rattle.ix_base.specs.declared.rule.Rule.{Rule}
@@ -29,12 +30,12 @@ use Rattle.ixds_run.specs.declared.forest.Forest.{Forest}
 
 -- a page that has a tree was ended
 pub gained_root : (n : ℕ) (b : List ℕ) (limit : ℕ) (f f' : Forest) (e : Bor Element) {k : ℕ} → limit ≡ 256 → None ≡ w b limit → f'.found ≡ f.found
-    → f'.roots.items ≡ f.roots.items ++ e ∷ [] → page_with b limit (tree_of e.now) → AreAll k (pages_of e.now) → k ≡ n → HasGainedTree n b f f'
-gained_root n b limit f f' e {k} deep none kept roots is_page pages at =
+    → f'.roots.items ≡ f.roots.items ++ e ∷ [] → page_with b limit (tree_of e.now) → AreAll k (pages_of e.now) → AreNumbered (spaces_of e.now) → k ≡ n → HasGainedTree n b f f'
+gained_root n b limit f f' e {k} deep none kept roots is_page pages numbered at =
     let good : w b 256 ≡ None = ap (w b) (sym deep) ∙ sym none in
     record {
       found = kept ∙ sym (append-nil f.found) ∙ ap (λ o. f.found ++ fault_row n o) (sym good);
-      root = λ h. (e, roots, (subst (λ m. page_with b m (tree_of e.now)) deep is_page, subst (λ m. AreAll m (pages_of e.now)) at pages));
+      root = λ h. (e, roots, (subst (λ m. page_with b m (tree_of e.now)) deep is_page, subst (λ m. AreAll m (pages_of e.now)) at pages, numbered));
     }
 
 -- a page that has a break was ended

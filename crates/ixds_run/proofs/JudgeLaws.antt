@@ -4,6 +4,7 @@ use Rattle.std.specs.Borrow.{Bor}
 use Rattle.std.proofs.lemmas.Bool.{eqb-true}
 use Rattle.targets.specs.Breaches.{size_rule, PagesComeTo, fault_row, on_page, set_rule, text_fault, text_faults}
 use Rattle.std.proofs.lemmas.List.Elements.{All-append}
+use Rattle.ix_base.specs.Spaces.{AreNumbered, spaces_of}
 use Rattle.ix_base.specs.Elements.{pages_of}
 use Rattle.ix_base.specs.Sound.{IsSoundRoot}
 use Rattle.ix_base.specs.Trees.{Tree, tree_of}
@@ -62,15 +63,15 @@ empty_of [] e = refl
 empty_of (x ∷ xs) e = absurd (let z : suc (length xs) ≡ 0 = eqb-true (suc (length xs)) 0 e in omega arith)
 
 -- the roots of pages are sound
-sound_from : ((b : List ℕ) (n number : ℕ) (e : Element) → page b n (tree_of e) → All (λ p. p ≡ number) (pages_of e) → IsSoundRoot e number n)
+sound_from : ((b : List ℕ) (n number : ℕ) (e : Element) → page b n (tree_of e) → All (λ p. p ≡ number) (pages_of e) → AreNumbered (spaces_of e) → IsSoundRoot e number n)
     → (n : ℕ) (bs : List (List ℕ)) (es : List (Bor Element)) → AreRoots n bs es → AreSoundRoots n es
 sound_from sound n [] [] all = tt
 sound_from sound n [] (e ∷ es) all = absurd all
 sound_from sound n (b ∷ bs) [] all = absurd all
-sound_from sound n (b ∷ bs) (e ∷ es) all = (sound b 256 n e.now all.0.0 all.0.1, sound_from sound (suc n) bs es all.1)
+sound_from sound n (b ∷ bs) (e ∷ es) all = (sound b 256 n e.now all.0.0 all.0.1 all.0.2, sound_from sound (suc n) bs es all.1)
 
 -- nothing was found, so that each root is that of its page, and sound
-pub sound_roots : ((b : List ℕ) (n number : ℕ) (e : Element) → page b n (tree_of e) → All (λ p. p ≡ number) (pages_of e) → IsSoundRoot e number n)
+pub sound_roots : ((b : List ℕ) (n number : ℕ) (e : Element) → page b n (tree_of e) → All (λ p. p ≡ number) (pages_of e) → AreNumbered (spaces_of e) → IsSoundRoot e number n)
     → (bs : List (List ℕ)) (f : Forest) → HasRead bs f → (length f.found == 0) ≡ true → AreSoundRoots 0 f.roots.items
 sound_roots sound bs f read empty = sound_from sound 0 bs f.roots.items (read.roots (sym read.found ∙ empty_of f.found empty))
 

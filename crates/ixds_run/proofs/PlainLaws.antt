@@ -2,6 +2,7 @@
 use Rattle.std.proofs.Common.{◌≡◌, ◌≢◌, ◌∙◌, ap, sym, refl, subst, ℕ, suc, ◌==◌, ◌++◌, Bool, true, false, List, [], ◌∷◌, length, Some, None, Result, Ok, Err, IfOk, inl, inr, get_or, rules, arith}
 use Rattle.std.specs.Borrow.{Bor}
 use Rattle.ix_base.specs.Sound.{IsSoundTree}
+use Rattle.ix_base.specs.Spaces.{AreNumbered, spaces_of}
 use Rattle.ix_base.specs.Trees.{Tree, tree_of}
 use Rattle.ix_base.specs.declared.NoMemory.{NoMemory}
 use Rattle.ix_base.specs.declared.breach.Found.{Found}
@@ -45,11 +46,12 @@ pub record IsAlone (bs : List (List ℕ)) (es : List (Bor Element)) : Type 0 whe
   pub page_is : bs ≡ bytes ∷ []
   pub root_is : es ≡ root ∷ []
   pub of_page : page bytes 256 (tree_of root.now)
+  pub spaces : AreNumbered (spaces_of root.now)
 
 alone : (bs : List (List ℕ)) (es : List (Bor Element)) → length bs ≡ 1 → AreRoots 0 bs es → IsAlone bs es
 alone [] es one all = absurd (let z : 0 ≡ 1 = one in omega arith)
 alone (b ∷ []) [] one all = absurd all
-alone (b ∷ []) (e ∷ []) one all = record { bytes = b; root = e; page_is = refl; root_is = refl; of_page = all.0.0 }
+alone (b ∷ []) (e ∷ []) one all = record { bytes = b; root = e; page_is = refl; root_is = refl; of_page = all.0.0; spaces = all.0.2 }
 alone (b ∷ []) (e ∷ f ∷ es) one all = absurd all.1
 alone (b ∷ c ∷ bs) es one all = absurd (let z : suc (suc (length bs)) ≡ 1 = one in omega arith)
 
@@ -69,6 +71,11 @@ pub sound_first : ((b : List ℕ) (n : ℕ) (t : Tree) → page b n t → IsSoun
 sound_first sound bs f e one at =
     let same : one.root ≡ e = sym (at ∙ ap (λ (es : List (Bor Element)). get_or es 0 e) one.root_is) in
     subst (λ (x : Bor Element). IsSoundTree (tree_of x.now) 256) same (sound one.bytes 256 (tree_of one.root.now) one.of_page)
+
+-- and its namespaces are numbered
+pub numbered_first : (bs : List (List ℕ)) (f : Forest) (e : Bor Element) → IsAlone bs f.roots.items → e ≡ get_or f.roots.items 0 e → AreNumbered (spaces_of e.now)
+numbered_first bs f e one at =
+    subst (λ (x : Bor Element). AreNumbered (spaces_of x.now)) (sym (at ∙ ap (λ (es : List (Bor Element)). get_or es 0 e) one.root_is)) one.spaces
 
 -- pages with one root are one page
 trees_of_one : (bs : List (List ℕ)) (e : Bor Element) → AreRoots 0 bs (e ∷ []) → AreTrees bs (tree_of e.now ∷ [])

@@ -1,6 +1,7 @@
 -- Reading pages one behind another, each piece by piece.
 use Rattle.std.specs.Prelude.{◌≡◌, ◌⊎◌, ℕ, suc, ◌+◌, ◌≤◌, ◌<◌, Bool, true, IsTrue, List, [], ◌∷◌, ◌++◌, length, map, Option, Some, None, IfSome}
 use Rattle.std.specs.Borrow.{Bor}
+use Rattle.ix_base.specs.Spaces.{AreNumbered, spaces_of}
 use Rattle.ix_base.specs.Elements.{pages_of}
 use Rattle.ix_base.specs.Trees.{tree_of}
 use Rattle.ix_base.specs.declared.tree.Element.{Element}
@@ -35,7 +36,7 @@ IsReadWhole page left sums = sums.bytes ≤ 268435456 → IfSome page (λ b. lef
 
 -- a page of this number, with these bytes, has this root
 abbrev pub IsRoot : ℕ → List ℕ → Bor Element → Type 0
-IsRoot n b e = page_with b 256 (tree_of e.now) × AreAll n (pages_of e.now)
+IsRoot n b e = page_with b 256 (tree_of e.now) × AreAll n (pages_of e.now) × AreNumbered (spaces_of e.now)
 
 -- these are the roots of pages with these bytes, numbered on from this number
 abbrev pub AreRoots : ℕ → List (List ℕ) → List (Bor Element) → Type 0

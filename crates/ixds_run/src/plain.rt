@@ -1,6 +1,7 @@
 //! A page that is shown without its inline markup.
 ghost use Rattle.std.specs.Prelude.{◌≡◌, ◌<◌, ℕ, List, All, None, IfOk, length};
 ghost use Rattle.ix_base.specs.Sound.{IsSoundTree};
+ghost use Rattle.ix_base.specs.Spaces.{AreNumbered, spaces_of};
 ghost use Rattle.ix_base.specs.Trees.{tree_of};
 ghost use Rattle.page_plain.specs.Bare.{is_inline};
 ghost use Rattle.targets.specs.Breaches.{size_rule};
@@ -37,6 +38,7 @@ fn is_inline_root(root: &Element<'_>) -> bool
 fn root_shown(alloc: Global, names: &[Text], root: &Element<'_>) -> Result<Verdict, NoMemory>
     requires one { length names.now ≡ 1 }
     requires sound { IsSoundTree (tree_of root.now) 256 }
+    requires spaces { AreNumbered (spaces_of root.now) }
     ensures shown { IfOk result (IsShownBy (is_inline (tree_of root.now).head.name) names.now (tree_of root.now)) }
     ensures written { IfOk result AreWritable }
 {

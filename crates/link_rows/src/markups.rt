@@ -1,7 +1,8 @@
 //! What stands in a nonNumeric of a page, plain and as markup.
-ghost use Rattle.std.specs.Prelude.{◌<◌, All, length};
+ghost use Rattle.std.specs.Prelude.{◌<◌, All, IfOk, IfSome, length};
 ghost use Rattle.ix_base.specs.Elements.{place_of};
 ghost use Rattle.ix_base.specs.Sound.{IsSoundRoot};
+ghost use Rattle.ix_base.specs.Spots.{IsOnOnePage};
 
 use anyhow::{Context, Result, bail, ensure};
 use bumpalo::Bump;
@@ -15,7 +16,9 @@ use sound_pages::sound_root;
 use std::alloc::Global;
 
 /// The first nonNumeric of an index.
-fn first_in<'a>(index: &Index<'a>) -> Option<&'a Spot<'a>> {
+fn first_in<'a>(index: &Index<'a>) -> Option<&'a Spot<'a>>
+    ensures { IfSome result (λ s. IsOnOnePage s.now) }
+{
     for spot in index.spots() {
         if kind_of(spot) == Kind::NonNumeric {
             return Some(*spot);
@@ -31,6 +34,7 @@ fn first_text<'a>(
     root: &'a Element<'a>,
 ) -> Result<Option<&'a Spot<'a>>>
     requires { IsSoundRoot root.now 0 256 }
+    ensures { IfOk result (λ found. IfSome found (λ s. IsOnOnePage s.now)) }
 {
     let mut index = Index::new(alloc);
     index.add_page(arena, root)?;
@@ -40,7 +44,8 @@ fn first_text<'a>(
 /// What the elements of a chain hold: the plain text, the markup within the namespace of xhtml, or the markup within none with links
 /// as they are written.
 fn text_of(alloc: Global, which: &str, chain: &[&Spot<'_>], bases: &Bases) -> Result<Text>
-    requires { All (λ s. (place_of s.now).page < length bases.now.pages) chain.now }
+    requires bases { All (λ s. (place_of s.now).page < length bases.now.pages) chain.now }
+    requires pages { All (λ s. IsOnOnePage s.now) chain.now }
 {
     let mut text = Text::of(alloc, "")?;
     match which {

@@ -22,7 +22,11 @@ fn bare<'a>() -> Element<'a> {
             page: 0,
             offset: 50,
         },
-        name: Name { ns: "", local: "p" },
+        name: Name {
+            ns: "",
+            local: "p",
+            number: 0,
+        },
         attrs: Attrs::empty(),
         scope: Scope::empty(),
         children: &[],

@@ -1,6 +1,7 @@
 //! A page without its inline markup.
 #![tactic(auto)]
 
+mod attrs;
 mod names;
 mod page;
 mod prefixes;

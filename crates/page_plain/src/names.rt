@@ -1,5 +1,5 @@
 //! What the names of elements and attributes say of what becomes of them.
-ghost use Rattle.std.specs.Prelude.{◌≡◌};
+ghost use Rattle.std.specs.Prelude.{◌≡◌, ◌&&◌, not};
 ghost use Rattle.ix_base.specs.Trees.{tree_of, valued};
 ghost use Rattle.page_plain.specs.Bare as spec;
 ghost use Rattle.page_plain.specs.Fates.{is_dropped, is_opened};
@@ -33,8 +33,15 @@ pub(crate) fn is_inline(attr: &Attr<'_>) -> bool
 
 /// Whether a namespace of attributes needs a prefix of its own.
 #[tactic(auto, unfolding(ix_base::specs::Namespaces::xml_namespace))]
-pub(crate) fn needs_prefix(ns: &str) -> bool
+fn needs_prefix(ns: &str) -> bool
     ensures { result ≡ spec.needs_prefix ns.now }
 {
     !ns.is_empty() && ns != XML
+}
+
+/// Whether an attribute is kept, and its namespace needs a prefix of its own.
+pub(crate) fn is_prefixed(attr: &Attr<'_>) -> bool
+    ensures { result ≡ (not (spec.is_inline (valued attr.now).name) && spec.needs_prefix (valued attr.now).name.ns) }
+{
+    !is_inline(attr) && needs_prefix(attr.name.ns)
 }

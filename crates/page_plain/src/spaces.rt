@@ -1,21 +1,25 @@
 //! The namespaces of the attributes that are kept.
-ghost use Rattle.std.specs.Prelude.{◌≡◌, ◌++◌, IfOk, OnOk, map};
+ghost use Rattle.std.specs.Prelude.{◌++◌, [], IfOk, OnOk, flat_map, map};
+ghost use Rattle.ix_base.specs.Spaces.{AreNumbered, spaces_in, spaces_of};
 ghost use Rattle.ix_base.specs.Trees.{nodes_of, tree_of, valued};
 ghost use Rattle.page_plain.specs.Bare as spec;
+ghost use Rattle.page_plain.specs.Numbered.{Meets, attr_spaces, spaces_met};
 ghost use Rattle.page_plain.specs.Parts.{element_spaces, node_spaces};
 
-use crate::names::{is_dropped, is_inline, is_opened, needs_prefix};
-use ix_base::{Attr, Element, NoMemory, Node, each_once};
+use crate::names::{is_dropped, is_opened, is_prefixed};
+use ix_base::{Attr, Element, NoMemory, Node};
 use std::alloc::Global;
+use std::collections::BTreeMap;
 
-/// Adds the namespaces of the attributes of an element that are kept.
-fn add_attrs<'a>(attrs: &[Attr<'a>], spaces: &mut Vec<&'a str>) -> Result<(), NoMemory>
-    ensures { OnOk result (map (λ s. s.now) spaces.new.items
-        ≡ map (λ s. s.now) spaces.old.items ++ spec.attr_spaces (spec.kept_attrs (map valued attrs.now))) }
+/// Adds the namespaces of the attributes of an element that are kept, each at its number.
+fn add_attrs<'a>(attrs: &[Attr<'a>], met: &mut BTreeMap<usize, &'a str>) -> Result<(), NoMemory>
+    requires { AreNumbered (spaces_met met.old ++ attr_spaces attrs.now) }
+    ensures { OnOk result (Meets (spaces_met met.old) (attr_spaces attrs.now)
+        (spec.attr_spaces (spec.kept_attrs (map valued attrs.now))) (spaces_met met.new)) }
 {
     for attr in attrs {
-        if !is_inline(attr) && needs_prefix(attr.name.ns) {
-            spaces.push(attr.name.ns)?;
+        if is_prefixed(attr) {
+            met.insert(attr.name.number, attr.name.ns)?;
         }
     }
     Ok(())
@@ -23,41 +27,49 @@ fn add_attrs<'a>(attrs: &[Attr<'a>], spaces: &mut Vec<&'a str>) -> Result<(), No
 
 /// Adds those of an element and of what it holds.
 #[cycle(spaces)]
-#[tactic(auto, using(crate::proofs::SpellLaws::space_laws))]
-fn add_element<'a>(element: &Element<'a>, spaces: &mut Vec<&'a str>) -> Result<(), NoMemory>
-    ensures { OnOk result (map (λ s. s.now) spaces.new.items
-        ≡ map (λ s. s.now) spaces.old.items ++ element_spaces (tree_of element.now)) }
+fn add_element<'a>(
+    element: &Element<'a>,
+    met: &mut BTreeMap<usize, &'a str>,
+) -> Result<(), NoMemory>
+    requires { AreNumbered (spaces_met met.old ++ spaces_of element.now) }
+    ensures { OnOk result (Meets (spaces_met met.old) (spaces_of element.now) (element_spaces (tree_of element.now))
+        (spaces_met met.new)) }
 {
     if is_dropped(element) {
         return Ok(());
     }
-    if !is_opened(element) {
-        add_attrs(element.attrs.written, spaces)?;
+    if is_opened(element) {
+        return add_nodes(element.children, met);
     }
-    add_nodes(element.children, spaces)
+    add_attrs(element.attrs.written, met)?;
+    add_nodes(element.children, met)
 }
 
 /// Adds those of some nodes.
 #[cycle(spaces)]
-fn add_nodes<'a>(nodes: &[Node<'a>], spaces: &mut Vec<&'a str>) -> Result<(), NoMemory>
-    ensures { OnOk result (map (λ s. s.now) spaces.new.items
-        ≡ map (λ s. s.now) spaces.old.items ++ node_spaces (nodes_of nodes.now)) }
+fn add_nodes<'a>(nodes: &[Node<'a>], met: &mut BTreeMap<usize, &'a str>) -> Result<(), NoMemory>
+    requires { AreNumbered (spaces_met met.old ++ flat_map spaces_in nodes.now) }
+    ensures { OnOk result (Meets (spaces_met met.old) (flat_map spaces_in nodes.now) (node_spaces (nodes_of nodes.now))
+        (spaces_met met.new)) }
 {
     for node in nodes {
         match node {
             Node::Chars(_) => {}
-            Node::Elem(element) => add_element(element, spaces)?,
+            Node::Elem(element) => add_element(element, met)?,
         }
     }
     Ok(())
 }
 
-/// The namespaces of the attributes that are kept below a root and need a prefix, in byte order, each once.
-pub(crate) fn spaces_of<'a>(alloc: Global, root: &Element<'a>) -> Result<Vec<&'a str>, NoMemory>
-    ensures { IfOk result (λ v. map (λ s. s.now) v.items ≡ spec.spaces_of (spec.bare (tree_of root.now))) }
+/// The namespaces of the attributes that are kept below a root and need a prefix, each at its number.
+pub(crate) fn spaces_below<'a>(
+    alloc: Global,
+    root: &Element<'a>,
+) -> Result<BTreeMap<usize, &'a str>, NoMemory>
+    requires { AreNumbered (spaces_of root.now) }
+    ensures { IfOk result (λ met. Meets [] (spaces_of root.now) (element_spaces (tree_of root.now)) (spaces_met met)) }
 {
-    let mut spaces = Vec::new(alloc);
-    add_element(root, &mut spaces)?;
-    each_once(&mut spaces);
-    Ok(spaces)
+    let mut met = BTreeMap::new(alloc);
+    add_element(root, &mut met)?;
+    Ok(met)
 }

@@ -1,9 +1,11 @@
 -- Nodes that are put together one by one.
-use Rattle.std.proofs.Common.{◌≡◌, ◌∙◌, ℕ, suc, ◌<◌, ◌+◌, List, [], ◌∷◌, ◌++◌, All, length, drop, flat_map, ap, sym, refl, get_or, add-one, rules}
+use Rattle.std.proofs.Common.{◌≡◌, ◌∙◌, ℕ, suc, ◌<◌, ◌+◌, List, [], ◌∷◌, ◌++◌, All, length, drop, flat_map, ap, append-nil, append_assoc, sym, refl, get_or, add-one, rules}
+use Rattle.std.proofs.lemmas.Grind.{flat_map-append}
 use Rattle.std.proofs.Math.Seq.{drop-cons}
 use Rattle.std.proofs.lemmas.List.Elements.{All-nil, All-cons, All-head, All-tail, All-append, All-same}
 use Rattle.std.proofs.lemmas.List.Folds.{flat_map-map}
 use Rattle.ix_base.specs.Elements.{pages_in, pages_of}
+use Rattle.ix_base.specs.Spaces.{spaces_in}
 use Rattle.ix_base.specs.Trees.{Nodes, none, before, nodes_of}
 use Rattle.ix_base.specs.declared.tree.Element.{Element}
 use Rattle.ix_base.specs.declared.tree.Node.{Node, the_lemmas}
@@ -66,3 +68,20 @@ pub all-more : (page : ℕ) (copies more : List Node) (n : Node) → All (λ m. 
     → more ≡ copies ++ n ∷ [] → All (λ m. AreAll page (pages_in m)) more
 all-more page copies more n h own m = All-same (Has page) more (copies ++ n ∷ []) m
     (All-append (Has page) copies (n ∷ []) h (All-cons (Has page) n [] own (All-nil (Has page))))
+
+-- the namespaces of the copies so far and of what is left
+pub spaces-more : (nodes copies more : List Node) (i : ℕ) (d n : Node) → i < length nodes → d ≡ get_or nodes i d → spaces_in n ≡ spaces_in d → more ≡ copies ++ n ∷ []
+    → flat_map spaces_in copies ++ flat_map spaces_in (drop i nodes) ≡ flat_map spaces_in nodes
+    → flat_map spaces_in more ++ flat_map spaces_in (drop (i + 1) nodes) ≡ flat_map spaces_in nodes
+spaces-more nodes copies more i d n l e same m h =
+    let left = flat_map spaces_in (drop (i + 1) nodes) in
+    let next : flat_map spaces_in (drop i nodes) ≡ spaces_in d ++ left =
+    ap (flat_map spaces_in) (drop-cons nodes i d l ∙ ap (λ x. x ∷ drop (suc i) nodes) (sym e) ∙ ap (λ k. d ∷ drop k nodes) (sym (add-one i))) in
+    ap (λ x. flat_map spaces_in x ++ left) m
+    ∙ ap (λ x. x ++ left) (flat_map-append spaces_in copies (n ∷ []) ∙ ap (λ x. flat_map spaces_in copies ++ x) (append-nil (spaces_in n) ∙ same))
+    ∙ append_assoc (flat_map spaces_in copies) (spaces_in d) left
+    ∙ ap (λ x. flat_map spaces_in copies ++ x) (sym next) ∙ h
+
+pub spaces-all : (nodes copies : List Node) (i : ℕ) → drop i nodes ≡ [] → flat_map spaces_in copies ++ flat_map spaces_in (drop i nodes) ≡ flat_map spaces_in nodes
+    → flat_map spaces_in copies ≡ flat_map spaces_in nodes
+spaces-all nodes copies i d h = sym (append-nil (flat_map spaces_in copies)) ∙ ap (λ x. flat_map spaces_in copies ++ flat_map spaces_in x) (sym d) ∙ h

@@ -1,5 +1,5 @@
 -- The construct that starts at an offset of a page, from the page's bytes.
-use Rattle.std.proofs.Common.{◌≡◌, ◌∙◌, ◌⊎◌, ⊎_elim, ℕ, ◌+◌, ◌≤◌, ◌==◌, Bool, true, false, ◌&&◌, ◌||◌, if◌then◌else◌, List, [], ◌∷◌, map, option_map, length, drop, Contains, Option, Some, None, is_none, refl, sym, ap, subst, arith}
+use Rattle.std.proofs.Common.{◌≡◌, ◌∙◌, ⊎_elim, ℕ, ◌+◌, ◌≤◌, ◌==◌, Bool, true, false, ◌&&◌, ◌||◌, if◌then◌else◌, List, [], ◌∷◌, map, option_map, length, drop, Contains, Option, Some, None, is_none, refl, sym, ap, subst, arith}
 use Rattle.std.proofs.lemmas.List.{length-drop}
 use Rattle.ix_base.proofs.OnceLemmas.{Contains-later, Contains-same}
 use Rattle.page_tree.specs.Break.{w}

@@ -1,5 +1,5 @@
 -- How the code binds prefixes in a scope.
-use Rattle.std.proofs.Common.{◌≡◌, ℕ, zero, suc, ◌<◌, ◌+◌, false, List, [], ◌∷◌, length, drop, map, get_or, Some, None, refl, sym, ap, ◌∙◌, arith, bytes_eq, Ordering, Less, Equal, Greater}
+use Rattle.std.proofs.Common.{◌≡◌, ℕ, ◌<◌, ◌+◌, List, [], ◌∷◌, length, drop, map, get_or, Some, None, refl, sym, ap, ◌∙◌, bytes_eq, Ordering, Less, Equal, Greater}
 use Rattle.std.specs.Borrow.{Bor}
 use Rattle.std.specs.BTreeMap.{insert_entry}
 use Rattle.std.specs.List.{filter_map, cons_option}
@@ -7,8 +7,7 @@ use Rattle.std.specs.Ordering.{nat_cmp, is_eq}
 use Rattle.std.specs.Cmp.Lexicographic.{slice_cmp}
 use Rattle.std.proofs.lemmas.List.{drop_more}
 use Rattle.std.proofs.lemmas.Map.Text.{is_eq-slice_cmp}
-use Rattle.ix_base.specs.declared.tree.Binding.{Binding}
-use Rattle.ix_base.specs.Trees.{Bound, bound}
+use Rattle.ix_base.specs.Trees.{Bound}
 use Rattle.ix_base.specs.Scope.{bound_over}
 use Rattle.page_tree.specs.Orders.{bound_under, entered}
 use Rattle.page_tree.specs.Tags.{binding_of}

@@ -1,7 +1,8 @@
 -- What the code's stack of open elements stands for.
-use Rattle.std.specs.Prelude.{◌≡◌, ℕ, List, [], ◌∷◌, ◌++◌, map, flat_map, All, Option, Some, None}
+use Rattle.std.specs.Prelude.{◌≡◌, ℕ, List, [], ◌∷◌, ◌++◌, flat_map, All, Option, Some, None}
 use Rattle.std.specs.Borrow.{Bor}
 use Rattle.ix_base.specs.Elements.{pages_of, pages_in}
+use Rattle.ix_base.specs.Spaces.{Space, space_of, spaces_bound, spaces_in, spaces_named, spaces_of}
 use Rattle.ix_base.specs.Trees.{attrs_in, bindings_in, named, nodes_of}
 use Rattle.ix_base.specs.declared.tree.Element.{Element}
 use Rattle.page_tree.specs.Machine.{Frame}
@@ -26,14 +27,26 @@ frames_of os = frames_onto [] os
 abbrev pub pages_open : Open → List ℕ
 pages_open o = o.place.page ∷ flat_map pages_in o.children.items
 
--- the page numbers of a root, if there is one
-abbrev pub pages_under : Option (Bor Element) → List ℕ
-pages_under None = []
-pages_under (Some e) = pages_of e.now
+-- the namespaces of an open element and of what is built in it
+abbrev pub spaces_open : Open → List Space
+spaces_open o = space_of o.name ∷ (spaces_named o.attrs ++ spaces_bound o.scope ++ flat_map spaces_in o.children.items)
+
+-- what a root has, if there is one
+abbrev pub under : {X : Type 0} → (Element → List X) → Option (Bor Element) → List X
+under of None = []
+under of (Some e) = of e.now
+
+-- what all has that is built
+abbrev pub built : {X : Type 0} → (Element → List X) → (Open → List X) → List Open → Option (Bor Element) → List X
+built of open_of os root = flat_map open_of os ++ under of root
 
 -- the page numbers of all that is built
 abbrev pub pages_built : List Open → Option (Bor Element) → List ℕ
-pages_built os root = flat_map pages_open os ++ pages_under root
+pages_built os root = built pages_of pages_open os root
+
+-- the namespaces of all that is built
+abbrev pub spaces_built : List Open → Option (Bor Element) → List Space
+spaces_built os root = built spaces_of spaces_open os root
 
 -- each of these page numbers is this one
 abbrev pub AreAll : ℕ → List ℕ → Type 0

@@ -2,13 +2,20 @@
 use Rattle.std.specs.Prelude.{map, option_map, encode_utf8}
 use Rattle.page_tree.specs.Tokens.{start, empty, close, words, refer, section, declaration, doctype, silent}
 use Rattle.page_tree.specs.Tokens as spec
+use Rattle.ix_base.specs.Bindings.{Bound}
+use Rattle.page_tree.specs.declared.names.Declaration.{Declaration}
 use Rattle.page_tree.specs.declared.token.Attribute.{Attribute}
 use Rattle.page_tree.specs.declared.token.Tag.{Tag}
 use Rattle.page_tree.specs.declared.token.Token.{Token}
-use Rattle.page_tree.specs.declared.token.Token.TheVariants.{StartTag, EmptyTag, EndTag, Text, Reference, Cdata, Declaration, Doctype, Silent}
+use Rattle.page_tree.specs.declared.token.Token.TheVariants.{StartTag, EmptyTag, EndTag, Text, Reference, Cdata, Doctype, Silent}
+use Rattle.page_tree.specs.declared.token.Token.TheVariants as token
 
 abbrev pub attribute_of : Attribute → spec.Attribute
 attribute_of a = record { name = a.name.name.now; value = option_map (λ v. v.now) a.value }
+
+-- what a declaration binds
+abbrev pub declared : Declaration → Bound
+declared d = record { prefix = d.prefix.now; ns = d.ns.now }
 
 abbrev pub tag_of : Tag → spec.Tag
 tag_of t = record { offset = t.offset; name = t.name.name.now; attrs = map attribute_of t.attrs.now }
@@ -20,6 +27,6 @@ token_of (EndTag name) = close name.now
 token_of (Text text) = words text.now
 token_of (Reference char) = refer (option_map encode_utf8 char)
 token_of (Cdata text) = section text.now
-token_of (Declaration version encoding) = declaration version.now (option_map (λ v. v.now) encoding)
+token_of (token.Declaration version encoding) = declaration version.now (option_map (λ v. v.now) encoding)
 token_of (Doctype has_subset) = doctype has_subset
 token_of Silent = silent

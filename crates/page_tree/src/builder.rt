@@ -53,6 +53,7 @@ pub struct TreeBuilder<'a> {
 impl<'a> TreeBuilder<'a> {
     ghost use Rattle.ix_base.specs.Trees.{tree_of};
     ghost use Rattle.ix_base.specs.Elements.{pages_of};
+    ghost use Rattle.ix_base.specs.Spaces.{AreNumbered, spaces_of};
     ghost use Rattle.page_tree.specs.Break.{w};
     ghost use Rattle.page_tree.specs.Page.{page as page_with};
     ghost use Rattle.page_tree.specs.Stacks.{AreAll};
@@ -254,6 +255,7 @@ impl<'a> TreeBuilder<'a> {
             → verdict_of result ≡ w b (limit self.entry) }
         ensures page { IfOk result (λ e. (b : List ℕ) → StandsFor self.entry b
             → AreAll (page_number self.entry) (pages_of e.now)) }
+        ensures spaces { IfOk result (λ e. (b : List ℕ) → StandsFor self.entry b → AreNumbered (spaces_of e.now)) }
         ensures spent { is_spent_of self.entry ≡ true → result ≡ Err PageFault.NoMemory }
     {
         if self.is_spent {

@@ -1,6 +1,7 @@
 //! The end of a page.
 ghost use Rattle.std.specs.Prelude.{◌≡◌, ◌≢◌, ◌≤◌, ℕ, List, Option, length, drop, string_bytes, Some, None, Err, Ok, IfOk, MatchResult, true, []};
 ghost use Rattle.ix_base.specs.Elements.{pages_of};
+ghost use Rattle.ix_base.specs.Spaces.{AreNumbered, spaces_of};
 ghost use Rattle.ix_base.specs.Trees.{tree_of};
 ghost use Rattle.page_text.specs.Reading.{answer};
 ghost use Rattle.page_tree.specs.Acting.{acted_on, end_of};
@@ -61,6 +62,7 @@ fn root_behind<'a>(
         (λ b. Some (fault_at b) ≡ behind_constructs size None us (outline_of (state_of building.now))) }
     ensures root { IfOk result (λ e. Some (tree_of e.now) ≡ (state_of building.now).root) }
     ensures page { (page : ℕ) → IsOnPage page building.now → IfOk result (λ e. AreAll page (pages_of e.now)) }
+    ensures spaces { (page : ℕ) → IsOnPage page building.now → IfOk result (λ e. AreNumbered (spaces_of e.now)) }
 {
     if let Some(offset) = rest {
         return Err(Break {
@@ -113,6 +115,7 @@ pub(crate) fn end<'a>(
         × (whole t.frames t.root ≡ Some (tree_of e.now))) }
     ensures page { IfOk result (λ e. IsOnPage setting.now.page building.entry
         → AreAll setting.now.page (pages_of e.now)) }
+    ensures spaces { IfOk result (λ e. IsOnPage setting.now.page building.entry → AreNumbered (spaces_of e.now)) }
 {
     let Ok(settled) = settle(
         setting,

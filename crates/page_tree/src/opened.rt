@@ -1,6 +1,7 @@
 //! An open element of a page.
 ghost use Rattle.std.specs.Prelude.{◌≡◌, ◌++◌, [], OnOk, string_bytes, flat_map};
 ghost use Rattle.ix_base.specs.Elements.{pages_of, pages_in};
+ghost use Rattle.ix_base.specs.Spaces.{spaces_in, spaces_of};
 ghost use Rattle.ix_base.specs.Trees.{none, elem, tree_of, nodes_of};
 ghost use Rattle.page_tree.specs.Machine.{append, flush};
 
@@ -27,6 +28,7 @@ fn flush_text<'a>(
     ensures nodes { OnOk result (nodes_of children.new.items ≡ flush (nodes_of children.old.items) (string_bytes text.old)) }
     ensures text { OnOk result (string_bytes text.new ≡ []) }
     ensures pages { OnOk result (flat_map pages_in children.new.items ≡ flat_map pages_in children.old.items) }
+    ensures spaces { OnOk result (flat_map spaces_in children.new.items ≡ flat_map spaces_in children.old.items) }
 {
     if text.is_empty() {
         return Ok(());
@@ -47,13 +49,15 @@ fn push_element<'a>(children: &mut Vec<Node<'a>>, element: &'a Element<'a>) -> R
         ≡ append (nodes_of children.old.items) (elem (tree_of element.now).head (tree_of element.now).children none)) }
     ensures pages { OnOk result (flat_map pages_in children.new.items
         ≡ flat_map pages_in children.old.items ++ pages_of element.now) }
+    ensures spaces { OnOk result (flat_map spaces_in children.new.items
+        ≡ flat_map spaces_in children.old.items ++ spaces_of element.now) }
 {
     children.push(Node::Elem(element))?;
     Ok(())
 }
 
 impl<'a> Open<'a> {
-    ghost use Rattle.page_tree.specs.Stacks.{frame, pages_open};
+    ghost use Rattle.page_tree.specs.Stacks.{frame, pages_open, spaces_open};
 
     /// The pending text becomes a child.
     pub(crate) fn flush(&mut self, arena: &'a Bump, text: &mut String) -> Result<(), NoMemory>
@@ -61,6 +65,7 @@ impl<'a> Open<'a> {
             ≡ record (frame self.old) { done = flush (frame self.old).done (string_bytes text.old) }) }
         ensures text { OnOk result (string_bytes text.new ≡ []) }
         ensures pages { OnOk result (pages_open self.new ≡ pages_open self.old) }
+        ensures spaces { OnOk result (spaces_open self.new ≡ spaces_open self.old) }
     {
         flush_text(arena, text, &mut self.children)
     }
@@ -71,6 +76,7 @@ impl<'a> Open<'a> {
           done = append (frame self.old).done (elem (tree_of element.now).head (tree_of element.now).children none);
         }) }
         ensures pages { OnOk result (pages_open self.new ≡ pages_open self.old ++ pages_of element.now) }
+        ensures spaces { OnOk result (spaces_open self.new ≡ spaces_open self.old ++ spaces_of element.now) }
     {
         push_element(&mut self.children, element)
     }

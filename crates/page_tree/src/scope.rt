@@ -1,32 +1,44 @@
-//! Scopes of elements: what a tag declares, put over the scope of its parent.
-ghost use Rattle.std.specs.Prelude.{◌≡◌, ◌++◌, ◌&&◌, [], true, IfOk, OnOk, map, bytes_eq};
+//! Scopes of elements: what a tag declares, in the scope of its parent.
+ghost use Rattle.std.specs.Prelude.{◌≡◌, ◌++◌, [], true, IfOk, map};
 ghost use Rattle.std.specs.List.{filter_map};
 ghost use Rattle.ix_base.specs.Bindings.{are_ordered};
+ghost use Rattle.ix_base.specs.Spaces.{space_bound, spaces_bound};
 ghost use Rattle.ix_base.specs.Trees.{bound, bindings_in};
 ghost use Rattle.ix_base.specs.Scope.{scope_under, outermost};
 ghost use Rattle.ix_base.specs.Namespaces.{xml_namespace};
 ghost use Rattle.page_tree.specs.Views.{attribute_of};
-ghost use Rattle.page_tree.specs.Orders.{bound_under, entered, merged as merged_of, kept as kept_of, unheaded as unheaded_of};
+ghost use Rattle.page_tree.specs.Orders.{bound_under, entered};
+ghost use Rattle.page_tree.specs.Spaces.{AreFrom, HaveNumbers, Keeps};
 ghost use Rattle.page_tree.specs.Tags.{binding_of as binding_of_attribute};
 
-use crate::names::binding_of;
+use crate::names::declaration_of;
+use crate::spaces::Spaces;
 use crate::token::Attribute;
 use bumpalo::Bump;
 use ix_base::namespaces::XML;
-use ix_base::{Binding, NoMemory, Scope, place_in};
+use ix_base::{Binding, Declared, Level, NoMemory, Scope};
 use std::alloc::Global;
 use std::collections::BTreeMap;
 
 /// The scope above the root: the prefix xml is always bound.
 #[tactic(auto, unfolding(ix_base::specs::Namespaces::xml_namespace))]
-pub(crate) fn outermost_scope<'a>() -> Scope<'a>
-    ensures { bindings_in result ≡ outermost }
+pub(crate) fn outermost_scope<'a>(arena: &'a Bump) -> Result<Scope<'a>, NoMemory>
+    ensures bindings { IfOk result (λ s. bindings_in s ≡ outermost) }
+    ensures spaces { IfOk result (λ s. AreFrom [] (spaces_bound s)) }
 {
-    Scope {
-        bindings: &[Binding {
-            prefix: "xml",
-            ns: XML,
-        }],
+    let level = Level {
+        own: Declared {
+            list: &[Binding {
+                prefix: "xml",
+                ns: XML,
+                number: 1,
+            }],
+        },
+        above: None,
+    };
+    match arena.try_alloc(level) {
+        Ok(level) => Ok(Scope { level: Some(level) }),
+        Err(_) => Err(NoMemory),
     }
 }
 
@@ -40,82 +52,69 @@ fn declarations<'a>(
 {
     let mut declared = BTreeMap::new(alloc);
     for attr in attrs {
-        if let Some(binding) = binding_of(attr) {
-            declared.insert(binding.prefix, binding.ns)?;
+        if let Some(declaration) = declaration_of(attr) {
+            declared.insert(declaration.prefix, declaration.ns)?;
         }
     }
     Ok(declared)
 }
 
-/// The bindings without the first, where that is of this prefix.
-fn unheaded<'s, 'a>(scope: &'s [Binding<'a>], prefix: &str) -> &'s [Binding<'a>]
-    ensures { map bound result.now ≡ unheaded_of (map bound scope.now) prefix.now }
-{
-    let Some((first, rest)) = scope.split_first() else {
-        return scope;
-    };
-    if first.prefix == prefix {
-        return rest;
-    }
-    scope
-}
-
-/// Whether a declaration takes the default namespace away.
-fn takes_default(binding: &Binding<'_>) -> bool
-    ensures { result ≡ (bytes_eq (bound binding.now).prefix [] && bytes_eq (bound binding.now).ns []) }
-{
-    binding.prefix == "" && binding.ns == ""
-}
-
-/// Adds a declaration, unless it takes the default namespace away.
-fn keep<'a>(bindings: &mut Vec<Binding<'a>>, binding: Binding<'a>) -> Result<(), NoMemory>
-    ensures { OnOk result (map bound bindings.new.items ≡ map bound bindings.old.items ++ kept_of (bound binding.entry)) }
-{
-    if takes_default(&binding) {
-        return Ok(());
-    }
-    bindings.push(binding)?;
-    Ok(())
-}
-
-/// Puts declarations over a scope.
-fn merged<'a>(
+/// Declarations in order, in the arena, each with the number of its namespace.
+fn kept<'a>(
     alloc: Global,
-    scope: &[Binding<'a>],
+    arena: &'a Bump,
+    spaces: &mut Spaces<'a>,
     declared: &BTreeMap<&'a str, &'a str>,
-) -> Result<Vec<Binding<'a>>, NoMemory>
-    requires { are_ordered (map bound scope.now) ≡ true }
-    ensures { IfOk result (λ v. map bound v.items ≡ merged_of (map bound scope.now) (map entered declared.now.entries)) }
+) -> Result<Declared<'a>, NoMemory>
+    requires { are_ordered (map entered declared.now.entries) ≡ true }
+    ensures list { IfOk result (λ d. map bound d.list.now ≡ map entered declared.now.entries) }
+    ensures spaces { IfOk result (λ d. HaveNumbers spaces.new.numbers (map space_bound d.list.now)) }
+    ensures kept { Keeps spaces.old.numbers spaces.new.numbers }
 {
-    let mut bindings = Vec::new(alloc);
-    let mut rest = scope;
+    let mut list = Vec::new(alloc);
     for (prefix, ns) in declared {
-        let at = place_in(rest, prefix);
-        let (before, from) = rest.split_at(at);
-        bindings.extend_from_slice(before)?;
-        keep(&mut bindings, Binding { prefix, ns })?;
-        rest = unheaded(from, prefix);
+        let number = spaces.number(ns)?;
+        list.push(Binding { prefix, ns, number })?;
     }
-    bindings.extend_from_slice(rest)?;
-    Ok(bindings)
+    Ok(Declared {
+        list: arena.try_alloc_slice_copy(list.as_slice())?,
+    })
+}
+
+/// The scope of an element that declares this, in the scope of its parent.
+fn inner_scope<'a>(
+    arena: &'a Bump,
+    own: Declared<'a>,
+    outer: Scope<'a>,
+) -> Result<Scope<'a>, NoMemory>
+    ensures bindings { IfOk result (λ s. bindings_in s ≡ scope_under (bindings_in outer.entry) (map bound own.entry.list.now)) }
+    ensures spaces { IfOk result (λ s. spaces_bound s ≡ map space_bound own.entry.list.now ++ spaces_bound outer.entry) }
+{
+    let above = outer.level;
+    match arena.try_alloc(Level { own, above }) {
+        Ok(level) => Ok(Scope { level: Some(level) }),
+        Err(_) => Err(NoMemory),
+    }
 }
 
 /// The scope of an element with these attributes. Without declarations it is its parent's.
 pub(crate) fn scope_of<'a>(
     alloc: Global,
     arena: &'a Bump,
+    spaces: &mut Spaces<'a>,
     scope: Scope<'a>,
     attrs: &[Attribute<'a>],
 ) -> Result<Scope<'a>, NoMemory>
-    ensures { IfOk result (λ s. bindings_in s
+    ensures bindings { IfOk result (λ s. bindings_in s
         ≡ scope_under (bindings_in scope.entry) (filter_map binding_of_attribute (map attribute_of attrs.now))) }
+    ensures spaces { IfOk result (λ s. HaveNumbers spaces.new.numbers (spaces_bound scope.entry)
+        → HaveNumbers spaces.new.numbers (spaces_bound s)) }
+    ensures kept { Keeps spaces.old.numbers spaces.new.numbers }
 {
     let declared = declarations(alloc, attrs)?;
     if declared.is_empty() {
         return Ok(scope);
     }
-    let bindings = merged(alloc, scope.bindings, &declared)?;
-    Ok(Scope {
-        bindings: arena.try_alloc_slice_copy(bindings.as_slice())?,
-    })
+    let own = kept(alloc, arena, spaces, &declared)?;
+    inner_scope(arena, own, scope)
 }

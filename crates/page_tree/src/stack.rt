@@ -1,12 +1,15 @@
 //! The open elements of a page, and what is built of them.
 ghost use Rattle.std.specs.Prelude.{◌≡◌, ◌∷◌, [], ℕ, Bool, OnOk, IfOk, string_bytes, option_map, map, flat_map};
 ghost use Rattle.ix_base.specs.Elements.{pages_of, pages_in};
+ghost use Rattle.ix_base.specs.Spaces.{spaces_bound, spaces_of};
 ghost use Rattle.ix_base.specs.Trees.{none, tree_of, nodes_of, bindings_in};
+ghost use Rattle.text_map.specs.Texts.{Texts};
 ghost use Rattle.page_tree.specs.Machine.{flushed, scope_in, closed};
 ghost use Rattle.page_tree.specs.Tags.{head_of, scope_of as scope_under_tag};
 ghost use Rattle.page_tree.specs.Views.{tag_of};
 ghost use Rattle.page_tree.specs.Expansions.{expansion, expansions};
-ghost use Rattle.page_tree.specs.Stacks.{frame, frames_of, pages_open, pages_built, AreAll};
+ghost use Rattle.page_tree.specs.Spaces.{AreFrom, HaveNumbers, spaces_expanded};
+ghost use Rattle.page_tree.specs.Stacks.{frame, frames_of, pages_open, pages_built, spaces_built, spaces_open, AreAll};
 
 use crate::names::{Expanded, attributes_of, element_name};
 use crate::opened::Open;
@@ -24,6 +27,7 @@ pub(crate) fn flush_innermost<'a>(
 ) -> Result<(), NoMemory>
     ensures frames { OnOk result (frames_of elements.new.items ≡ flushed (frames_of elements.old.items) (string_bytes text.old)) }
     ensures pages { OnOk result (flat_map pages_open elements.new.items ≡ flat_map pages_open elements.old.items) }
+    ensures spaces { OnOk result (flat_map spaces_open elements.new.items ≡ flat_map spaces_open elements.old.items) }
 {
     let Some(mut parent) = elements.pop() else {
         return Ok(());
@@ -36,13 +40,17 @@ pub(crate) fn flush_innermost<'a>(
 }
 
 /// The scope in the innermost open element, or that above the root.
-pub(crate) fn innermost_scope<'a>(elements: &[Open<'a>]) -> Scope<'a>
-    ensures { bindings_in result ≡ scope_in (frames_of elements.now) }
+pub(crate) fn innermost_scope<'a>(
+    arena: &'a Bump,
+    elements: &[Open<'a>],
+) -> Result<Scope<'a>, NoMemory>
+    ensures bindings { IfOk result (λ s. bindings_in s ≡ scope_in (frames_of elements.now)) }
+    ensures spaces { IfOk result (λ s. AreFrom (flat_map spaces_open elements.now) (spaces_bound s)) }
 {
     let Some(parent) = elements.last() else {
-        return outermost_scope();
+        return outermost_scope(arena);
     };
-    parent.scope
+    Ok(parent.scope)
 }
 
 /// An empty list for the children of an element: one that another element is done with, where there is one.
@@ -73,6 +81,8 @@ pub(crate) fn open_element<'a>(
     ensures frame { IfOk result (λ o. (outer : _) → bindings_in scope.entry ≡ scope_under_tag outer (tag_of tag.now)
         → frame o ≡ record { written = tag.now.name.name.now; head = head_of outer (tag_of tag.now); done = none }) }
     ensures pages { IfOk result (λ o. pages_open o ≡ page ∷ []) }
+    ensures spaces { IfOk result (λ o. AreFrom (spaces_bound scope.entry) (spaces_expanded expanded.now)
+        → AreFrom (spaces_bound scope.entry) (spaces_open o)) }
 {
     let attrs = attributes_of(arena, expanded, attrs)?;
     Ok(Open {
@@ -96,6 +106,7 @@ pub(crate) fn close_element<'a>(
 ) -> Result<&'a Element<'a>, NoMemory>
     ensures tree { IfOk result (λ e. tree_of e.now ≡ record { head = (frame own.entry).head; children = (frame own.entry).done }) }
     ensures pages { IfOk result (λ e. pages_of e.now ≡ pages_open own.entry) }
+    ensures spaces { IfOk result (λ e. spaces_of e.now ≡ spaces_open own.entry) }
 {
     let Ok(children) = arena.try_alloc_slice_copy(own.children.as_slice()) else {
         return Err(NoMemory);
@@ -127,6 +138,8 @@ pub(crate) fn put<'a>(
         ≡ record { frames = frames_of elements.new.items; text = []; root = option_map (λ e. tree_of e.now) root.new; doctyped = d }) }
     ensures pages { OnOk result ((page : ℕ) → AreAll page (pages_of element.now)
         → AreAll page (pages_built elements.old.items root.old) → AreAll page (pages_built elements.new.items root.new)) }
+    ensures spaces { OnOk result ((numbers : Texts ℕ) → HaveNumbers numbers (spaces_of element.now)
+        → HaveNumbers numbers (spaces_built elements.old.items root.old) → HaveNumbers numbers (spaces_built elements.new.items root.new)) }
 {
     let Some(mut parent) = elements.pop() else {
         *root = Some(element);

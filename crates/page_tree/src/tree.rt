@@ -3,12 +3,14 @@ ghost use Rattle.std.specs.Prelude.{◌≡◌, ◌≢◌, ◌∷◌, [], ◌&&�
 ghost use Rattle.std.specs.List.{list_all};
 ghost use Rattle.ix_base.specs.Elements.{pages_of};
 ghost use Rattle.ix_base.specs.NcName.{is_white as is_white_byte};
+ghost use Rattle.ix_base.specs.Spaces.{AreNumbered, spaces_bound, spaces_of};
 ghost use Rattle.ix_base.specs.Trees.{tree_of, bindings_in, none};
 ghost use Rattle.page_tree.specs.Break.{broken_by_tag, is_outside as is_outside_of, matches as matches_of};
 ghost use Rattle.page_tree.specs.Expansions.{expansion, expansions};
 ghost use Rattle.page_tree.specs.Machine.{outline_of, scope_in, begin, flushed, opening, standing, closing, running};
 ghost use Rattle.page_tree.specs.Page.{is_within as is_within_profile, is_encoding as is_known_encoding};
-ghost use Rattle.page_tree.specs.Stacks.{frame, frames_of, pages_open, AreAll};
+ghost use Rattle.page_tree.specs.Spaces.{AreFrom, HaveNumbers, Keeps, spaces_expanded};
+ghost use Rattle.page_tree.specs.Stacks.{frame, frames_of, pages_open, spaces_open, AreAll};
 ghost use Rattle.page_tree.specs.Tags.{head_of, scope_of as scope_under_tag};
 ghost use Rattle.page_tree.specs.Tokens.{start, empty, close, words, refer, section, declaration, doctype};
 ghost use Rattle.page_tree.specs.Views.{tag_of, token_of};
@@ -18,6 +20,7 @@ use crate::opened::Open;
 use crate::refusal::Refusal;
 use crate::scope::scope_of;
 use crate::setting::Setting;
+use crate::spaces::Spaces;
 use crate::stack::{
     close_element, empty_list, flush_innermost, innermost_scope, open_element, put,
 };
@@ -33,6 +36,8 @@ pub(crate) struct Building<'a> {
     pub text: String,
     pub root: Option<&'a Element<'a>>,
     pub doctyped: bool,
+    /// The namespaces that were declared so far.
+    pub spaces: Spaces<'a>,
     /// Lists in which the parts of a tag are collected, one tag after another: its attributes with their expanded names, and
     /// those of the element.
     pub expanded: Vec<Expanded<'a>>,
@@ -82,6 +87,7 @@ impl<'a> Building<'a> {
             text: String::new(alloc),
             root: None,
             doctyped: false,
+            spaces: Spaces::new(alloc),
             expanded: Vec::new(alloc),
             attrs: Vec::new(alloc),
             spare: Vec::new(alloc),
@@ -109,6 +115,7 @@ impl<'a> Building<'a> {
     pub(crate) fn finished(&self) -> Option<&'a Element<'a>>
         ensures root { option_map (λ e. tree_of e.now) result ≡ (state_of self.now).root }
         ensures on_page { (page : ℕ) → IsOnPage page self.now → IfSome result (λ e. AreAll page (pages_of e.now)) }
+        ensures spaces { (page : ℕ) → IsOnPage page self.now → IfSome result (λ e. AreNumbered (spaces_of e.now)) }
     {
         self.root
     }
@@ -134,11 +141,25 @@ impl<'a> Building<'a> {
     }
 
     /// The scope of an element that begins here.
-    fn element_scope(&self, setting: &Setting<'a>, tag: &Tag<'a, '_>) -> Result<Scope<'a>, NoMemory>
-        ensures { IfOk result (λ s. bindings_in s ≡ scope_under_tag (scope_in (state_of self.now).frames) (tag_of tag.now)) }
+    fn element_scope(
+        &mut self,
+        setting: &Setting<'a>,
+        tag: &Tag<'a, '_>,
+    ) -> Result<Scope<'a>, NoMemory>
+        ensures bindings { IfOk result (λ s. bindings_in s ≡ scope_under_tag (scope_in (state_of self.old).frames) (tag_of tag.now)) }
+        ensures spaces { IfOk result (λ s. HaveNumbers self.new.spaces.numbers (flat_map spaces_open self.old.elements.items)
+            → HaveNumbers self.new.spaces.numbers (spaces_bound s)) }
+        ensures kept { Keeps self.old.spaces.numbers self.new.spaces.numbers }
+        ensures same { self.new ≡ record self.old { spaces = self.new.spaces } }
     {
-        let outer = innermost_scope(&self.elements);
-        scope_of(setting.alloc, setting.arena, outer, tag.attrs)
+        let outer = innermost_scope(setting.arena, &self.elements)?;
+        scope_of(
+            setting.alloc,
+            setting.arena,
+            &mut self.spaces,
+            outer,
+            tag.attrs,
+        )
     }
 
     /// Judges a tag, whose element has this scope: the lowest rule that it breaks is an error.
@@ -179,9 +200,12 @@ impl<'a> Building<'a> {
         ensures frames { OnOk result (frames_of self.new.elements.items
             ≡ flushed (frames_of self.old.elements.items) (string_bytes self.old.text)) }
         ensures text { OnOk result (string_bytes self.new.text ≡ []) }
-        ensures rest { (self.new.root ≡ self.old.root) × (self.new.doctyped ≡ self.old.doctyped) }
+        ensures rest { (self.new.root ≡ self.old.root) × (self.new.doctyped ≡ self.old.doctyped) × (self.new.spaces ≡ self.old.spaces) }
         ensures pages { IfOk result (λ o. pages_open o ≡ setting.now.page ∷ []) }
         ensures on_page { OnOk result (flat_map pages_open self.new.elements.items ≡ flat_map pages_open self.old.elements.items) }
+        ensures own_spaces { IfOk result (λ o. AreFrom (spaces_bound scope.entry) (spaces_expanded self.old.expanded.items)
+            → AreFrom (spaces_bound scope.entry) (spaces_open o)) }
+        ensures spaces { OnOk result (flat_map spaces_open self.new.elements.items ≡ flat_map spaces_open self.old.elements.items) }
     {
         let children = empty_list(setting.alloc, &mut self.spare);
         let element = open_element(
@@ -207,6 +231,8 @@ impl<'a> Building<'a> {
     ) -> Result<(), NoMemory>
         requires scope { bindings_in scope ≡ scope_under_tag (scope_in (state_of self.old).frames) (tag_of tag.now) }
         requires expanded { map expansion self.old.expanded.items ≡ expansions (bindings_in scope) (tag_of tag.now) }
+        requires from { AreFrom (spaces_bound scope) (spaces_expanded self.old.expanded.items) }
+        requires spaces { IsOnPage setting.now.page self.old → HaveNumbers self.old.spaces.numbers (spaces_bound scope) }
         ensures { OnOk result (Becomes setting.now.page self.old self.new (opening (state_of self.old) (tag_of tag.now))) }
     {
         let element = self.begin(setting, scope, tag)?;
@@ -223,6 +249,8 @@ impl<'a> Building<'a> {
     ) -> Result<(), NoMemory>
         requires expanded { map expansion self.old.expanded.items ≡ expansions (bindings_in scope) (tag_of tag.now) }
         requires scope { bindings_in scope ≡ scope_under_tag (scope_in (state_of self.old).frames) (tag_of tag.now) }
+        requires spaces { IsOnPage setting.now.page self.old → HaveNumbers self.old.spaces.numbers (spaces_bound scope) }
+        requires from { AreFrom (spaces_bound scope) (spaces_expanded self.old.expanded.items) }
         ensures { OnOk result (Becomes setting.now.page self.old self.new (standing (state_of self.old) (tag_of tag.now))) }
     {
         let own = self.begin(setting, scope, tag)?;
@@ -272,6 +300,8 @@ impl<'a> Building<'a> {
     fn judge(&mut self, setting: &Setting<'a>, tag: &Tag<'a, '_>) -> Result<Scope<'a>, Refusal>
         ensures scope { IfOk result (λ s. bindings_in s ≡ scope_under_tag (scope_in (state_of self.old).frames) (tag_of tag.now)) }
         ensures expanded { IfOk result (λ s. map expansion self.new.expanded.items ≡ expansions (bindings_in s) (tag_of tag.now)) }
+        ensures from { IfOk result (λ s. AreFrom (spaces_bound s) (spaces_expanded self.new.expanded.items)) }
+        ensures spaces { IfOk result (λ s. IsOnPage setting.now.page self.new → HaveNumbers self.new.spaces.numbers (spaces_bound s)) }
         ensures rule { Judges (broken_by_tag setting.now.depth (outline_of (state_of self.old)) (tag_of tag.now)) result }
         ensures becomes { Becomes setting.now.page self.old self.new (state_of self.old) }
     {

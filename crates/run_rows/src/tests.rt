@@ -2,10 +2,10 @@
 ghost use Rattle.std.specs.Prelude.{◌≡◌, ◌≤◌, [], None, false, length};
 
 use crate::counted::watched;
-use ix_base::{Failed, MemTargets, MemText, PageSource, Text};
+use ix_base::{Failed, MemTargets, MemText, NoMemory, PageSource, Text};
 use ixds_run::{Status, run};
 use std::alloc::Global;
-use std::test::Fail;
+use std::process::Abort;
 
 /// Pages that each begin with four bytes, behind which stand so many bytes of one value. It tells none of them.
 #[derive(Drop)]
@@ -65,7 +65,7 @@ const PLAIN: [&str; 6] = [
 ];
 
 /// Words as texts.
-fn texts_of(alloc: Global, words: &[&str]) -> Result<Vec<Text>, Fail> {
+fn texts_of(alloc: Global, words: &[&str]) -> Result<Vec<Text>, NoMemory> {
     let mut texts = Vec::new(alloc);
     for word in words {
         texts.push(Text::of(alloc, word)?)?;
@@ -76,13 +76,14 @@ fn texts_of(alloc: Global, words: &[&str]) -> Result<Vec<Text>, Fail> {
 /// How a run ends whose pages are made so, of four bytes and of so many more of one value, what `out` takes, whose puts of these
 /// numbers fail, and how often the pages were called.
 fn run_made(
+    rt: &impl Abort,
     alloc: Global,
     words: &[&str],
     front: [u8; 4],
     byte: u8,
     more: usize,
     fails: Vec<u64>,
-) -> Result<(Status, MemText, u64), Fail> {
+) -> (Status, MemText, u64) {
     let mut pages = watched(Made {
         front,
         byte,
@@ -91,11 +92,11 @@ fn run_made(
         is_started: false,
         is_begun: false,
     });
-    let mut sink = MemTargets::new(alloc, 4, 4000, Vec::new(alloc))?;
-    let mut out = MemText::new(alloc, 1000, fails)?;
-    let words = texts_of(alloc, words)?;
+    let mut sink = MemTargets::new(alloc, 4, 4000, Vec::new(alloc)).expect(rt, "targets");
+    let mut out = MemText::new(alloc, 1000, fails).expect(rt, "a text");
+    let words = texts_of(alloc, words).expect(rt, "words");
     let status = run(alloc, words.as_slice(), &mut pages, &mut sink, &mut out);
-    Ok((status, out, pages.calls))
+    (status, out, pages.calls)
 }
 
 const S1: &[u8] = b"(set): S1 pages together are too long\n";
@@ -111,8 +112,7 @@ const TWO: [&str; 4] = ["check", "--base=http://example.com/", "a.html", "b.html
 /// A page with a byte too many, or a `<` too many, breaks a size rule, whatever else it breaks; one with as many bytes, or `<`, as
 /// it may have doesn't. Reading stops behind the limit.
 #[test]
-fn the_size_of_a_page_is_limited(rt: HostRuntime) -> Result<(), Fail> {
-    let alloc = rt.alloc();
+fn the_size_of_a_page_is_limited(rt: HostRuntime) {
     let rows: [([u8; 4], u8, usize, &[u8], u64); 4] = [
         (*b"</a>", b' ', 268_435_452, W5, 4099),
         (*b"</a>", b' ', 268_435_453, S1, 4098),
@@ -120,33 +120,38 @@ fn the_size_of_a_page_is_limited(rt: HostRuntime) -> Result<(), Fail> {
         (*b"<<<<", b'<', 8_388_605, S2, 131),
     ];
     for (front, byte, more, report, due) in rows {
-        let (status, out, calls) = run_made(alloc, &PLAIN, front, byte, more, Vec::new(alloc))?;
+        let fails = Vec::new(rt.alloc());
+        let (status, out, calls) = run_made(&rt, rt.alloc(), &PLAIN, front, byte, more, fails);
         assert!(rt; status == Status::Broken, "{byte} {more}");
         assert!(rt; out.taken() == report, "{byte} {more}");
         assert!(rt; calls == due, "{byte} {more} {calls}");
     }
-    Ok(())
 }
 
 /// The bytes of all pages count together. Reading goes on behind the break of the first page, and stops behind the limit.
 #[test]
-fn the_size_of_two_pages_is_limited(rt: HostRuntime) -> Result<(), Fail> {
-    let alloc = rt.alloc();
-    let (status, out, calls) = run_made(alloc, &TWO, *b"</a>", b' ', 134_217_725, Vec::new(alloc))?;
+fn the_size_of_two_pages_is_limited(rt: HostRuntime) {
+    let fails = Vec::new(rt.alloc());
+    let (status, out, calls) = run_made(&rt, rt.alloc(), &TWO, *b"</a>", b' ', 134_217_725, fails);
     assert!(rt; status == Status::Broken);
     assert!(rt; out.taken() == S1);
     assert_eq!(rt; calls, 4101);
-    Ok(())
 }
 
 /// Reading stops behind the limit where the report can't be put, too.
 #[test]
-fn the_size_of_a_page_is_limited_where_the_report_cant_be_put(rt: HostRuntime) -> Result<(), Fail> {
-    let alloc = rt.alloc();
-    let fails = vec![in alloc; 1]?;
-    let (status, out, calls) = run_made(alloc, &PLAIN, *b"</a>", b' ', 268_435_453, fails)?;
+fn the_size_of_a_page_is_limited_where_the_report_cant_be_put(rt: HostRuntime) {
+    let fails = vec![in rt.alloc(); 1].expect(&rt, "a number");
+    let (status, out, calls) = run_made(
+        &rt,
+        rt.alloc(),
+        &PLAIN,
+        *b"</a>",
+        b' ',
+        268_435_453,
+        fails,
+    );
     assert!(rt; status == Status::WriteFault);
     assert!(rt; out.taken().is_empty());
     assert_eq!(rt; calls, 4098);
-    Ok(())
 }

@@ -1,5 +1,5 @@
 -- Items that break no rule of values, as their attributes tell.
-use Rattle.std.proofs.Common.{◌≡◌, ◌∙◌, Bool, true, false, List, ℕ, ap, refl, subst, sym, ⊎_elim}
+use Rattle.std.proofs.Common.{◌≡◌, true, false, List, ℕ, ap, refl, subst, sym, ⊎_elim}
 use Rattle.std.specs.Prelude.{Option, None, Some, Ok, is_none, option_map, codes}
 use Rattle.std.proofs.lemmas.Bool.{and_parts, cases_Bool, or_cases}
 use Rattle.ix_base.specs.declared.content.Item.{Item}

@@ -1,5 +1,5 @@
 -- The ids of a content are names, and each stands once.
-use Rattle.std.proofs.Common.{◌≡◌, ◌∙◌, ap, sym, subst, refl, ℕ, ◌+◌, ◌≤◌, nat_lt, Bool, true, false, List, [], ◌∷◌, ◌++◌, map, length, Option, Some, None, arith, ⊎_elim, zero, cond}
+use Rattle.std.proofs.Common.{◌≡◌, ◌∙◌, ap, sym, subst, refl, ℕ, ◌+◌, ◌≤◌, nat_lt, Bool, true, false, List, [], ◌∷◌, ◌++◌, map, length, Option, Some, None, arith, ⊎_elim, cond}
 use Rattle.std.specs.Prelude.{◌&&◌, bytes_eq, not}
 use Rattle.std.specs.List.{Contains, filter, list_all, list_any}
 use Rattle.std.specs.Option.{option_map_or}

@@ -1,15 +1,14 @@
 -- What is kept of links with one more element, and with one more link.
 use Rattle.std.proofs.Common.{◌≡◌, ◌∙◌, ap, refl, subst, sym, ℕ, ◌+◌, ◌≤◌, Bool, true, false, cond, List, [], ◌∷◌, ◌++◌, length, Option, Some, None, arith, append-nil}
 use Rattle.std.specs.Prelude.{bytes_eq, if◌then◌else◌}
-use Rattle.std.specs.Borrow.{Bor}
 use Rattle.std.specs.List.{filter}
 use Rattle.std.specs.Option.{option_map_or}
 use Rattle.std.proofs.lemmas.List.Elements.{filter-append}
 use Rattle.std.proofs.lemmas.Slice.Eq.{bytes_eq-Decides}
-use Rattle.indexmap.specs.IndexMap.{IndexMap}
 use Rattle.ix_base.specs.Alike.{alike}
 use Rattle.ix_base.specs.Ids.{id_of, tuple_id_of}
 use Rattle.ix_base.specs.Located.{Located, is_text}
+use Rattle.text_map.specs.Texts.{Texts}
 use Rattle.targets.specs.declared.standing.Links.{Links}
 use Rattle.targets.specs.declared.met_ids.Named.{Named}
 use Rattle.targets.specs.LinkStates.{Link, is_tuple_ref}
@@ -111,7 +110,7 @@ module _ (names : ℕ → List ℕ) (es ts : List Located) (e : Located) (id : L
 -- What is kept.
 
 -- with what is kept of an id the first of each is on one page
-pub pages-kept : {S : Type 0} (old new : IndexMap (Bor (List ℕ)) Named S) (id : List ℕ) (now : Named)
+pub pages-kept : (old new : Texts Named) (id : List ℕ) (now : Named)
     → ((q : List ℕ) → found_in new q ≡ (if bytes_eq q id then Some now else found_in old q)) → IsFirstOnPage now.standing → AreFirstOnPages old → AreFirstOnPages new
 pages-kept old new id now is page h q n e = by (bytes_eq q id) (sym (is q) ∙ e)
   where
@@ -120,7 +119,7 @@ pages-kept old new id now is page h q n e = by (bytes_eq q id) (sym (is q) ∙ e
     by false f = h q n f
 
 -- what is kept with one more element that has an id
-module _ {S : Type 0} (like : Located → Located → Bool) (names : ℕ → List ℕ) (old new : IndexMap (Bor (List ℕ)) Named S) (own : Located → Option (List ℕ)) (es : List Located) (e : Located) (n : List ℕ → Link → Bool) (ls : List Link) (id : List ℕ) (kept : Named) where
+module _ (like : Located → Located → Bool) (names : ℕ → List ℕ) (old new : Texts Named) (own : Located → Option (List ℕ)) (es : List Located) (e : Located) (n : List ℕ → Link → Bool) (ls : List Link) (id : List ℕ) (kept : Named) where
   pub names-held : own e ≡ Some id
       → ((q : List ℕ) → named_in old q ≡ record { kept = kept_of like names own es q; links = length (filter (n q) ls) })
       → ((q : List ℕ) → found_in new q ≡ (if bytes_eq q id then Some kept else found_in old q))
@@ -222,7 +221,7 @@ module _ (names : ℕ → List ℕ) (es ts : List Located) (ls : List Link) (kep
 
 -- One more link.
 
-module _ {S : Type 0} (old new : IndexMap (Bor (List ℕ)) Named S) (st : List ℕ → Kept) (n : List ℕ → Link → Bool) (ls : List Link) (l : Link) where
+module _ (old new : Texts Named) (st : List ℕ → Kept) (n : List ℕ → Link → Bool) (ls : List Link) (l : Link) where
   -- what is kept of ids with one more link that names one of them
   names-linked : ((q : List ℕ) → n q l ≡ bytes_eq q l.id)
       → ((q : List ℕ) → named_in old q ≡ record { kept = st q; links = length (filter (n q) ls) })

@@ -5,7 +5,7 @@ use Rattle.ix_base.specs.Located.{Located, is_fact, is_kind}
 use Rattle.ix_base.specs.LinkRules.{is_schema_for, target_above, target_of}
 use Rattle.id_table.specs.Tables.{all_located, spots_at}
 use Rattle.targets.specs.Contents.{context_named, is_linkbase_for, unit_named}
-use Rattle.targets.specs.declared.contents.Groups.{Groups}
+use Rattle.targets.specs.declared.groups.Groups.{Groups}
 use Rattle.targets.specs.declared.parts.Ref.{Ref}
 use Rattle.targets.specs.declared.parts.Ref.TheVariants.{Context, Unit}
 use Rattle.targets.specs.declared.groups.Group.{Group}

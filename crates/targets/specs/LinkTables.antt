@@ -1,13 +1,12 @@
 -- What is kept of links: the tables of ids and of tuple ids, and how many links are pending and doubled.
 use Rattle.std.specs.Prelude.{◌≡◌, ℕ, ◌+◌, ◌-◌, Bool, true, false, List, [], ◌∷◌, length, filter, Option, Some, None, if◌then◌else◌, bytes_eq}
-use Rattle.std.specs.Borrow.{Bor}
 use Rattle.std.specs.Option.{option_map_or}
 use Rattle.std.specs.Ordering.{is_lt}
-use Rattle.indexmap.specs.IndexMap.{IndexMap, get_by}
 use Rattle.ix_base.specs.Alike.{alike}
 use Rattle.ix_base.specs.Ids.{id_of, place_cmp, tuple_id_of}
 use Rattle.ix_base.specs.Located.{Located, is_text, located}
 use Rattle.ix_base.specs.Spots.{IsOnOnePage}
+use Rattle.text_map.specs.Texts.{Texts, get_in}
 use Rattle.targets.specs.declared.standing.Links.{Links}
 use Rattle.targets.specs.declared.met_ids.Named.{Named}
 use Rattle.targets.specs.declared.agreeing.Standing.{Standing}
@@ -83,14 +82,14 @@ abbrev pub nothing : Known
 nothing = record { kept = none; links = 0 }
 
 -- what is kept of an id, and what is known of it
-abbrev pub found_in : {S : Type 0} → IndexMap (Bor (List ℕ)) Named S → List ℕ → Option Named
-found_in m q = get_by (λ k. bytes_eq q k.now) m
+abbrev pub found_in : Texts Named → List ℕ → Option Named
+found_in m q = get_in m q
 
-abbrev pub named_in : {S : Type 0} → IndexMap (Bor (List ℕ)) Named S → List ℕ → Known
+abbrev pub named_in : Texts Named → List ℕ → Known
 named_in m q = option_map_or named_of (found_in m q) nothing
 
 -- the first of each id is on one page
-abbrev pub AreFirstOnPages : {S : Type 0} → IndexMap (Bor (List ℕ)) Named S → Type 0
+abbrev pub AreFirstOnPages : Texts Named → Type 0
 AreFirstOnPages m = (q : List ℕ) (n : Named) → found_in m q ≡ Some n → IsFirstOnPage n.standing
 
 -- one more link names it

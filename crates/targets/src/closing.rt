@@ -4,6 +4,7 @@ ghost use Rattle.targets.specs.Faults.{element_faults, link_faults};
 ghost use Rattle.targets.specs.Holding.{KeepsAll, set_of};
 ghost use Rattle.targets.specs.Linked.{IsLinked, IsShallow, IsValued, all_of, bases_of};
 ghost use Rattle.ix_base.specs.Located.{base_in};
+ghost use Rattle.ix_base.specs.Once.{SameMembers};
 ghost use Rattle.targets.specs.SetOutcomes.{AreAllTargets, CanBeWritten, ComesOfValues, ComesTo, FirstOf, IsReport};
 ghost use Rattle.targets.specs.PageSet as spec;
 ghost use Rattle.targets.specs.PageSet.{elements, page_bases};
@@ -92,6 +93,30 @@ fn comes_of_values(
     reported(found, names)
 }
 
+/// What pages come to whose links were looked at, and break these rules.
+fn comes_of_linked(
+    alloc: Global,
+    pages: &Pages<'_, '_>,
+    linked: &Linked<'_, '_>,
+    found: Breaches,
+    names: &[Text],
+) -> Result<Outcome, NoMemory>
+    requires keeps { KeepsAll pages.now }
+    requires linked { found ≡ [] → IsLinked linked.now }
+    requires elements { all_of linked.now ≡ elements (set_of pages.now) }
+    requires bases { bases_of linked.now ≡ page_bases (set_of pages.now) }
+    requires shallow { found ≡ [] → IsShallow linked.now }
+    requires names { names.now ≡ spec.names (set_of pages.now) }
+    requires found { SameMembers found (link_faults (set_of pages.now)) }
+    ensures comes { IfOk result (FirstOf names.now (link_faults (set_of pages.now)) (ComesOfValues (set_of pages.now))) }
+    ensures written { IfOk result CanBeWritten }
+{
+    if found.is_empty() {
+        return comes_of_values(alloc, pages, linked, names);
+    }
+    reported(found, names)
+}
+
 /// What pages come to that break no rule of elements.
 fn comes_of_links<'a>(
     alloc: Global,
@@ -107,10 +132,7 @@ fn comes_of_links<'a>(
 {
     let mut found = Breaches::new(alloc);
     let linked = link_all(alloc, arena, pages.index, pages.bases, &mut found)?;
-    if found.is_empty() {
-        return comes_of_values(alloc, pages, &linked, names);
-    }
-    reported(found, names)
+    comes_of_linked(alloc, pages, &linked, found, names)
 }
 
 /// The names of pages.

@@ -17,14 +17,14 @@ ghost use Rattle.targets.specs.Seen.{values_of};
 ghost use Rattle.targets.specs.TargetFacts.{AreFacts};
 
 use crate::facts_in::facts_at;
-use crate::groups::{Group, at, grouped, is_fact};
+use crate::groups::{Groups, at, groups_of, is_fact};
 use crate::links::Linked;
 use crate::notes::{arcroles_for, notes_for, roles_for};
 use crate::outcome::Target;
 use crate::parts::{Ref, contexts_of, ids_named, units_of};
 use crate::references::{addresses_at, linkbases_at};
 use fact_view::target_of;
-use id_table::{Holders, Index};
+use id_table::Index;
 use instance_out::arrange;
 use ix_base::{
     Content, Context, Fact, Kind, Linkbase, List, NoMemory, Spot, Text, Unit, each_once, kind_of,
@@ -34,28 +34,6 @@ use std::alloc::Global;
 
 /// How deep tuples stand within tuples at most.
 const DEEPEST: u32 = 100;
-
-/// The facts and the references of a set, by their targets.
-#[derive(Drop)]
-struct Groups<'a> {
-    facts: Holders<'a>,
-    schemas: Holders<'a>,
-    linkbases: Holders<'a>,
-}
-
-fn groups_of<'a>(alloc: Global, index: &Index<'a>) -> Result<Groups<'a>, NoMemory>
-    ensures { IfOk result (λ g. AreGroups g index.now.spots) }
-{
-    let spots = index.spots();
-    let facts = grouped(alloc, Group::Facts, spots)?;
-    let schemas = grouped(alloc, Group::Schemas, spots)?;
-    let linkbases = grouped(alloc, Group::Linkbases, spots)?;
-    Ok(Groups {
-        facts,
-        schemas,
-        linkbases,
-    })
-}
 
 /// Adds an element that has no owner.
 fn push_outer<'a>(
@@ -272,6 +250,28 @@ fn target_named<'a>(
     })
 }
 
+/// The targets of these names.
+fn targets_named<'a>(
+    alloc: Global,
+    linked: &Linked<'_, 'a>,
+    groups: &Groups<'a>,
+    names: &[&str],
+) -> Result<List<Target>, NoMemory>
+    requires linked { IsLinked linked.now }
+    requires valued { IsValued linked.now }
+    requires shallow { IsShallow linked.now }
+    requires groups { AreGroups groups.now (all_of linked.now) }
+    ensures targets { IfOk result (AreTargets (base_in (bases_of linked.now)) (all_of linked.now) (values_of names.now)) }
+    ensures written { IfOk result (All (λ t. IsWritable t.content)) }
+{
+    let mut targets = List::new(alloc);
+    for name in names {
+        let target = target_named(alloc, linked, groups, *name)?;
+        targets.push(target)?;
+    }
+    Ok(targets)
+}
+
 /// The targets of a set, each with its content.
 pub(crate) fn targets_of(alloc: Global, linked: &Linked<'_, '_>) -> Result<List<Target>, NoMemory>
     requires linked { IsLinked linked.now }
@@ -282,10 +282,5 @@ pub(crate) fn targets_of(alloc: Global, linked: &Linked<'_, '_>) -> Result<List<
 {
     let groups = groups_of(alloc, linked.index)?;
     let names = names_of(alloc, linked.index)?;
-    let mut targets = List::new(alloc);
-    for name in names.as_slice() {
-        let target = target_named(alloc, linked, &groups, *name)?;
-        targets.push(target)?;
-    }
-    Ok(targets)
+    targets_named(alloc, linked, &groups, names.as_slice())
 }

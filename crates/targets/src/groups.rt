@@ -1,13 +1,14 @@
 //! The elements of a set by the target for which they stand.
-ghost use Rattle.std.specs.Prelude.{◌≡◌, IfOk, option_map};
+ghost use Rattle.std.specs.Prelude.{◌≡◌, ℕ, List, IfOk, filter, option_map};
 ghost use Rattle.ix_base.specs.Located as kinds;
 ghost use Rattle.ix_base.specs.LinkRules as rules;
 ghost use Rattle.ix_base.specs.Located.{located};
-ghost use Rattle.id_table.specs.Tables.{HasEach, spots_at};
-ghost use Rattle.targets.specs.Groups.{key_by};
+ghost use Rattle.id_table.specs.Tables.{HasEach, all_located, spots_at};
+ghost use Rattle.targets.specs.Contents.{is_linkbase_for};
+ghost use Rattle.targets.specs.Groups.{AreGroups, key_by};
 
 use fact_view::target_of;
-use id_table::{Holders, enter};
+use id_table::{Holders, Index, enter};
 use ix_base::{Kind, NoMemory, Spot, kind_of};
 use std::alloc::Global;
 
@@ -75,4 +76,38 @@ pub(crate) fn at<'a>(
         spots.extend_from_slice(found.as_slice())?;
     }
     Ok(spots)
+}
+
+/// The facts and the references of a set, by their targets.
+#[derive(Drop)]
+pub(crate) struct Groups<'a> {
+    pub facts: Holders<'a>,
+    pub schemas: Holders<'a>,
+    pub linkbases: Holders<'a>,
+}
+
+/// The references to schemas and to linkbases, by their targets.
+fn references_of<'a>(
+    alloc: Global,
+    index: &Index<'a>,
+) -> Result<(Holders<'a>, Holders<'a>), NoMemory>
+    ensures schemas { IfOk result (λ r. (target : List ℕ) → all_located (spots_at r.0 target) ≡ filter (rules.is_schema_for target) index.now.spots) }
+    ensures linkbases { IfOk result (λ r. (target : List ℕ) → all_located (spots_at r.1 target) ≡ filter (is_linkbase_for target) index.now.spots) }
+{
+    let schemas = grouped(alloc, Group::Schemas, index.spots())?;
+    let linkbases = grouped(alloc, Group::Linkbases, index.spots())?;
+    Ok((schemas, linkbases))
+}
+
+/// The facts and the references of an index, by their targets.
+pub(crate) fn groups_of<'a>(alloc: Global, index: &Index<'a>) -> Result<Groups<'a>, NoMemory>
+    ensures { IfOk result (λ g. AreGroups g index.now.spots) }
+{
+    let (schemas, linkbases) = references_of(alloc, index)?;
+    let facts = grouped(alloc, Group::Facts, index.spots())?;
+    Ok(Groups {
+        facts,
+        schemas,
+        linkbases,
+    })
 }

@@ -12,7 +12,7 @@ ghost use Rattle.id_table.specs.Held.{AreChosen, asked};
 ghost use Rattle.id_table.specs.Tables.{all_located, spots_at};
 ghost use Rattle.tuples.specs.Fits.{fits};
 ghost use Rattle.tuples.specs.Kept.{AreMembersOf};
-ghost use Rattle.targets.specs.Faults.{refs_at};
+ghost use Rattle.targets.specs.Faults.{redirected_at, refs_at};
 ghost use Rattle.targets.specs.RoleAddresses.{SeesAll};
 
 use crate::addresses::{SeenRoles, add_redirected};
@@ -84,6 +84,59 @@ fn add_lacking_schema(
     Ok(())
 }
 
+/// Adds the rules on ids, references and continuations that are broken, and gives the chains.
+fn chained<'a>(
+    alloc: Global,
+    arena: &'a Bump,
+    index: &Index<'a>,
+    found: &mut Breaches,
+) -> Result<Chains<'a>, NoMemory>
+    requires { AreChosen index.now }
+    ensures faults { OnOk result (found.new ≡ found.old ++ breaking rule.L1 index.now.spots
+        ++ flat_map (refs_at (asked index.now)) index.now.spots ++ breaking rule.L4 index.now.spots
+        ++ breaking rule.L5 index.now.spots ++ breaking rule.L6 index.now.spots ++ breaking rule.L7 index.now.spots) }
+    ensures chains { IfOk result (λ c. found.new ≡ [] → AreChainsOf c index.now.spots) }
+{
+    index.doubled(found)?;
+    add_refs(index, found)?;
+    link(alloc, arena, index, found)
+}
+
+/// Adds the rules on tuples and relationships that are broken, and gives the members and the relationships.
+fn tied<'a>(
+    alloc: Global,
+    arena: &'a Bump,
+    index: &Index<'a>,
+    found: &mut Breaches,
+) -> Result<(Members<'a>, Relations<'a>), NoMemory>
+    requires { All (λ e. fits e ≡ true) index.now.spots }
+    ensures faults { OnOk result (found.new ≡ found.old ++ breaking rule.L8 index.now.spots ++ breaking rule.L9 index.now.spots
+        ++ breaking rule.L10 index.now.spots ++ breaking rule.L12 index.now.spots ++ breaking rule.L13 index.now.spots
+        ++ breaking rule.L11 index.now.spots ++ breaking rule.L15 index.now.spots ++ breaking rule.L16 index.now.spots) }
+    ensures members { IfOk result (λ made. AreMembersOf made.0 index.now.spots) }
+    ensures relations { IfOk result (λ made. AreRelationsOf made.1 index.now.spots) }
+{
+    let members = membership(alloc, arena, index, found)?;
+    let relations = relate(alloc, arena, index, found)?;
+    Ok((members, relations))
+}
+
+/// Adds the facts whose targets have no schema and the addresses that have two roles, and gives the roles that were seen.
+fn ended<'a>(
+    alloc: Global,
+    index: &Index<'a>,
+    bases: &Bases,
+    found: &mut Breaches,
+) -> Result<SeenRoles<'a>, NoMemory>
+    requires { All (λ e. e.page < length bases.now.pages) index.now.spots }
+    ensures faults { OnOk result (found.new ≡ found.old ++ breaking rule.L14 index.now.spots
+        ++ flat_map (redirected_at (base_in bases.now.pages) (asked index.now)) index.now.spots) }
+    ensures seen_roles { IfOk result (λ seen. SeesAll (base_in bases.now.pages) index.now.spots seen) }
+{
+    add_lacking_schema(alloc, index, found)?;
+    add_redirected(alloc, index, bases, found)
+}
+
 /// Adds the rules on links that the elements of a set break, and gives what was made of the links.
 pub(crate) fn link_all<'s, 'a>(
     alloc: Global,
@@ -104,13 +157,9 @@ pub(crate) fn link_all<'s, 'a>(
     ensures index { IfOk result (λ l. l.index ≡ index.entry) }
     ensures bases { IfOk result (λ l. l.bases ≡ bases.entry) }
 {
-    index.doubled(found)?;
-    add_refs(index, found)?;
-    let chains = link(alloc, arena, index, found)?;
-    let members = membership(alloc, arena, index, found)?;
-    let relations = relate(alloc, arena, index, found)?;
-    add_lacking_schema(alloc, index, found)?;
-    let seen_roles = add_redirected(alloc, index, bases, found)?;
+    let chains = chained(alloc, arena, index, found)?;
+    let (members, relations) = tied(alloc, arena, index, found)?;
+    let seen_roles = ended(alloc, index, bases, found)?;
     Ok(Linked {
         index,
         bases,

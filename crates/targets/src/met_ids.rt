@@ -4,8 +4,8 @@ ghost use Rattle.targets.specs.LinkTables as tables;
 ghost use Rattle.targets.specs.LinkTables.{AreFirstOnPages, IsFirstOnPage, named_of, named_in};
 
 use crate::agreeing::Standing;
-use indexmap::IndexMap;
 use ix_base::NoMemory;
+use text_map::TextMap;
 
 /// How an id stands, and how many links name it.
 #[derive(Clone, Copy)]
@@ -15,7 +15,7 @@ pub(crate) struct Named<'a> {
 }
 
 /// The ids that were met.
-pub(crate) type Names<'a> = IndexMap<&'a str, Named<'a>>;
+pub(crate) type Names<'a> = TextMap<'a, Named<'a>>;
 
 /// What is known of an id that wasn't met.
 pub(crate) fn unmet<'a>() -> Named<'a>
@@ -46,8 +46,9 @@ pub(crate) fn name_once_more<'a>(names: &mut Names<'a>, id: &'a str) -> Result<N
         ≡ (if bytes_eq q id.entry.now then tables.named_once_more (named_in names.old q) else named_in names.old q)) }
     ensures pages { AreFirstOnPages names.old → OnOk result (AreFirstOnPages names.new) }
 {
-    let named = names.entry(id)?.or_insert(unmet());
-    let before = *named;
-    named.links = before.links.checked_add(1).ok_or(NoMemory)?;
+    let before = known(names, id);
+    let links = before.links.checked_add(1).ok_or(NoMemory)?;
+    let standing = before.standing;
+    names.insert(id, Named { standing, links })?;
     Ok(before)
 }

@@ -2,8 +2,8 @@
 //!
 //! A link is an id that an attribute of an element names. It is pending as long as no element has the id, resolved where one has
 //! it, or several contexts or units of one normal form, and doubled where more have it that don't agree. Each id that was met
-//! lies in a hashed table, with how it stands and how many links name it; so an element that comes, and a link that comes, cost
-//! one look-up each. Of an element that comes the kind is asked once, and only the attributes that its kind has are looked at.
+//! lies in a table, with how it stands and how many links name it; so an element that comes, and a link that comes, cost a look-up
+//! and an entry each, whatever the ids are. Of an element that comes the kind is asked once, and only the attributes that its kind has are looked at.
 ghost use Rattle.std.specs.Prelude.{◌≡◌, ◌++◌, ◌∷◌, ◌≤◌, [], ℕ, List, OnOk, IfOk, IfSome, filter, option_map, if◌then◌else◌, bytes_eq, true};
 ghost use Rattle.ix_base.specs.Forms.{words_of};
 ghost use Rattle.ix_base.specs.Ids.{tuple_id_of};
@@ -22,12 +22,12 @@ ghost use Rattle.targets.specs.LinkStates.{Link, links_of};
 
 use crate::agreeing::{PageNames, Standing, with_holder, with_tuple};
 use crate::link_ids::{LinkAttribute, attributes_of, ids_in, list_at, single_at};
-use crate::met_ids::{Named, Names, known, name_once_more, unmet};
+use crate::met_ids::{Named, Names, known, name_once_more};
 use id_table::id_at;
-use indexmap::IndexMap;
 use ix_base::{Kind, NoMemory, Spot, kind_of, token_at};
 use scopes::is_ncname;
 use std::alloc::Global;
+use text_map::TextMap;
 
 /// The links of the elements so far: the ids and the tuple ids that were met, and how many links are pending and doubled.
 #[derive(Drop)]
@@ -55,8 +55,8 @@ impl<'a> Links<'a> {
         ensures { (names : ℕ → List ℕ) → AreLinked names [] [] [] result }
     {
         Links {
-            ids: IndexMap::new(alloc),
-            tuple_ids: IndexMap::new(alloc),
+            ids: TextMap::new(alloc),
+            tuple_ids: TextMap::new(alloc),
             pending: 0,
             doubled: 0,
         }
@@ -132,10 +132,10 @@ impl<'a> Links<'a> {
         let Some(id) = id_at(spot) else {
             return Ok(());
         };
-        let named = self.ids.entry(id)?.or_insert(unmet());
-        let before = *named;
+        let before = known(&self.ids, id);
+        let links = before.links;
         let standing = with_holder(alloc, names, before.standing, spot)?;
-        named.standing = standing;
+        self.ids.insert(id, Named { standing, links })?;
         self.count_holder(before, standing)
     }
 
@@ -149,10 +149,10 @@ impl<'a> Links<'a> {
         let Some(id) = tuple_id_at(kind, spot) else {
             return Ok(());
         };
-        let named = self.tuple_ids.entry(id)?.or_insert(unmet());
-        let before = *named;
+        let before = known(&self.tuple_ids, id);
+        let links = before.links;
         let standing = with_tuple(before.standing, spot);
-        named.standing = standing;
+        self.tuple_ids.insert(id, Named { standing, links })?;
         self.count_holder(before, standing)
     }
 

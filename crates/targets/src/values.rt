@@ -12,7 +12,7 @@ ghost use Rattle.std.specs.Prelude.{Result as ResultOf};
 ghost use Rattle.ix_base.specs.declared.breach.Found.{Found};
 ghost use Rattle.facts.specs.ItemValue.{IsItem};
 ghost use Rattle.facts.specs.Verdicts.{said};
-ghost use Rattle.id_table.specs.Tables.{all_located};
+ghost use Rattle.id_table.specs.Tables.{all_located, AreOnOwnPages};
 ghost use Rattle.targets.specs.Faults.{AreOfItems, fault_by, rule_said, faultless, value_fault};
 ghost use Rattle.targets.specs.Linked.{IsLinked, IsValued, all_of, bases_of};
 ghost use Rattle.targets.specs.Seen.{AreAmong};
@@ -39,6 +39,7 @@ fn chain_of<'a>(linked: &Linked<'_, 'a>, spot: &Spot<'a>) -> &'a [&'a Spot<'a>]
     ensures chain { is_kind kind.NonNumeric (located spot.now) ≡ true
         → all_located result.now ≡ spec.chain (asks (all_of linked.now)) (located spot.now) }
     ensures pages { All (λ s. (place_of s.now).page < length (bases_of linked.now)) result.now }
+    ensures own { AreOnOwnPages result.now }
 {
     if kind_of(spot) == Kind::NonNumeric {
         linked.chains.of(spot)

@@ -9,24 +9,24 @@ use Rattle.ix_base.specs.declared.tree.Spot as spots
 use Rattle.ix_base.specs.Elements.{path_above, place_of, placed}
 use Rattle.ix_base.specs.Located.{Located, is_tuple, located, on_page}
 use Rattle.ix_base.specs.Membership.{nearest_tuple}
-use Rattle.ix_base.specs.Spots.{pages_up, IsOnOnePage}
-use Rattle.id_table.specs.Tables.{pages_above}
-use Rattle.id_table.proofs.OnPages.{All-of, pages_up-is}
+use Rattle.ix_base.specs.Spots.{elements_up, IsOn, IsOnOnePage}
+use Rattle.id_table.specs.Tables.{elements_above}
+use Rattle.id_table.proofs.OnPages.{On-of, elements_up-is}
 use Rattle.tuples.specs.declared.fact.Owner.{Owner}
 use Rattle.tuples.specs.Known.{owner_seen}
 
 -- a spot is of the page of which all from it up is
-page-at : (n : ℕ) (s : Spot) → All (λ p. p ≡ n) (pages_up s) → (place_of s).page ≡ n
-page-at n s h = All-head (λ p. p ≡ n) (place_of s).page (pages_above (out-Spot s).up) (subst (All (λ p. p ≡ n)) (pages_up-is s) h)
+page-at : (n : ℕ) (s : Spot) → All (IsOn n) (elements_up s) → (place_of s).page ≡ n
+page-at n s h = (All-head (IsOn n) (out-Spot s).element.now (elements_above (out-Spot s).up) (subst (All (IsOn n)) (elements_up-is s) h)).page
 
-pub above-on : (n : ℕ) (s : Spot) → All (λ p. p ≡ n) (pages_up s) → All (λ p. p ≡ n) (pages_above (out-Spot s).up)
-above-on n s h = All-tail (λ p. p ≡ n) (place_of s).page (pages_above (out-Spot s).up) (subst (All (λ p. p ≡ n)) (pages_up-is s) h)
+pub above-on : (n : ℕ) (s : Spot) → All (IsOn n) (elements_up s) → All (IsOn n) (elements_above (out-Spot s).up)
+above-on n s h = All-tail (IsOn n) (out-Spot s).element.now (elements_above (out-Spot s).up) (subst (All (IsOn n)) (elements_up-is s) h)
 
-pub located-on : (n : ℕ) (s : Spot) → All (λ p. p ≡ n) (pages_up s) → located s ≡ on_page n (placed s)
+pub located-on : (n : ℕ) (s : Spot) → All (IsOn n) (elements_up s) → located s ≡ on_page n (placed s)
 located-on n s h = ap (λ m. on_page m (placed s)) (page-at n s h)
 
-pub on-own : (n : ℕ) (s : Spot) → All (λ p. p ≡ n) (pages_up s) → IsOnOnePage s
-on-own n s h = All-of n (place_of s).page (pages_up s) (page-at n s h) h
+pub on-own : (n : ℕ) (s : Spot) → All (IsOn n) (elements_up s) → IsOnOnePage s
+on-own n s h = On-of n (place_of s).page (elements_up s) (page-at n s h) h
 
 above-is : (s : Spot) → (placed s).above ≡ path_above (out-Spot s).up
 above-is s = search (rules, spots.the_lemmas)
@@ -41,8 +41,8 @@ nearest-next n at s r is other h =
     ∙ ap (λ o. nearest_tuple n (path_above o)) (sym is) ∙ h
 
 -- all from a spot up, where it is the one
-pub all-at : (n : ℕ) (at : Option (Bor Spot)) (s : Bor Spot) → at ≡ Some s → All (λ p. p ≡ n) (pages_above at) → All (λ p. p ≡ n) (pages_up s.now)
-all-at n at s is h = subst (λ o. All (λ p. p ≡ n) (pages_above o)) is h
+pub all-at : (n : ℕ) (at : Option (Bor Spot)) (s : Bor Spot) → at ≡ Some s → All (IsOn n) (elements_above at) → All (IsOn n) (elements_up s.now)
+all-at n at s is h = subst (λ o. All (IsOn n) (elements_above o)) is h
 
 -- the nearest tuple around a spot, with its own page
 pub around-is : (n : ℕ) (s : Spot) (r : Option Owner) (o : Owner) → r ≡ Some o → option_map owner_seen r ≡ nearest_tuple n (path_above (out-Spot s).up)

@@ -5,9 +5,9 @@ ghost use Rattle.ix_base.specs.Ids as ids;
 ghost use Rattle.ix_base.specs.Located as kinds;
 ghost use Rattle.ix_base.specs.Located.{located, on_page, offset_of};
 ghost use Rattle.ix_base.specs.Membership as spec;
-ghost use Rattle.ix_base.specs.Spots.{IsOnOnePage};
+ghost use Rattle.ix_base.specs.Spots.{IsOn, IsOnOnePage};
 ghost use Rattle.id_table.specs.Held.{asked};
-ghost use Rattle.id_table.specs.Tables.{pages_above};
+ghost use Rattle.id_table.specs.Tables.{elements_above};
 ghost use Rattle.tuples.specs.Known.{owner_seen};
 
 use crate::fact::Owner;
@@ -40,8 +40,8 @@ pub(crate) fn nearest_tuple<'a>(page: u32, up: Option<&'a Spot<'a>>) -> Option<O
     ensures owner { option_map owner_seen result ≡ spec.nearest_tuple page (path_above up.entry) }
 
     // Where all above is of that page, so are the tuple and all above it.
-    ensures located { All (λ p. p ≡ page) (pages_above up.entry) → IfSome result (λ o. located o.spot.now ≡ owner_seen o) }
-    ensures page { All (λ p. p ≡ page) (pages_above up.entry) → IfSome result (λ o. IsOnOnePage o.spot.now) }
+    ensures located { All (IsOn page) (elements_above up.entry) → IfSome result (λ o. located o.spot.now ≡ owner_seen o) }
+    ensures page { All (IsOn page) (elements_above up.entry) → IfSome result (λ o. IsOnOnePage o.spot.now) }
 {
     let mut at = up;
     while let Some(around) = at {

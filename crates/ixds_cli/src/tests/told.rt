@@ -6,7 +6,6 @@ use ix_base::{NoMemory, Text};
 use ixds_files::{Blamed, Cause};
 use ixds_run::Status;
 use std::alloc::Global;
-use std::test::Fail;
 
 /// An object that tells this.
 #[derive(Drop)]
@@ -35,7 +34,7 @@ impl<'a> Blamed for Told<'a> {
 }
 
 #[test]
-fn a_person_is_told_what_failed(rt: HostRuntime) -> Result<(), Fail> {
+fn a_person_is_told_what_failed(rt: HostRuntime) {
     let alloc = rt.alloc();
     let rows: [(Status, Option<&str>, Option<Cause>, &[u8]); 7] = [
         (
@@ -81,11 +80,19 @@ fn a_person_is_told_what_failed(rt: HostRuntime) -> Result<(), Fail> {
         complain(alloc, &[], status, &file, &file, &out, &mut err);
         assert!(rt; err.as_slice() == due, "{name:?}");
     }
-    Ok(())
+}
+
+/// The words of a line.
+fn words_in(alloc: Global, line: &str) -> Result<Vec<Text>, NoMemory> {
+    let mut words = Vec::new(alloc);
+    for word in line.split(' ') {
+        words.push(Text::of(alloc, word)?)?;
+    }
+    Ok(words)
 }
 
 #[test]
-fn a_person_is_told_which_word_is_wrong(rt: HostRuntime) -> Result<(), Fail> {
+fn a_person_is_told_which_word_is_wrong(rt: HostRuntime) {
     let alloc = rt.alloc();
     let rows: [(&str, Option<&str>); 29] = [
         ("check --base http://a/ a", None),
@@ -152,13 +159,10 @@ fn a_person_is_told_which_word_is_wrong(rt: HostRuntime) -> Result<(), Fail> {
         ),
     ];
     for (line, due) in rows {
-        let mut words = Vec::new(alloc);
-        for word in line.split(' ') {
-            words.push(Text::of(alloc, word)?)?;
-        }
-        let told = wrong_line(alloc, words.as_slice())?;
+        let words = words_in(alloc, line).expect(&rt, line);
+        let told = wrong_line(alloc, words.as_slice()).expect(&rt, line);
         let due = match due {
-            Some(due) => Some(format!(in alloc; "ixds: {due}\n")?),
+            Some(due) => Some(format!(in alloc; "ixds: {due}\n").expect(&rt, line)),
             None => None,
         };
         assert!(rt;
@@ -166,5 +170,4 @@ fn a_person_is_told_which_word_is_wrong(rt: HostRuntime) -> Result<(), Fail> {
             "{line}"
         );
     }
-    Ok(())
 }

@@ -1,12 +1,12 @@
 //! Words as the system hands them over.
 
 use crate::words::words_of;
+use ix_base::NoMemory;
 use std::alloc::Global;
 use std::env::Args;
-use std::test::Fail;
 
 /// Words as the system hands them over.
-fn handed(alloc: Global, words: &[&str]) -> Result<Args, Fail> {
+fn handed(alloc: Global, words: &[&str]) -> Result<Args, NoMemory> {
     let mut all = Vec::new(alloc);
     for word in words {
         all.push(String::from_str(alloc, word)?)?;
@@ -15,7 +15,7 @@ fn handed(alloc: Global, words: &[&str]) -> Result<Args, Fail> {
 }
 
 #[test]
-fn the_first_word_is_left_out(rt: HostRuntime) -> Result<(), Fail> {
+fn the_first_word_is_left_out(rt: HostRuntime) {
     let alloc = rt.alloc();
     let rows: [(&[&str], &[&str]); 4] = [
         (&[], &[]),
@@ -24,11 +24,11 @@ fn the_first_word_is_left_out(rt: HostRuntime) -> Result<(), Fail> {
         (&["ixds", "ixds", "", "b c"], &["ixds", "", "b c"]),
     ];
     for (all, expected) in rows {
-        let words = words_of(alloc, Ok(handed(alloc, all)?))?;
+        let all_of_them = handed(alloc, all).expect(&rt, "words");
+        let words = words_of(alloc, Ok(all_of_them)).expect(&rt, "their texts");
         assert!(rt; words.len() == expected.len(), "{all:?}");
         for (word, text) in words.iter().zip(expected) {
             assert!(rt; word.as_str() == *text, "{all:?}");
         }
     }
-    Ok(())
 }

@@ -12,4 +12,4 @@ returns c =
     let stands = c.in_ok-feed.ensures.stands [] c.new-builder.ensures.stands in
     let is = subst (λ (depth : ℕ). page bytes depth (tree_of root)) (c.in_ok-feed.ensures.limit ∙ c.new-builder.ensures.limit) (c.in-Ok.ensures.root bytes stands) in
     subst (λ (number : ℕ). IsSoundRoot root number 256) (c.in_ok-feed.ensures.page ∙ c.new-builder.ensures.page)
-    (c.sound_tree.ensures.root bytes 256 (page_number c.feed.new.self) root is (c.in-Ok.ensures.page bytes stands))
+    (c.sound_tree.ensures.root bytes 256 (page_number c.feed.new.self) root is (c.in-Ok.ensures.page bytes stands) (c.in-Ok.ensures.spaces bytes stands))

@@ -6,7 +6,7 @@ use Rattle.ixds_run.proofs.forest.end_tree.Goals as goal
 pub returns-in_ok-push-in-Ok-clause-gained : goal.returns-in_ok-push-in-Ok-clause-gained
 returns-in_ok-push-in-Ok-clause-gained c b h =
     gained_root c.args.number b (limit c.args.tree) _ _ c.in-Ok.root c.requires.depth (c.in-Ok.ensures.verdict b h (λ e. cc)) refl c.in_ok-push-in-Ok.ensures.items
-    (c.in-Ok.ensures.root b h) (c.in-Ok.ensures.page b h) c.requires.page
+    (c.in-Ok.ensures.root b h) (c.in-Ok.ensures.page b h) (c.in-Ok.ensures.spaces b h) c.requires.page
 
 pub returns-in_ok-add-in-Err-Broken-clause-gained : goal.returns-in_ok-add-in-Err-Broken-clause-gained
 returns-in_ok-add-in-Err-Broken-clause-gained c b h =

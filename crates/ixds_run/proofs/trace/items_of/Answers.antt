@@ -58,3 +58,8 @@ returns c =
     let all = all_came c.args.names.now (map (λ t. t.now) c.args.texts.now) c.args.roots.now c.loop-number.number (omega (arith, past))
     (length-map c.args.texts.now (λ t. t.now) ∙ c.requires.count) c.requires.roots in
     IfOk-weaker c.finish.result _ _ (λ l h. h ∙ ap traces (ap (λ (h : Held). h.sources) c.loop-number.invariant ∙ all)) c.finish.ensures.traced
+
+pub add_page-requires-clause-spaces : goal.add_page-requires-clause-spaces
+add_page-requires-clause-spaces c =
+    (page_comes c.args.names.now c.args.texts.now c.args.roots.now c.loop-number.number c.index-names-number.result (record { ref_ptr = (0, 0); now = [] }) c.index-roots-number.result
+    c.loop-number-test.true c.requires.count c.requires.once c.requires.roots c.index-names-number.is c.index-roots-number.is).root.2

@@ -74,3 +74,6 @@ returns-clause-verdict c = λ us z h e n.
 
 pub returns-in-Ok-root_behind-clause-page : goal.returns-in-Ok-root_behind-clause-page
 returns-in-Ok-root_behind-clause-page c = λ h. c.in-Ok-root_behind.ensures.page c.args.setting.now.page (c.in-Ok.ensures.on_page h)
+
+pub returns-in-Ok-root_behind-clause-spaces : goal.returns-in-Ok-root_behind-clause-spaces
+returns-in-Ok-root_behind-clause-spaces c = λ h. c.in-Ok-root_behind.ensures.spaces c.args.setting.now.page (c.in-Ok.ensures.on_page h)

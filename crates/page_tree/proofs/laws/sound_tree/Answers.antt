@@ -6,4 +6,4 @@ pub returns-clause-tree : goal.returns-clause-tree
 returns-clause-tree c = page-sound
 
 pub returns-clause-root : goal.returns-clause-root
-returns-clause-root c = λ b n number e is pages. record { tree = page-sound b n (tree_of e) is; pages = pages }
+returns-clause-root c = λ b n number e is pages spaces. record { tree = page-sound b n (tree_of e) is; pages = pages; spaces = spaces }

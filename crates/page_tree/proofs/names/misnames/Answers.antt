@@ -1,6 +1,6 @@
 use Rattle.std.proofs.Common.{◌≡◌, ◌∙◌, true, false, not, ◌&&◌, refl, sym, ap, map}
 use Rattle.std.specs.List.{list_any}
-use Rattle.ix_base.specs.Trees.{bound}
+use Rattle.ix_base.specs.Trees.{bindings_in}
 use Rattle.page_tree.specs.Expansions.{is_unknown}
 use Rattle.page_tree.specs.Tags.{declares, is_unbound}
 use Rattle.page_tree.specs.Views.{attribute_of}
@@ -9,7 +9,7 @@ use Rattle.page_tree.proofs.names.misnames.Goals as goal
 
 pub returns-then-has_unknown : goal.returns-then-has_unknown
 returns-then-has_unknown c =
-    let scope = map bound c.args.scope.bindings.now in
+    let scope = bindings_in c.args.scope in
     let attrs = map attribute_of c.args.tag.now.attrs.now in
     let name : is_unbound scope c.args.tag.now.name.name.now ≡ false = sym c.is_unbound.ensures ∙ c.if-is_unbound.false in
     let some : list_any (λ a. not (declares a) && is_unbound scope a.name) attrs ≡ true =
@@ -18,7 +18,7 @@ returns-then-has_unknown c =
 
 pub returns : goal.returns
 returns c =
-    let scope = map bound c.args.scope.bindings.now in
+    let scope = bindings_in c.args.scope in
     let attrs = map attribute_of c.args.tag.now.attrs.now in
     let name : is_unbound scope c.args.tag.now.name.name.now ≡ false = sym c.is_unbound.ensures ∙ c.if-is_unbound.false in
     let none : list_any (λ a. not (declares a) && is_unbound scope a.name) attrs ≡ false =

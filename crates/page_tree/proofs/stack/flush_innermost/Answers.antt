@@ -1,7 +1,9 @@
 use Rattle.std.proofs.Common.{◌≡◌, ◌++◌, ◌∷◌, [], rules, string_bytes}
 use Rattle.page_tree.specs.Machine.{flush}
-use Rattle.page_tree.specs.Stacks.{frame}
-use Rattle.page_tree.proofs.PageNumbers.{same-pages}
+use Rattle.ix_base.specs.Elements.{pages_of}
+use Rattle.ix_base.specs.Spaces.{spaces_of}
+use Rattle.page_tree.specs.Stacks.{frame, pages_open, spaces_open}
+use Rattle.page_tree.proofs.BuiltLaws.{same-last}
 use Rattle.page_tree.proofs.StackLaws.{flushed-snoc}
 use Rattle.page_tree.proofs.stack.flush_innermost.Goals as goal
 
@@ -16,4 +18,10 @@ pub returns-clause-pages : goal.returns-clause-pages
 returns-clause-pages c =
     let split : c.args.elements.now.items ≡ c.pop.new.self.items ++ c.in-Some.parent ∷ [] = search rules in
     let pushed : c.push.new.self.items ≡ c.pop.new.self.items ++ c.flush.new.self ∷ [] = search rules in
-    same-pages c.args.elements.now.items c.pop.new.self.items _ c.in-Some.parent c.flush.new.self split pushed c.in_ok-flush.ensures.pages
+    same-last pages_of pages_open c.args.elements.now.items c.pop.new.self.items _ c.in-Some.parent c.flush.new.self split pushed c.in_ok-flush.ensures.pages
+
+pub returns-clause-spaces : goal.returns-clause-spaces
+returns-clause-spaces c =
+    let split : c.args.elements.now.items ≡ c.pop.new.self.items ++ c.in-Some.parent ∷ [] = search rules in
+    let pushed : c.push.new.self.items ≡ c.pop.new.self.items ++ c.flush.new.self ∷ [] = search rules in
+    same-last spaces_of spaces_open c.args.elements.now.items c.pop.new.self.items _ c.in-Some.parent c.flush.new.self split pushed c.in_ok-flush.ensures.spaces

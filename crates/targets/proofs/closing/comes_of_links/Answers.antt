@@ -1,17 +1,13 @@
-use Rattle.std.proofs.Common.{◌≡◌, ◌<◌, All, List, [], ap, inl, inr, length, map, subst, sym, true}
+use Rattle.std.proofs.Common.{◌≡◌, All, List, [], ap, map, subst, sym, true}
 use Rattle.std.specs.Borrow.{Bor}
-use Rattle.std.proofs.lemmas.Result.{IfOk-weaker}
 use Rattle.ix_base.specs.declared.rule.Rule.TheVariants as rule
 use Rattle.ix_base.specs.LinkRules.{breaking}
 use Rattle.ix_base.specs.Located.{Located, base_in}
 use Rattle.id_table.specs.Held.{Held}
 use Rattle.scopes.specs.Kept.{Kept}
 use Rattle.tuples.specs.Fits.{fits}
-use Rattle.targets.specs.Faults.{link_faults}
-use Rattle.targets.specs.Holding.{as_paged, set_of}
-use Rattle.targets.specs.PageSet.{base_at, elements}
-use Rattle.targets.proofs.BelowLaws.{broken-below, same-below}
-use Rattle.targets.proofs.ComesLaws.{faults-are, is-linked, keeps-on, none-deep, none-is, none-same, on-names, report-alike, some-is, some-same}
+use Rattle.targets.specs.Holding.{as_paged}
+use Rattle.targets.proofs.ComesLaws.{faults-are, is-linked, keeps-on, none-deep, none-same}
 use Rattle.targets.proofs.FitLaws.{all-fit}
 use Rattle.targets.proofs.closing.comes_of_links.Goals as goal
 
@@ -25,39 +21,17 @@ link_all-requires-clause-chosen c = c.requires.keeps.chosen
 pub link_all-requires-clause-pages : goal.link_all-requires-clause-pages
 link_all-requires-clause-pages c = keeps-on _ _ _ _ c.requires.keeps
 
-pub comes_of_values-requires-clause-linked : goal.comes_of_values-requires-clause-linked
-comes_of_values-requires-clause-linked c =
+pub comes_of_linked-requires-clause-linked : goal.comes_of_linked-requires-clause-linked
+comes_of_linked-requires-clause-linked c = λ none.
     is-linked c.in_ok-linked.linked _ _ _ _ c.requires.keeps (ap (λ (b : Bor Held). b.now) c.in_ok-linked.ensures.index)
-    (ap (λ (b : Bor Kept). b.now) c.in_ok-linked.ensures.bases)
-    (c.in_ok-linked.ensures.chains (none-is c.link_all.new.found c.is_empty.result c.is_empty.ensures c.if-is_empty.true))
+    (ap (λ (b : Bor Kept). b.now) c.in_ok-linked.ensures.bases) (c.in_ok-linked.ensures.chains none)
     c.in_ok-linked.ensures.members c.in_ok-linked.ensures.relations c.in_ok-linked.ensures.seen_roles
 
-pub comes_of_values-requires-clause-shallow : goal.comes_of_values-requires-clause-shallow
-comes_of_values-requires-clause-shallow c =
+pub comes_of_linked-requires-clause-shallow : goal.comes_of_linked-requires-clause-shallow
+comes_of_linked-requires-clause-shallow c = λ none.
     subst (λ (b : Bor Held). breaking rule.L9 b.now.spots ≡ []) (sym c.in_ok-linked.ensures.index)
     (none-deep (base_in c.args.pages.now.bases.now.pages) c.args.pages.now.index.now.spots
-    (none-same c.link_all.new.found _ c.in_ok-linked.ensures.faults (none-is c.link_all.new.found c.is_empty.result c.is_empty.ensures c.if-is_empty.true)))
+    (none-same c.link_all.new.found _ c.in_ok-linked.ensures.faults none))
 
-pub returns-then-is_empty-clause-comes : goal.returns-then-is_empty-clause-comes
-returns-then-is_empty-clause-comes c =
-    let none = none-same c.link_all.new.found (link_faults (set_of c.args.pages.now))
-    (faults-are _ _ _ _ c.link_all.new.found c.requires.keeps c.in_ok-linked.ensures.faults)
-    (none-is c.link_all.new.found c.is_empty.result c.is_empty.ensures c.if-is_empty.true) in
-    IfOk-weaker c.comes_of_values.result _ _ (λ o h. inr (none, h)) c.comes_of_values.ensures.comes
-
-pub reported-requires : goal.reported-requires
-reported-requires c =
-    let s = set_of c.args.pages.now in
-    let m = length c.args.names.now in
-    same-below m c.link_all.new.found (link_faults s) (faults-are _ _ _ _ c.link_all.new.found c.requires.keeps c.in_ok-linked.ensures.faults)
-    (broken-below m (base_at s) (elements s)
-    (subst (λ (es : List Located). All (λ e. e.page < m) es) c.requires.keeps.spots
-    (on-names s c.args.pages.now.index.now.spots c.args.names.now c.args.pages.now.bases.now.pages c.requires.names
-    (ap (λ (k : Kept). k.pages) c.requires.keeps.bases) (keeps-on _ _ _ _ c.requires.keeps))))
-
-pub returns-clause-comes : goal.returns-clause-comes
-returns-clause-comes c =
-    let s = set_of c.args.pages.now in
-    let same = faults-are _ _ _ _ c.link_all.new.found c.requires.keeps c.in_ok-linked.ensures.faults in
-    let some = some-same c.link_all.new.found (link_faults s) same (some-is c.link_all.new.found c.is_empty.result c.is_empty.ensures c.if-is_empty.false) in
-    IfOk-weaker c.reported.result _ _ (λ o h. inl (some, report-alike c.args.names.now c.link_all.new.found (link_faults s) same o h)) c.reported.ensures.report
+pub comes_of_linked-requires-clause-found : goal.comes_of_linked-requires-clause-found
+comes_of_linked-requires-clause-found c = faults-are _ _ _ _ c.link_all.new.found c.requires.keeps c.in_ok-linked.ensures.faults

@@ -1,37 +1,13 @@
-use Rattle.std.proofs.Common.{◌∙◌, ◌∷◌, [], ◌++◌, ℕ, List, ap, map, sym, take}
-use Rattle.std.proofs.lemmas.List.{map-append, take_all}
-use Rattle.std.proofs.lemmas.List.Elements.{All-push, All-same}
-use Rattle.std.specs.Borrow.{Bor}
+use Rattle.std.proofs.Common.{◌∙◌, ap, subst}
+use Rattle.std.proofs.lemmas.Result.{IfOk-weaker}
 use Rattle.ix_base.specs.Located.{base_in}
-use Rattle.instance_out.specs.Writable.{IsWritable}
-use Rattle.targets.specs.declared.outcome.Target.{Target}
-use Rattle.targets.specs.Contents.{IsContent}
 use Rattle.targets.specs.Linked.{all_of, bases_of}
 use Rattle.targets.specs.Seen.{values_of}
-use Rattle.targets.proofs.AmongLaws.{map-more-at}
+use Rattle.targets.specs.SetOutcomes.{AreTargets}
 use Rattle.targets.proofs.contents.targets_of.Goals as goal
 
-pub loop-name-preserved : goal.loop-name-preserved
-loop-name-preserved c =
-    let names = c.as_slice-name-items.result.now in
-    let i = c.loop-name.name-index in
-    let d : Bor (List ℕ) = record { ref_ptr = (0, 0); now = [] } in
-    let before = c.loop-name.targets in
-    let t = c.in_ok-target.target in
-    let Is = λ (x : Target). IsContent (base_in (bases_of c.args.linked.now)) (all_of c.args.linked.now) x.name x.content in
-    let Fits = λ (x : Target). IsWritable x.content in record {
-      names = ap (map (λ (x : Target). x.name)) c.in_ok-push.ensures.ok ∙ map-append (λ (x : Target). x.name) before (t ∷ [])
-          ∙ ap (λ xs. xs ++ t.name ∷ []) c.loop-name.invariant.names
-          ∙ ap (λ n. values_of (take i names) ++ n ∷ []) c.in_ok-target.ensures.name
-          ∙ sym (map-more-at (λ (x : Bor (List ℕ)). x.now) names i d c.loop-name-test.true);
-      contents = All-same Is _ _ c.in_ok-push.ensures.ok (All-push Is before t c.loop-name.invariant.contents c.in_ok-target.ensures.content);
-      written = All-same Fits _ _ c.in_ok-push.ensures.ok (All-push Fits before t c.loop-name.invariant.written c.in_ok-target.ensures.written);
-    }
-
 pub returns-clause-targets : goal.returns-clause-targets
-returns-clause-targets c = record {
-  names = c.loop-name.invariant.names
-      ∙ ap values_of (take_all c.loop-name.name-index c.as_slice-name-items.result.now c.loop-name-test.false ∙ c.as_slice-name-items.ensures.value)
-      ∙ c.in_ok-names.ensures;
-  contents = c.loop-name.invariant.contents;
-}
+returns-clause-targets c =
+    let names = ap values_of c.as_slice.ensures.value ∙ c.in_ok-names.ensures in
+    IfOk-weaker c.targets_named.result _ _ (λ ts h. subst (λ ns. AreTargets (base_in (bases_of c.args.linked.now)) (all_of c.args.linked.now) ns ts) names h)
+    c.targets_named.ensures.targets

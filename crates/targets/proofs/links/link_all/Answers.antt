@@ -17,22 +17,16 @@ returns-clause-faults c =
     let es = c.args.index.now.spots in
     let bases = base_in c.args.bases.now.pages in
     let on : Rule → List Found = λ r. breaking r es in
-    let ids = c.in_ok-doubled.ensures.ok ∙ ap (λ (x : List Found). c.args.found.now ++ x) (c.in_ok-doubled.ensures.chosen c.requires.chosen)
-    ∙ ap (λ (x : List Found). x ++ on rule.L1) c.requires.none in
-    let refs = c.in_ok-add_refs.ensures ∙ ap (λ (x : List Found). x ++ flat_map (refs_at (asks es)) es) ids in
-    let chains = c.in_ok-chains.ensures.breaches ∙ ap (λ (x : List Found). x ++ on rule.L4 ++ on rule.L5 ++ on rule.L6 ++ on rule.L7) refs in
-    let tuples = c.in_ok-members.ensures.breaches ∙ ap (λ (x : List Found). x ++ on rule.L8 ++ on rule.L9 ++ on rule.L10 ++ on rule.L12 ++ on rule.L13) chains in
-    let ends = c.in_ok-relations.ensures.breaches ∙ ap (λ (x : List Found). x ++ on rule.L11 ++ on rule.L15 ++ on rule.L16) tuples in
-    let schemas = c.in_ok-add_lacking_schema.ensures ∙ ap (λ (x : List Found). x ++ on rule.L14) ends in
-    let roles = c.in_ok-seen_roles.ensures.faults ∙ ap (λ (x : List Found). x ++ flat_map (redirected_at bases (asks es)) es) schemas in
-    subst (λ (xs : List Found). SameMembers xs (broken bases es)) (sym roles) (same-broken bases es)
+    let chains = c.in_ok-chains.ensures.faults
+    ∙ ap (λ (x : List Found). x ++ on rule.L1 ++ flat_map (refs_at (asks es)) es ++ on rule.L4 ++ on rule.L5 ++ on rule.L6 ++ on rule.L7) c.requires.none in
+    let ties = c.in_ok-members.ensures.faults
+    ∙ ap (λ (x : List Found). x ++ on rule.L8 ++ on rule.L9 ++ on rule.L10 ++ on rule.L12 ++ on rule.L13 ++ on rule.L11 ++ on rule.L15 ++ on rule.L16) chains in
+    let all = c.in_ok-seen_roles.ensures.faults ∙ ap (λ (x : List Found). x ++ on rule.L14 ++ flat_map (redirected_at bases (asks es)) es) ties in
+    subst (λ (xs : List Found). SameMembers xs (broken bases es)) (sym all) (same-broken bases es)
 
 pub returns-clause-chains : goal.returns-clause-chains
 returns-clause-chains c = λ none.
     let left : (xs ys : List Found) → xs ++ ys ≡ [] → xs ≡ [] = λ xs ys h. (both-none xs ys h).0 in
-    let schemas = left _ _ (sym c.in_ok-seen_roles.ensures.faults ∙ none) in
-    let ends = left _ _ (sym c.in_ok-add_lacking_schema.ensures ∙ schemas) in
-    let tuples = left _ _ (left _ _ (left _ _ (sym c.in_ok-relations.ensures.breaches ∙ ends))) in
-    let chains = left _ _ (left _ _ (left _ _ (left _ _ (left _ _ (sym c.in_ok-members.ensures.breaches ∙ tuples))))) in
-    let before = left _ _ (left _ _ (left _ _ (left _ _ (sym c.in_ok-chains.ensures.breaches ∙ chains)))) in
-    c.in_ok-chains.ensures.chains (chains ∙ sym before)
+    let ties = left _ _ (left _ _ (sym c.in_ok-seen_roles.ensures.faults ∙ none)) in
+    let chains = left _ _ (left _ _ (left _ _ (left _ _ (left _ _ (left _ _ (left _ _ (left _ _ (sym c.in_ok-members.ensures.faults ∙ ties)))))))) in
+    c.in_ok-chains.ensures.chains chains

@@ -1,9 +1,10 @@
-use Rattle.std.proofs.Common.{arith}
-use Rattle.std.proofs.lemmas.Map.Text.{text_keys}
+use Rattle.std.proofs.Common.{rules}
+use Rattle.targets.proofs.MetLaws.{once-more}
+use Rattle.targets.proofs.StandingLaws.{pages-kept}
 use Rattle.targets.proofs.met_ids.name_once_more.Goals as goal
 
 pub returns-clause-kept : goal.returns-clause-kept
-returns-clause-kept c = λ q. grind (arith, text_keys)
+returns-clause-kept c = λ q. once-more c.args.names.now c.insert.new.self c.args.id.now c.known-before.result _ c.known-before.ensures.named (search rules) c.in_ok-insert.ensures.ok q
 
 pub returns-clause-pages : goal.returns-clause-pages
-returns-clause-pages c = λ h q n is. grind (arith, text_keys, h q, h c.args.id.now)
+returns-clause-pages c = λ h. pages-kept c.args.names.now c.insert.new.self c.args.id.now _ c.in_ok-insert.ensures.ok (c.known-before.ensures.page h) h

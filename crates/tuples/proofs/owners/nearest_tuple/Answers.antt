@@ -1,6 +1,10 @@
 use Rattle.std.proofs.Common.{◌∙◌, sym}
-use Rattle.tuples.proofs.AboveLaws.{above-on, all-at, nearest-next, on-own}
+use Rattle.tuples.proofs.AboveLaws.{above-on, all-at, located-on, nearest-next, on-own}
 use Rattle.tuples.proofs.owners.nearest_tuple.Goals as goal
+
+pub returns-then-is_tuple-clause-located : goal.returns-then-is_tuple-clause-located
+returns-then-is_tuple-clause-located c = λ up.
+    located-on c.args.page c.in-Some.around.now (all-at c.args.page c.loop-at.at c.in-Some.around c.in-Some.is (c.loop-at.invariant.pages up))
 
 pub returns-then-is_tuple-clause-page : goal.returns-then-is_tuple-clause-page
 returns-then-is_tuple-clause-page c = λ up.

@@ -1,6 +1,10 @@
-use Rattle.std.proofs.Common.{rules, subst}
+use Rattle.std.proofs.Common.{subst, sym}
+use Rattle.std.proofs.lemmas.List.Elements.{All-push}
+use Rattle.std.specs.Borrow.{Bor}
+use Rattle.ix_base.specs.declared.tree.Spot.{Spot}
 use Rattle.ix_base.specs.Ids.{tuple_id_of}
-use Rattle.id_table.specs.Tables.{Entered}
+use Rattle.ix_base.specs.Spots.{IsOnOnePage}
+use Rattle.id_table.specs.Tables.{AreOnOwnPages, Entered}
 use Rattle.id_table.proofs.Entering.{each-entered, entries-entered}
 use Rattle.id_table.proofs.tables.Tables.add.Goals as goal
 
@@ -12,5 +16,5 @@ returns-clause-whole c =
       by_id = entries-entered spots now c.args.spot more c.args.self.now.ids c.enter_entry.new.entries c.requires.whole.by_id c.in_ok-enter_entry.ensures;
       by_tuple_id = each-entered spots now c.args.spot more tuple_id_of c.args.self.now.tuples c.enter.new.holders c.requires.whole.by_tuple_id
           (subst (λ id. Entered c.args.self.now.tuples c.enter.new.holders id c.args.spot) c.tuple_id_at.ensures c.in_ok-enter.ensures.ok);
-      on_pages = search rules;
+      on_pages = subst AreOnOwnPages (sym more) (All-push (λ (s : Bor Spot). IsOnOnePage s.now) spots c.args.spot c.requires.whole.on_pages c.requires.page);
     }

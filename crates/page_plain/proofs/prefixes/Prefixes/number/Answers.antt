@@ -1,15 +1,19 @@
-use Rattle.std.proofs.Common.{◌∙◌, map, ap, sym, subst}
-use Rattle.std.specs.List.Sorted.{IsStrictlySortedBy}
-use Rattle.ix_base.specs.Sorted.{text_cmp}
-use Rattle.page_plain.proofs.PlaceLaws.{prefix-found, prefix-missed}
+use Rattle.std.proofs.Common.{◌∙◌, ◌∷◌, ap, map, subst, sym}
+use Rattle.ix_base.specs.Spaces.{AreNumbered, space_of}
+use Rattle.page_plain.specs.Bare.{numbered, prefix_in}
+use Rattle.page_plain.specs.Numbered.{Prefixed}
+use Rattle.page_plain.proofs.PrefixedLaws.{number-some, prefix-number}
 use Rattle.page_plain.proofs.prefixes.Prefixes.number.Goals as goal
 
-pub returns-in-Ok-clause-prefix : goal.returns-in-Ok-clause-prefix
-returns-in-Ok-clause-prefix c =
-    sym (prefix-found c.args.space.now c.deref.result.now c.args.self.now (ap (map (λ s. s.now)) c.deref.ensures.value ∙ c.self.view_is)
-    (subst (IsStrictlySortedBy text_cmp) c.self.view_is c.self.invariant) c.in-Ok.place c.args.space c.in-Ok.ensures.bound (c.in-Ok.ensures.ok c.args.space))
+pub returns-clause-prefix : goal.returns-clause-prefix
+returns-clause-prefix c =
+    prefix-number (map (λ s. s.now) c.self.inside.spaces.items) c.self.inside.numbers c.args.name.now c.self.invariant
+    (subst (λ (p : Prefixed). AreNumbered (space_of c.args.name.now ∷ p.spaces)) (sym c.self.view_is) c.requires)
+    c.copied.result (c.copied.ensures ∙ c.get.ensures.value)
+    ∙ ap (λ (p : Prefixed). prefix_in (numbered 1 p.texts) c.args.name.now.ns.now) c.self.view_is
 
-pub returns-in-Err-clause-prefix : goal.returns-in-Err-clause-prefix
-returns-in-Err-clause-prefix c =
-    sym (prefix-missed c.args.space.now c.deref.result.now c.args.self.now (ap (map (λ s. s.now)) c.deref.ensures.value ∙ c.self.view_is)
-    (subst (IsStrictlySortedBy text_cmp) c.self.view_is c.self.invariant) c.in-Err.field-0 c.in-Err.ensures.bound c.in-Err.ensures.position)
+pub returns-clause-some : goal.returns-clause-some
+returns-clause-some c =
+    number-some (map (λ s. s.now) c.self.inside.spaces.items) c.self.inside.numbers c.args.name.now c.self.invariant
+    (subst (λ (p : Prefixed). AreNumbered (space_of c.args.name.now ∷ p.spaces)) (sym c.self.view_is) c.requires)
+    c.copied.result (c.copied.ensures ∙ c.get.ensures.value)

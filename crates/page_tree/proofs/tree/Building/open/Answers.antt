@@ -3,9 +3,14 @@ use Rattle.std.specs.Borrow.{Bor}
 use Rattle.ix_base.specs.Trees.{tree_of}
 use Rattle.ix_base.specs.declared.tree.Element.{Element}
 use Rattle.page_tree.specs.Buildings.{state_of}
-use Rattle.page_tree.specs.Stacks.{frames_of, pages_built, AreAll}
+use Rattle.ix_base.specs.Elements.{pages_of}
+use Rattle.ix_base.specs.Spaces.{spaces_of}
+use Rattle.page_tree.specs.Spaces.{HasNumber, HaveNumbers}
+use Rattle.page_tree.specs.Stacks.{frames_of, pages_built, pages_open, spaces_built, spaces_open, AreAll}
+use Rattle.page_tree.specs.declared.spaces.Spaces.{Spaces}
 use Rattle.page_tree.specs.Views.{tag_of}
-use Rattle.page_tree.proofs.PageNumbers.{open-built}
+use Rattle.page_tree.proofs.BuiltLaws.{open-built}
+use Rattle.page_tree.proofs.PageNumbers.{all-one}
 use Rattle.page_tree.proofs.Spelled.{st}
 use Rattle.page_tree.proofs.StateLaws.{opening-is}
 use Rattle.page_tree.proofs.tree.Building.open.Goals as goal
@@ -23,6 +28,12 @@ returns c =
     record {
       state = (λ i. st (frames_of more) (string_bytes c.begin.new.self.text) (option_map (λ (e : Bor Element). tree_of e.now) (rest.0 i)) (rest.1 i))
           ∙ opening-is s (tag_of c.args.tag.now) mid more o _ pushed c.in_ok-element.ensures.frames c.in_ok-element.ensures.frame c.in_ok-element.ensures.text;
-      on_page = λ all. subst (λ r. AreAll page (pages_built more r)) (sym rest.0)
-          (open-built page b.elements.items mid more o b.root c.in_ok-element.ensures.on_page pushed c.in_ok-element.ensures.pages all);
+      on_page = λ all. record {
+        pages = subst (λ r. AreAll page (pages_built more r)) (sym rest.0)
+            (open-built pages_of pages_open (λ p. p ≡ page) b.elements.items mid more o b.root c.in_ok-element.ensures.on_page pushed (all-one page (pages_open o) c.in_ok-element.ensures.pages) all.pages);
+        spaces = subst (λ (t : Spaces). HaveNumbers t.numbers (spaces_built more c.begin.new.self.root)) (sym rest.2)
+            (subst (λ r. HaveNumbers b.spaces.numbers (spaces_built more r)) (sym rest.0)
+            (open-built spaces_of spaces_open (HasNumber b.spaces.numbers) b.elements.items mid more o b.root c.in_ok-element.ensures.spaces pushed
+            (c.in_ok-element.ensures.own_spaces c.requires.from b.spaces.numbers (c.requires.spaces all)) all.spaces));
+      };
     }

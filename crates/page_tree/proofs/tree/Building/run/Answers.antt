@@ -9,4 +9,4 @@ returns c = λ page.
     let os = c.args.self.now.elements.items in
     let some : os ≢ [] = search rules in
     let text : string_bytes c.push_str.new.self ≡ s.text ++ c.args.chars.now = search rules in
-    record { state = ap (λ x. record s { text = x }) text ∙ sym (running-some os s c.args.chars.now some refl); on_page = λ all. all }
+    record { state = ap (λ x. record s { text = x }) text ∙ sym (running-some os s c.args.chars.now some refl); on_page = λ all. record { pages = all.pages; spaces = all.spaces } }

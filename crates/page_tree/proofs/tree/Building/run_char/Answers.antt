@@ -9,4 +9,4 @@ returns c = λ page.
     let os = c.args.self.now.elements.items in
     let some : os ≢ [] = search rules in
     let text : string_bytes c.push.new.self ≡ s.text ++ encode_utf8 c.args.ch = search rules in
-    record { state = ap (λ x. record s { text = x }) text ∙ sym (running-some os s (encode_utf8 c.args.ch) some refl); on_page = λ all. all }
+    record { state = ap (λ x. record s { text = x }) text ∙ sym (running-some os s (encode_utf8 c.args.ch) some refl); on_page = λ all. record { pages = all.pages; spaces = all.spaces } }

@@ -1,7 +1,5 @@
-use Rattle.std.proofs.Common.{◌≡◌, ◌∙◌, ap, sym, subst, ℕ, List, ◌≤◌, Some, true, option_map, arith}
+use Rattle.std.proofs.Common.{◌≡◌, ◌∙◌, ap, sym, subst, ℕ, List, ◌≤◌, Some, true, option_map}
 use Rattle.std.specs.Prelude.{bytes_eq, if◌then◌else◌}
-use Rattle.std.specs.Option.{unwrap_or}
-use Rattle.std.proofs.lemmas.Map.Text.{text_keys}
 use Rattle.std.proofs.lemmas.Result.{on_ok_weaker}
 use Rattle.ix_base.specs.Alike.{alike}
 use Rattle.ix_base.specs.Ids.{id_of}
@@ -9,7 +7,6 @@ use Rattle.ix_base.specs.Located.{Located, located}
 use Rattle.targets.specs.declared.met_ids.Named.{Named}
 use Rattle.targets.specs.Holding.{names_of}
 use Rattle.targets.specs.LinkTables.{Known, found_in, is_none, kept_in, kept_with, named_in, named_of, with_holder, counts_of}
-use Rattle.targets.proofs.MetLaws.{first-met, known-met}
 use Rattle.targets.proofs.StandingLaws.{id-kept, id-none, id-waits}
 use Rattle.targets.proofs.standing.Links.hold.Goals as goal
 
@@ -22,9 +19,7 @@ count_holder-requires c p =
     let r = c.requires.some in
     let kept = c.args.self.now in
     let id = c.in-Some.id.now in
-    let before = c.or_insert-named.result.now in
-    let met : before ≡ unwrap_or (found_in kept.ids id) c.unmet.result = c.or_insert-named.ensures.value ∙ ap (λ o. unwrap_or o c.unmet.result) c.in_ok-self.ensures.value in
-    let same : named_of before ≡ named_in kept.ids id = known-met (found_in kept.ids id) c.unmet.result before met c.unmet.ensures.known in
+    let same : named_of c.known-before.result ≡ named_in kept.ids id = c.known-before.ensures.named in
     let own : id_of (located c.args.spot.now) ≡ Some id = sym c.id_at.ensures ∙ ap (option_map (λ s. s.now)) c.in-Some.is in
     subst (λ (k : Known). k.links ≤ kept.pending) (sym same)
     (id-waits r.0 r.1 r.2 r.3 kept r.4 (located c.args.spot.now) id own (subst (λ (k : Known). is_none k.kept ≡ true) same p))
@@ -35,15 +30,14 @@ returns c es ts ls are =
     let e : Located = located c.args.spot.now in
     let kept = c.args.self.now in
     let id = c.in-Some.id.now in
-    let before = c.or_insert-named.result.now in
-    let met : before ≡ unwrap_or (found_in kept.ids id) c.unmet.result = c.or_insert-named.ensures.value ∙ ap (λ o. unwrap_or o c.unmet.result) c.in_ok-self.ensures.value in
-    let same : named_of before ≡ named_in kept.ids id = known-met (found_in kept.ids id) c.unmet.result before met c.unmet.ensures.known in
+    let same : named_of c.known-before.result ≡ named_in kept.ids id = c.known-before.ensures.named in
     let own : id_of (located c.args.spot.now) ≡ Some id = sym c.id_at.ensures ∙ ap (option_map (λ s. s.now)) c.in-Some.is in
-    let now : Named = record { standing = c.in_ok-standing.standing; links = before.links } in
+    let now : Named = record { standing = c.in_ok-standing.standing; links = c.known-before.result.links } in
     let after : kept_in now.standing ≡ kept_with alike names (named_in kept.ids id).kept e =
     c.in_ok-standing.ensures.kept ∙ ap (λ (k : Known). kept_with alike names k.kept e) same in
-    let set : (q : List ℕ) → found_in c.count_holder.new.self.ids q ≡ (if bytes_eq q id then Some now else found_in kept.ids q) = λ q. grind (arith, text_keys) in
-    let first = first-met (found_in kept.ids id) c.unmet.result before met c.unmet.ensures.page (are.pages id) in
+    let set : (q : List ℕ) → found_in c.count_holder.new.self.ids q ≡ (if bytes_eq q id then Some now else found_in kept.ids q) =
+    λ q. ap (λ m. found_in m q) c.count_holder.ensures.same.0 ∙ c.in_ok-insert.ensures.ok q in
+    let first = c.known-before.ensures.page are.pages in
     on_ok_weaker c.count_holder.result
     (λ h. id-kept names es ts ls kept are e id c.count_holder.new.self now own c.count_holder.ensures.same.1 set
     (c.in_ok-standing.ensures.page first c.requires.page) (λ i. record { kept = after i; links = (same i).links })

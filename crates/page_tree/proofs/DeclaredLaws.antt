@@ -1,0 +1,53 @@
+-- Of what a tag declares, each prefix once leaves the scope that all leave one after another.
+use Rattle.std.proofs.Common.{◌≡◌, ℕ, Bool, true, false, if◌then◌else◌, List, [], ◌∷◌, ◌++◌, map, length, append_assoc, arith, Some, refl, sym, ap, ◌∙◌, bytes_eq}
+use Rattle.std.proofs.lemmas.List.{map-append}
+use Rattle.std.specs.Borrow.{Bor}
+use Rattle.ix_base.specs.declared.tree.Binding.{Binding}
+use Rattle.ix_base.specs.Bindings.{Bound, are_ordered, bound}
+use Rattle.ix_base.specs.Scope.{namespace_of, bound_as, bound_over, declared_over, scope_under}
+use Rattle.ix_base.proofs.UnderLemmas.{over, over-same, over-other, found-declared, found-under, ordered-over, ordered-under, one-scope}
+use Rattle.page_tree.specs.Orders.{bound_under, entered}
+use Rattle.page_tree.proofs.SpanLaws.{bytes-one}
+
+ordered-bound : (bs s : List Bound) → are_ordered s ≡ true → are_ordered (bound_under s bs) ≡ true
+ordered-bound [] s h = h
+ordered-bound (b ∷ bs) s h = ordered-bound bs (bound_over s b) (ordered-over s b h)
+
+-- what a prefix is bound to in them
+found-over : (s : List Bound) (b : Bound) (p : List ℕ) → namespace_of (bound_over s b) p ≡ (if bytes_eq b.prefix p then Some b.ns else namespace_of s p)
+found-over s b p = by_test (bytes_eq b.prefix p) refl where
+  by_test : (e : Bool) → bytes_eq b.prefix p ≡ e → namespace_of (bound_over s b) p ≡ (if e then Some b.ns else namespace_of s p)
+  by_test true e = over-same s b p (bytes-one b.prefix p e)
+  by_test false e = over-other s b p e
+
+found-bound : (bs t cs s : List Bound) (p : List ℕ) → namespace_of t p ≡ over p (namespace_of cs p) (namespace_of s p)
+    → namespace_of (scope_under t bs) p ≡ over p (namespace_of (bound_under cs bs) p) (namespace_of s p)
+found-bound [] t cs s p h = h
+found-bound (b ∷ bs) t cs s p h =
+    found-bound bs (declared_over t b) (bound_over cs b) s p
+    (found-declared t b p ∙ step (bytes_eq b.prefix p) ∙ ap (λ o. over p o (namespace_of s p)) (sym (found-over cs b p))) where
+      step : (e : Bool) → (if e then bound_as p b.ns else namespace_of t p) ≡ over p (if e then Some b.ns else namespace_of cs p) (namespace_of s p)
+      step true = refl
+      step false = h
+
+-- what a tag declares, each prefix once
+module _ (es : List (Bor (List ℕ) × Bor (List ℕ))) (bs : List Bound) (d : map entered es ≡ bound_under [] bs) where
+  pub ordered-once : are_ordered (map entered es) ≡ true
+  ordered-once = ap are_ordered d ∙ ordered-bound bs [] refl
+
+  pub under-once : (s : List Bound) → are_ordered s ≡ true → scope_under s (map entered es) ≡ scope_under s bs
+  under-once s h =
+      one-scope (scope_under s (map entered es)) (scope_under s bs) (ordered-under (map entered es) s h) (ordered-under bs s h)
+      (λ p. found-under (map entered es) s p ordered-once ∙ ap (λ cs. over p (namespace_of cs p) (namespace_of s p)) d ∙ sym (found-bound bs s [] s p refl))
+
+-- one more of the declarations is kept
+pub entered-more : (before more : List Binding) (b : Binding) (e : Bor (List ℕ) × Bor (List ℕ)) (left rest : List (Bor (List ℕ) × Bor (List ℕ))) (all : List Bound)
+    → more ≡ before ++ b ∷ [] → left ≡ e ∷ rest → bound b ≡ entered e → map bound before ++ map entered left ≡ all → map bound more ++ map entered rest ≡ all
+entered-more before more b e left rest all m l same h =
+    ap (λ xs. xs ++ map entered rest) (ap (map bound) m ∙ map-append bound before (b ∷ [])) ∙ append_assoc (map bound before) (bound b ∷ []) (map entered rest)
+    ∙ ap (λ x. map bound before ++ x ∷ map entered rest) same ∙ ap (λ es. map bound before ++ map entered es) (sym l) ∙ h
+
+-- without declarations
+pub under-none : (s bs : List Bound) (es : List (Bor (List ℕ) × Bor (List ℕ))) → are_ordered s ≡ true → length es ≡ 0 → map entered es ≡ bound_under [] bs → s ≡ scope_under s bs
+under-none s bs [] h e d = under-once [] bs d s h
+under-none s bs (x ∷ es) h e d = absurd (omega arith)
