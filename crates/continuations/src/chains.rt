@@ -47,7 +47,8 @@ impl<'a> Model for Chains<'a> {
 /// Enters a chain at a place, unless there is one.
 fn enter_at<'a>(slices: &mut Slices<'a>, key: (u32, u64), slice: Slice<'a>) -> Result<(), NoMemory>
     ensures { OnOk result ((page offset : ℕ) → slice_at slices.new page offset
-        ≡ put_first (slice_at slices.old page offset) ((key.0 == page) && (key.1 == offset)) (all_located slice.entry.spots.now)) }
+        ≡ put_first (slice_at slices.old page offset) ((key.0 == page) && (key.1 == offset))
+        (all_located slice.entry.spots.now)) }
 {
     if slices.contains_key(&key) {
         return Ok(());
@@ -63,7 +64,8 @@ fn enter_slice<'a>(
     slice: Slice<'a>,
 ) -> Result<(), NoMemory>
     ensures { OnOk result ((page offset : ℕ) → slice_at slices.new page offset
-        ≡ put_first (slice_at slices.old page offset) (is_at page offset (located spot.now)) (all_located slice.entry.spots.now)) }
+        ≡ put_first (slice_at slices.old page offset) (is_at page offset (located spot.now))
+        (all_located slice.entry.spots.now)) }
 {
     let place = spot.element.place;
     enter_at(slices, (place.page, place.offset), slice)

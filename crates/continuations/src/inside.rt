@@ -132,8 +132,8 @@ pub(crate) fn inner_marks(
 ) -> Result<Vec<bool>, NoMemory>
     requires { AreCourses courses.now }
     ensures len { IfOk result (λ v. length v.items ≡ length spots.now) }
-    ensures inner { IfOk result (λ v. AreInner courses.now.nexts.now courses.now.first numbers.now (all_located spots.now)
-        (length spots.now) v.items) }
+    ensures inner { IfOk result (λ v. AreInner courses.now.nexts.now courses.now.first numbers.now
+        (all_located spots.now) (length spots.now) v.items) }
 {
     let mut marks = Vec::new(alloc);
     for (x, spot) in spots.iter().enumerate() {

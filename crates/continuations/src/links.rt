@@ -12,9 +12,9 @@ ghost use Rattle.continuations.specs.Links.{AreLinks};
 ghost use Rattle.continuations.specs.Numbers.{number_at, AreNumbers, NameNexts};
 
 use crate::marks::any_joined;
-use crate::walk::{continuation, continued_at, is_continuation, is_start};
-use id_table::{Index, id_at};
-use ix_base::{NoMemory, Spot};
+use crate::walk::continuation;
+use id_table::Index;
+use ix_base::{NoMemory, Spot, continued_at, id_at, is_continuation, is_start};
 use std::alloc::Global;
 use text_map::TextMap;
 
@@ -25,7 +25,7 @@ type Numbers<'a> = TextMap<'a, usize>;
 /// each the number of the continuation at which it goes on.
 #[derive(Drop)]
 pub(crate) struct Links<'a> {
-    /// The allocator with which they were made, and with which what rests on them is.
+    /// The allocator with which they were made.
     pub alloc: Global,
     pub spots: Vec<&'a Spot<'a>>,
     pub continuations: usize,
@@ -64,7 +64,8 @@ fn numbers_of<'a>(alloc: Global, spots: &[&'a Spot<'a>]) -> Result<Numbers<'a>, 
 
 /// The number of the one continuation with an id.
 fn number_in(index: &Index<'_>, numbers: &Numbers<'_>, id: Option<&str>) -> Option<usize>
-    requires { AreNumbers numbers.now (filter spec_is_continuation index.now.spots) (length (filter spec_is_continuation index.now.spots)) }
+    requires { AreNumbers numbers.now (filter spec_is_continuation index.now.spots)
+        (length (filter spec_is_continuation index.now.spots)) }
     ensures { option_map (slice_get (filter spec_is_continuation index.now.spots)) result
         ≡ option_map Some (option_and_then (spec.continuation (asked index.now)) (option_map (λ s. s.now) id.entry)) }
 {
@@ -88,7 +89,8 @@ fn nexts_of(
     numbers: &Numbers<'_>,
     spots: &[&Spot<'_>],
 ) -> Result<(Vec<Option<usize>>, bool), NoMemory>
-    requires { AreNumbers numbers.now (filter spec_is_continuation index.now.spots) (length (filter spec_is_continuation index.now.spots)) }
+    requires { AreNumbers numbers.now (filter spec_is_continuation index.now.spots)
+        (length (filter spec_is_continuation index.now.spots)) }
     ensures len { IfOk result (λ r. length r.0.items ≡ length spots.now) }
     ensures nexts { IfOk result (λ r. NameNexts (asked index.now) (filter spec_is_continuation index.now.spots)
         (all_located spots.now) (length spots.now) r.0.items) }
@@ -108,7 +110,8 @@ fn nexts_of(
 /// Adds the continuations of a set.
 fn push_continuations<'a>(index: &Index<'a>, spots: &mut Vec<&'a Spot<'a>>) -> Result<(), NoMemory>
     requires { AreOnOwnPages spots.old.items }
-    ensures spots { OnOk result (all_located spots.new.items ≡ all_located spots.old.items ++ filter spec_is_continuation index.now.spots) }
+    ensures spots { OnOk result (all_located spots.new.items
+        ≡ all_located spots.old.items ++ filter spec_is_continuation index.now.spots) }
     ensures pages { OnOk result (AreOnOwnPages spots.new.items) }
 {
     for spot in index.spots() {
@@ -122,7 +125,8 @@ fn push_continuations<'a>(index: &Index<'a>, spots: &mut Vec<&'a Spot<'a>>) -> R
 /// Adds the elements of a set with which chains begin.
 fn push_starts<'a>(index: &Index<'a>, spots: &mut Vec<&'a Spot<'a>>) -> Result<(), NoMemory>
     requires { AreOnOwnPages spots.old.items }
-    ensures spots { OnOk result (all_located spots.new.items ≡ all_located spots.old.items ++ filter kinds.is_start index.now.spots) }
+    ensures spots { OnOk result (all_located spots.new.items
+        ≡ all_located spots.old.items ++ filter kinds.is_start index.now.spots) }
     ensures pages { OnOk result (AreOnOwnPages spots.new.items) }
 {
     for spot in index.spots() {

@@ -10,9 +10,9 @@ ghost use Rattle.continuations.specs.Links.{AreLinks};
 ghost use Rattle.continuations.specs.Seen.{AreNamers};
 
 use crate::links::Links;
-use crate::walk::{continuation, continued_at, is_continuation};
-use id_table::{Holders, Index, count_in, enter, id_at};
-use ix_base::{Breaches, NoMemory, Rule, Spot};
+use crate::walk::continuation;
+use id_table::{Holders, Index, count_in, enter};
+use ix_base::{Breaches, NoMemory, Rule, Spot, continued_at, id_at, is_continuation};
 use std::alloc::Global;
 
 /// Whether the element goes on at an id that isn't the one id of a continuation.

@@ -72,7 +72,8 @@ fn any_within(spots: &[&Spot<'_>], places: &mut Vec<(u32, u64)>) -> Result<bool,
 /// are no longer than the elements are many.
 pub(crate) fn any_nested<'a>(index: &Index<'a>, links: &Links<'a>) -> Result<bool, NoMemory>
     requires { AreLinks index.now.spots links.now }
-    ensures { IfOk result (λ b. b ≡ list_any (λ s. is_nested (spec.chain (asked index.now) s)) (filter spec_is_start index.now.spots)) }
+    ensures { IfOk result (λ b. b
+        ≡ list_any (λ s. is_nested (spec.chain (asked index.now) s)) (filter spec_is_start index.now.spots)) }
 {
     let mut chain = Vec::new(links.alloc);
     let mut places = Vec::new(links.alloc);

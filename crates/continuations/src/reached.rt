@@ -15,9 +15,8 @@ use crate::marks::{are_marked, reached_from};
 use crate::nested::any_nested;
 use crate::places::{Places, has_place};
 use crate::seen::{inner_places, reached_places};
-use crate::walk::is_continuation;
 use id_table::Index;
-use ix_base::{Breaches, NoMemory, Rule, Spot};
+use ix_base::{Breaches, NoMemory, Rule, Spot, is_continuation};
 
 /// Whether the element is in a chain.
 fn is_reached(index: &Index<'_>, reached: &Places, spot: &Spot<'_>) -> bool

@@ -7,14 +7,15 @@ ghost use Rattle.ix_base.specs.Markup as spec;
 ghost use Rattle.ix_base.specs.Spaces.{AreNumbered, IsOuter, Space, space_of, spaces_in, spaces_of};
 ghost use Rattle.ix_base.specs.Spots.{IsOnOnePage};
 ghost use Rattle.ix_base.specs.Trees.{nodes_of, tree_of};
-ghost use Rattle.ix_base.specs.Written.{close_text};
 ghost use Rattle.escape_text.specs.Kept.{element_markup, shown_by, open_text, rest_text, is_short};
 ghost use Rattle.escape_text.specs.Linked.{has_links as links_in};
 ghost use Rattle.escape_text.specs.Around.{IsWithin, base_of};
 
 use crate::attributes::{push_attributes, push_declaration};
+use crate::end_tag::push_close;
 use crate::links::{has_links, is_linked};
 use crate::names::{ends_short, is_left_out, is_opened};
+use crate::silence::is_silent;
 use ix_base::{Element, Name, NoMemory, Node, Outer, Spot, Text, push_te, xml_base};
 use scopes::{Bases, ParsedBase};
 use std::alloc::Global;
@@ -55,36 +56,6 @@ fn inside<'b, 'n>(around: Around<'b, '_>, name: Name<'n>) -> Around<'b, 'n>
     }
 }
 
-/// Whether nodes give no markup: there is no text among them, and no element that is kept.
-#[cycle(silence)]
-fn is_silent(element: &Element<'_>) -> bool
-    ensures { result ≡ spec.is_silent (tree_of element.now).children }
-{
-    for node in element.children {
-        match node {
-            Node::Chars(text) => {
-                if !text.is_empty() {
-                    return false;
-                }
-            }
-            Node::Elem(below) => {
-                if !gives_nothing(below) {
-                    return false;
-                }
-            }
-        }
-    }
-    true
-}
-
-/// Whether an element gives no markup.
-#[cycle(silence)]
-fn gives_nothing(element: &Element<'_>) -> bool
-    ensures { result ≡ spec.silent_by (spec.manner (tree_of element.now).head.name) (spec.is_silent (tree_of element.now).children) }
-{
-    is_left_out(element) || (is_opened(element) && is_silent(element))
-}
-
 /// Appends the start tag of an element, without its end.
 #[tactic(auto, using(crate::proofs::MarkupLaws::attrs_laws, crate::proofs::WithinLaws::within_name))]
 fn push_open(around: Around<'_, '_>, element: &Element<'_>, out: &mut Text) -> Result<(), NoMemory>
@@ -95,15 +66,6 @@ fn push_open(around: Around<'_, '_>, element: &Element<'_>, out: &mut Text) -> R
     out.push(element.name.local)?;
     push_declaration(around.outer.is_of(&element.name), element.name.ns, out)?;
     push_attributes(around.alloc, around.base, element, out)
-}
-
-/// Appends an end tag.
-fn push_close(name: &str, out: &mut Text) -> Result<(), NoMemory>
-    ensures { OnOk result (out.new ≡ out.old ++ close_text name.now) }
-{
-    out.push("</")?;
-    out.push(name)?;
-    out.push(">")
 }
 
 /// Appends what follows the attributes of an element that is kept.
@@ -178,7 +140,8 @@ fn push_joined(
     out: &mut Text,
 ) -> Result<(), NoMemory>
     requires { IsWithin around (spaces_of element.now) }
-    ensures { OnOk result (out.new ≡ out.old ++ shown_by (Some (joined_or base.now text.now)) around.entry.outer.ns.now (tree_of element.now)) }
+    ensures { OnOk result (out.new ≡ out.old
+        ++ shown_by (Some (joined_or base.now text.now)) around.entry.outer.ns.now (tree_of element.now)) }
 {
     match base.joined(text)? {
         Some(own) => {

@@ -8,7 +8,6 @@ pub mod MoveLaws
 pub mod WayLaws
 pub mod ElementLaws
 pub mod OrderLaws
-pub mod ChainLaws
 pub mod TextLaws
 pub mod TracerLaws
 pub mod RearrangedLaws

@@ -33,7 +33,7 @@ use Rattle.fact_trace.specs.Held.{ArePagesFrom, IsText, sources_of}
 use Rattle.fact_trace.specs.Spans.{Source, elements, lying_at, number_in, paged, part_of, source_at, text_elements, text_elements_as, there}
 use Rattle.fact_trace.specs.Walks.{IsOfPage}
 use Rattle.fact_trace.specs.declared.page.Page.{Page}
-use Rattle.fact_trace.proofs.ChainLaws.{all-chain}
+use Rattle.targets.proofs.ChainLaws.{all-chain}
 
 -- The page of an element.
 

@@ -23,7 +23,7 @@ use Rattle.page_tree.proofs.PageLaws.{one}
 use Rattle.page_tree.proofs.SoundPages.{page-sound}
 use Rattle.targets.specs.Breaches.{PagesComeTo}
 use Rattle.targets.specs.Clean.{IsClean}
-use Rattle.targets.specs.Forest.{AreTrees, page_set}
+use Rattle.targets.specs.Forest.{AreTrees}
 use Rattle.targets.specs.Forest as forest
 use Rattle.targets.specs.PageSet.{PageSet}
 use Rattle.targets.specs.PageSet as set

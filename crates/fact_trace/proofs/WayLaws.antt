@@ -192,6 +192,14 @@ is-on b at s h e = by (reach_at (reaches b) at) refl e where
   by None f g = absurd (cc)
   by (Some r) f g = (let is : stepped r ≡ s = cc in subst (IsOn b at) is (on-reach b at r h f))
 
+-- less of the page is left behind a construct
+pub nearer : (b : List ℕ) (at : ℕ) (s : Step) → IsWhole b → Some s ≡ option_map stepped (reach_at (reaches b) at) → length b - s.end < length b - at
+nearer b at s h e =
+    let o = is-on b at s h e in
+    let above = o.above in
+    let fits = o.fits in
+    omega arith
+
 none-on : (rs : List Reach) (at : ℕ) → reach_at rs at ≡ None → from_on rs at ≡ []
 none-on [] at e = refl
 none-on (r ∷ rs) at e = by (r.what.start == at) e (none-on rs at) where

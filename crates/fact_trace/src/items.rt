@@ -4,8 +4,7 @@ ghost use Rattle.std.specs.List.{flat_map};
 ghost use Rattle.ix_base.specs.Asks.{asks};
 ghost use Rattle.ix_base.specs.Located as kinds;
 ghost use Rattle.ix_base.specs.Located.{located};
-ghost use Rattle.ix_base.specs.OwnNames.{own};
-ghost use Rattle.ix_base.specs.Trees.{named, tree_of};
+ghost use Rattle.ix_base.specs.Trees.{tree_of};
 ghost use Rattle.continuations.specs.Kept.{AreChainsOf};
 ghost use Rattle.id_table.specs.Tables.{all_located};
 ghost use Rattle.targets.specs.Linked.{AreApart};
@@ -19,7 +18,7 @@ use crate::span::{Span, Traced};
 use continuations::Chains;
 use fact_view::fact_name;
 use facts::{innermost, part_in};
-use ix_base::{Element, Kind, List, Name, NoMemory, OwnName, Spot, Text, kind_of};
+use ix_base::{Element, Kind, List, NoMemory, OwnName, Spot, Text, is_item, kind_of};
 use std::alloc::Global;
 use value_forms::is_nil;
 
@@ -156,16 +155,6 @@ fn spans_of(
     Ok(spans)
 }
 
-/// A name that is owned.
-fn own_name(alloc: Global, name: Name<'_>) -> Result<OwnName, NoMemory>
-    ensures { IfOk result (λ n. n ≡ own (named name.entry)) }
-{
-    Ok(OwnName {
-        ns: Text::of(alloc, name.ns)?,
-        local: Text::of(alloc, name.local)?,
-    })
-}
-
 /// The name of the page of this number.
 fn page_name(alloc: Global, pages: &[Page<'_>], page: u32) -> Result<Text, NoMemory>
     requires { page < length pages.now }
@@ -191,18 +180,10 @@ fn traced_of(
     Ok(Traced {
         page: page_name(alloc, pages, place.page)?,
         offset: place.offset,
-        name: own_name(alloc, fact_name(spot.element))?,
+        name: OwnName::of(alloc, fact_name(spot.element))?,
         nil: is_nil(spot.element),
         spans: spans_of(alloc, pages, chains, spot)?,
     })
-}
-
-/// Whether an element is an item.
-fn is_item(spot: &Spot<'_>) -> bool
-    ensures { result ≡ kinds.is_item (located spot.now) }
-{
-    let kind = kind_of(spot);
-    kind == Kind::NonNumeric || kind == Kind::NonFraction || kind == Kind::Fraction
 }
 
 /// The items among some elements, each with its spans.

@@ -7,7 +7,7 @@ ghost use Rattle.ix_base.specs.Trees.{tree_of, named};
 ghost use Rattle.ix_base.specs.Viewed as spec;
 ghost use Rattle.fact_view.specs.Seen.{seen};
 
-use ix_base::{Element, Name, Spot, attr_of, is_fact, ix_kind, token_at};
+use ix_base::{Element, Name, Spot, attr_of, ix_kind, token_at};
 use scopes::name_at;
 use value_forms::{escapes, is_nil, scale_of};
 
@@ -67,7 +67,7 @@ fn format_of<'a>(e: &Element<'a>) -> Option<Name<'a>>
 fn is_nil_fact(e: &Element) -> bool
     ensures { result ≡ (is_fact (ix_kind (tree_of e.now).head.name) && reader.is_nil (tree_of e.now)) }
 {
-    is_fact(ix_kind(&e.name)) && is_nil(e)
+    ix_kind(&e.name).is_fact() && is_nil(e)
 }
 
 /// What the attributes of an element say. It takes no memory.

@@ -4,7 +4,7 @@ ghost use Rattle.ix_base.specs.Forms as form;
 ghost use Rattle.ix_base.specs.Trees.{tree_of};
 ghost use Rattle.facts.specs.Exactness as spec;
 
-use ix_base::{Accuracy, Element, Kind, NoMemory, Text, attr_of, token};
+use ix_base::{Accuracy, Element, Kind, NoMemory, Text, attr_of, has_minus, token};
 use std::alloc::Global;
 use value_forms::{is_nil, without_sign};
 
@@ -18,15 +18,6 @@ fn without_zeros(mut text: &str) -> &str
         text = &text[1..];
     }
     text
-}
-
-fn is_negative(text: &str) -> bool
-    ensures { result ≡ form.is_negative text.now }
-{
-    match text.as_bytes() {
-        [] => false,
-        [first, ..] => *first == b'-',
-    }
 }
 
 /// Digits with their sign. Without digits it is zero.
@@ -48,7 +39,8 @@ fn signed_digits(alloc: Global, negative: bool, digits: &str) -> Result<Text, No
 fn integer_form(alloc: Global, text: &str) -> Result<Text, NoMemory>
     ensures { IfOk result (λ t. t ≡ form.integer_form text.now) }
 {
-    signed_digits(alloc, is_negative(text), without_zeros(without_sign(text)))
+    let negative = has_minus(text.as_bytes());
+    signed_digits(alloc, negative, without_zeros(without_sign(text)))
 }
 
 /// `INF`, or an integer in normal form.

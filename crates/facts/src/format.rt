@@ -1,5 +1,5 @@
 //! The formats of the Transformation Rules Registries 3 and 4, and what they make of texts.
-ghost use Rattle.std.specs.Prelude.{◌≡◌, ◌≢◌, ◌+◌, ◌≤◌, ℕ, List, IfOk, IfSome, IfNone, IsErrOf, IsTrue, IsUtf8, Some, length, take, vec_len, false};
+ghost use Rattle.std.specs.Prelude.{◌≡◌, ◌≢◌, ◌+◌, ◌≤◌, ℕ, List, IfOk, IfSome, IfNone, IsErrOf, IsTrue, Some, length, false};
 ghost use Rattle.std.specs.Str.{chars};
 ghost use Rattle.ix_base.specs.Trees.{named};
 ghost use Rattle.tr4_dates.specs.Transformation.{Tr};
@@ -13,7 +13,7 @@ ghost use Rattle.facts.specs.declared.format.Registry.{Registry as RegistryOf};
 ghost use Rattle.facts.specs.declared.format.Registry.TheVariants as registry;
 
 use crate::fault::ItemFault;
-use ix_base::{Name, NoMemory, Rule, Text};
+use ix_base::{Name, Rule, Text, text_at, zeros};
 use std::alloc::Global;
 use tr4_dates::{DateFormat, TrFault};
 use tr4_numbers::{FixedFormat, NumberFormat, values_are_unsigned};
@@ -134,25 +134,6 @@ impl Format {
             Format::Fixed(_) => false,
             Format::Number(_) => true,
         }
-    }
-}
-
-/// So many zeros.
-pub(crate) fn zeros(alloc: Global, count: usize) -> Result<Vec<u8>, NoMemory>
-    ensures { IfOk result (λ v. vec_len v ≡ count) }
-{
-    Ok(vec![in alloc; 0u8; count]?)
-}
-
-/// The text at the front of a buffer, in so many bytes.
-pub(crate) fn text_at(alloc: Global, out: &[u8], count: usize) -> Result<Text, NoMemory>
-    requires within { count ≤ length out.now }
-    requires text { IsUtf8 (take count out.now) }
-    ensures { IfOk result (λ v. v ≡ take count out.now) }
-{
-    match str::from_utf8(&out[..count]) {
-        Ok(text) => Text::of(alloc, text),
-        Err(_) => unreachable!(),
     }
 }
 

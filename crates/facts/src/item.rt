@@ -5,7 +5,6 @@ ghost use Rattle.ix_base.specs.Chain as chains;
 ghost use Rattle.ix_base.specs.Elements.{place_of, placed};
 ghost use Rattle.ix_base.specs.Located.{Located, located, base_in, is_kind};
 ghost use Rattle.ix_base.specs.Markup.{plain_along};
-ghost use Rattle.ix_base.specs.OwnNames.{own};
 ghost use Rattle.ix_base.specs.Readers as reader;
 ghost use Rattle.ix_base.specs.Spots.{IsOnOnePage};
 ghost use Rattle.ix_base.specs.Trees.{named, tree_of};
@@ -162,24 +161,11 @@ fn value_of(
     value_as(alloc, kind_of(spot), spot, chain, bases)
 }
 
-/// A name that is owned.
-fn own_name(alloc: Global, name: Name<'_>) -> Result<OwnName, NoMemory>
-    ensures { IfOk result (λ n. n ≡ own (named name.entry)) }
-{
-    Ok(OwnName {
-        ns: Text::of(alloc, name.ns)?,
-        local: Text::of(alloc, name.local)?,
-    })
-}
-
 /// The token of an attribute, owned.
 fn own_token(alloc: Global, e: &Element<'_>, local: &str) -> Result<Option<Text>, NoMemory>
     ensures { IfOk result (λ o. o ≡ reader.token_at local.now (tree_of e.now)) }
 {
-    match token_at(e, local) {
-        Some(token) => Ok(Some(Text::of(alloc, token)?)),
-        None => Ok(None),
-    }
+    Text::of_some(alloc, token_at(e, local))
 }
 
 /// The id of the context of an item.
@@ -219,7 +205,7 @@ fn item_with(alloc: Global, kind: Kind, e: &Element<'_>, value: Value) -> Result
     let accuracy = accuracy_of(alloc, kind, e)?;
     let id = own_token(alloc, e, "id")?;
     let (context, unit) = refs_in(alloc, kind, e)?;
-    let name = own_name(alloc, fact_name(e))?;
+    let name = OwnName::of(alloc, fact_name(e))?;
     Ok(Item {
         name,
         context,

@@ -5,13 +5,14 @@ ghost use Rattle.ix_base.specs.Holding.{is_of};
 ghost use Rattle.ix_base.specs.Namespaces.{ix_namespace};
 ghost use Rattle.ix_base.specs.Trees.{named, nodes_of, tree_of};
 ghost use Rattle.ix_base.specs.Viewed as viewed;
+ghost use Rattle.ix_base.specs.declared.limits.TheConstants.{LARGEST_SCALE};
 ghost use Rattle.scale_sign.specs.Scaled.{IsNumber};
 ghost use Rattle.facts.specs.NumberValue as spec;
 ghost use Rattle.facts.specs.Verdicts.{said};
 
 use crate::fault::ItemFault;
-use crate::format::{Format, text_at, transformed, zeros};
-use ix_base::{Element, Name, NoMemory, Node, Rule, Text, attr_of, is_ix, token};
+use crate::format::{Format, transformed};
+use ix_base::{Element, Name, NoMemory, Node, Rule, Text, attr_of, is_ix, text_at, token, zeros};
 use scale_sign::{is_unsigned, numbers_are_text, scaled};
 use scopes::name_at;
 use std::alloc::Global;
@@ -94,7 +95,7 @@ fn moved_in(
     out: &mut [u8],
 ) -> Result<Text, NoMemory>
     requires unsigned { IsUnsigned digits.now }
-    requires scale { unsigned_abs scale ≤ 100 }
+    requires scale { unsigned_abs scale ≤ LARGEST_SCALE }
     requires room { length digits.now + unsigned_abs scale + 3 ≤ length out.old }
     ensures { IfOk result (λ v. IsNumber digits.now scale negative v) }
 {
@@ -106,7 +107,7 @@ fn moved_in(
 /// An unsigned decimal, moved by a scale and signed.
 fn moved(alloc: Global, digits: &str, scale: i32, negative: bool) -> Result<Text, NoMemory>
     requires unsigned { IsUnsigned digits.now }
-    requires scale { unsigned_abs scale ≤ 100 }
+    requires scale { unsigned_abs scale ≤ LARGEST_SCALE }
     ensures { IfOk result (λ v. IsNumber digits.now scale negative v) }
 {
     let mut out = zeros(alloc, digits.len() + scale.unsigned_abs() as usize + 3)?;
@@ -121,7 +122,7 @@ pub(crate) fn number_value(
     negative: bool,
     text: &str,
 ) -> Result<Text, ItemFault>
-    requires { unsigned_abs scale ≤ 100 }
+    requires { unsigned_abs scale ≤ LARGEST_SCALE }
     ensures { IfSome (said result) (spec.IsNumberValue (spec.number_at (option_map named format.entry) scale negative text.now)) }
 {
     let digits = digits_of(alloc, format, text)?;

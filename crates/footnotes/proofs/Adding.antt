@@ -15,52 +15,52 @@ use Rattle.footnotes.specs.declared.relation.Relation.{Relation}
 use Rattle.footnotes.specs.declared.rules.Test.{Test}
 use Rattle.footnotes.specs.declared.rules.Test.TheVariants as test
 use Rattle.footnotes.specs.Known.{all_seen, seen}
-use Rattle.footnotes.specs.Tests.{rule_of}
+use Rattle.footnotes.specs.Tests.{relationship_rule}
 
 -- the breaches of a rule by the relationships from this index on
 abbrev pub from_on : Asks Located → Test → List Relation → ℕ → List Found
-from_on a t relations i = flat_map (broken_at a (rule_of t)) (all_seen (drop i relations))
+from_on a t relations i = flat_map (broken_at a (relationship_rule t)) (all_seen (drop i relations))
 
 -- those of one more relation were added
 pub one-more : (a : Asks Located) (t : Test) (relations : List Relation) (i : ℕ) (relation : Relation) (old now new all : List Found)
-    → i < length relations → relation ≡ get_or relations i relation → Grows old now (from_on a t relations i) all → new ≡ now ++ broken_at a (rule_of t) (seen relation)
+    → i < length relations → relation ≡ get_or relations i relation → Grows old now (from_on a t relations i) all → new ≡ now ++ broken_at a (relationship_rule t) (seen relation)
     → Grows old new (from_on a t relations (i + 1)) all
 one-more a t relations i relation old now new all h e g n =
-    grows-more old now new (broken_at a (rule_of t) (seen relation)) _ (from_on a t relations (i + 1)) all g
-    (flat_map-next (broken_at a (rule_of t)) seen relations i relation h e) n
+    grows-more old now new (broken_at a (relationship_rule t) (seen relation)) _ (from_on a t relations (i + 1)) all g
+    (flat_map-next (broken_at a (relationship_rule t)) seen relations i relation h e) n
 
 -- those of the next relation weren't added
 pub no-more : (a : Asks Located) (t : Test) (relations : List Relation) (i : ℕ) (relation : Relation) (old now new all : List Found)
     → i < length relations → relation ≡ get_or relations i relation → Grows old now (from_on a t relations i) all → new ≡ now → AppendsFront all old new
 no-more a t relations i relation old now new all h e g n =
-    grows-front old now new (broken_at a (rule_of t) (seen relation)) _ (from_on a t relations (i + 1)) all g
-    (flat_map-next (broken_at a (rule_of t)) seen relations i relation h e) (front-none _ _ _ n)
+    grows-front old now new (broken_at a (relationship_rule t) (seen relation)) _ (from_on a t relations (i + 1)) all g
+    (flat_map-next (broken_at a (relationship_rule t)) seen relations i relation h e) (front-none _ _ _ n)
 
 and-left : (b c : Bool) → b ≡ false → (b && c) ≡ false
 and-left true c h = absurd (cc)
 and-left false c h = refl
 
 -- only relationships break the rules on them
-breaks-no : (a : Asks Located) (t : Test) (e : Located) → is_relationship e ≡ false → breaks_link a e (rule_of t) ≡ false
+breaks-no : (a : Asks Located) (t : Test) (e : Located) → is_relationship e ≡ false → breaks_link a e (relationship_rule t) ≡ false
 breaks-no a test.Sources e h = and-left (is_relationship e) _ h
 breaks-no a test.Ends e h = and-left (is_relationship e) _ h
 breaks-no a test.Targets e h = and-left (is_relationship e && _) _ (and-left (is_relationship e) _ h)
 
-others-none : (a : Asks Located) (t : Test) (e : Located) → is_relationship e ≡ false → broken_at a (rule_of t) e ≡ []
-others-none a t e h = ap (λ b. row b (found_at e (rule_of t))) (breaks-no a t e h)
+others-none : (a : Asks Located) (t : Test) (e : Located) → is_relationship e ≡ false → broken_at a (relationship_rule t) e ≡ []
+others-none a t e h = ap (λ b. row b (found_at e (relationship_rule t))) (breaks-no a t e h)
 
 next : (a : Asks Located) (t : Test) (e : Located) (es : List Located) (b : Bool) → is_relationship e ≡ b
-    → flat_map (broken_at a (rule_of t)) (filter is_relationship es) ≡ flat_map (broken_at a (rule_of t)) es
-    → flat_map (broken_at a (rule_of t)) (cond b (e ∷ filter is_relationship es) (filter is_relationship es)) ≡ broken_at a (rule_of t) e ++ flat_map (broken_at a (rule_of t)) es
-next a t e es true h rest = ap (λ l. broken_at a (rule_of t) e ++ l) rest
-next a t e es false h rest = rest ∙ ap (λ l. l ++ flat_map (broken_at a (rule_of t)) es) (sym (others-none a t e h))
+    → flat_map (broken_at a (relationship_rule t)) (filter is_relationship es) ≡ flat_map (broken_at a (relationship_rule t)) es
+    → flat_map (broken_at a (relationship_rule t)) (cond b (e ∷ filter is_relationship es) (filter is_relationship es)) ≡ broken_at a (relationship_rule t) e ++ flat_map (broken_at a (relationship_rule t)) es
+next a t e es true h rest = ap (λ l. broken_at a (relationship_rule t) e ++ l) rest
+next a t e es false h rest = rest ∙ ap (λ l. l ++ flat_map (broken_at a (relationship_rule t)) es) (sym (others-none a t e h))
 
-by-relationships : (a : Asks Located) (t : Test) (es : List Located) → flat_map (broken_at a (rule_of t)) (filter is_relationship es) ≡ flat_map (broken_at a (rule_of t)) es
+by-relationships : (a : Asks Located) (t : Test) (es : List Located) → flat_map (broken_at a (relationship_rule t)) (filter is_relationship es) ≡ flat_map (broken_at a (relationship_rule t)) es
 by-relationships a t [] = refl
 by-relationships a t (e ∷ es) = next a t e es (is_relationship e) refl (by-relationships a t es)
 
-pub all-left : (t : Test) (es : List Located) (relations : List Relation) → all_seen relations ≡ filter is_relationship es → from_on (asks es) t relations 0 ≡ breaking (rule_of t) es
-all-left t es relations e = ap (flat_map (broken_at (asks es) (rule_of t))) e ∙ by-relationships (asks es) t es
+pub all-left : (t : Test) (es : List Located) (relations : List Relation) → all_seen relations ≡ filter is_relationship es → from_on (asks es) t relations 0 ≡ breaking (relationship_rule t) es
+all-left t es relations e = ap (flat_map (broken_at (asks es) (relationship_rule t))) e ∙ by-relationships (asks es) t es
 
 -- what was added part by part
 joined : (old now new part more : List Found) → now ≡ old ++ part → new ≡ now ++ more → new ≡ old ++ (part ++ more)

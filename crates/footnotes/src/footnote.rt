@@ -47,10 +47,7 @@ fn lang_of<'a>(spot: &'a Spot<'a>) -> &'a str
 fn title_of(alloc: Global, e: &Element<'_>) -> Result<Option<Text>, NoMemory>
     ensures { IfOk result (λ o. o ≡ reader.attr (codes "title") (tree_of e.now)) }
 {
-    match attr_of(e, "", "title") {
-        Some(title) => Ok(Some(Text::of(alloc, title)?)),
-        None => Ok(None),
-    }
+    Text::of_some(alloc, attr_of(e, "", "title"))
 }
 
 /// The chain that is kept for an element.

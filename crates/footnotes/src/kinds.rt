@@ -1,19 +1,11 @@
 //! What elements are for relationships.
 ghost use Rattle.std.specs.Prelude.{◌≡◌};
 ghost use Rattle.ix_base.specs.LinkRules as rules_of;
-ghost use Rattle.ix_base.specs.Located as kinds;
 ghost use Rattle.ix_base.specs.Located.{located};
 ghost use Rattle.footnotes.specs.FootnoteLinks as spec;
 
 use fact_view::target_of;
-use id_table::id_at;
-use ix_base::{Kind, Spot, kind_of, token_at};
-
-pub(crate) fn is_fact(spot: &Spot<'_>) -> bool
-    ensures { result ≡ kinds.is_fact (located spot.now) }
-{
-    ix_base::is_fact(kind_of(spot))
-}
+use ix_base::{Kind, Spot, id_at, kind_of, token_at};
 
 pub(crate) fn is_footnote(spot: &Spot<'_>) -> bool
     ensures { result ≡ rules_of.is_footnote (located spot.now) }

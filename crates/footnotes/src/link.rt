@@ -15,10 +15,10 @@ ghost use Rattle.footnotes.specs.Linked.{kept_at, last_called, link_by, note_in,
 use crate::arcs::arcs_of;
 use crate::fans::Fan;
 use crate::footnote::footnote_of;
-use crate::kinds::{is_fact, is_footnote, label_of};
+use crate::kinds::{is_footnote, label_of};
 use crate::texts::copies_of;
 use continuations::Chains;
-use ix_base::{Footnote, List, NoMemory, NoteLink, Spot, Text, each_once};
+use ix_base::{Footnote, List, NoMemory, NoteLink, Spot, Text, each_once, is_fact};
 use scopes::Bases;
 use std::alloc::Global;
 use text_map::TextMap;

@@ -1,37 +1,13 @@
 //! Orders as canonical decimals.
-ghost use Rattle.std.specs.Prelude.{◌≡◌, ◌+◌, ◌≤◌, IfOk, length, take, pos, vec_len};
-ghost use Rattle.std.specs.Str.{IsUtf8};
+ghost use Rattle.std.specs.Prelude.{◌≡◌, ◌+◌, ◌≤◌, IfOk, length, pos};
 ghost use Rattle.ix_base.specs.Decimals.{IsUnsigned};
-ghost use Rattle.ix_base.specs.Forms as form;
 ghost use Rattle.scale_sign.specs.Scaled.{IsNumber};
 ghost use Rattle.footnotes.specs.FootnoteLinks as spec;
 
-use ix_base::{NoMemory, Text};
+use ix_base::{NoMemory, Text, has_minus, text_at, zeros};
 use scale_sign::{numbers_are_text, scaled};
 use std::alloc::Global;
 use value_forms::{is_unsigned_decimal, without_sign};
-
-/// Whether a minus stands in front of a text.
-fn is_negative(text: &str) -> bool
-    ensures { result ≡ form.is_negative text.now }
-{
-    match text.as_bytes() {
-        [] => false,
-        [first, ..] => *first == b'-',
-    }
-}
-
-/// The text that the first so many bytes of a buffer are.
-fn text_at(alloc: Global, out: &[u8], count: usize) -> Result<Text, NoMemory>
-    requires within { count ≤ length out.now }
-    requires text { IsUtf8 (take count out.now) }
-    ensures { IfOk result (λ t. t ≡ take count out.now) }
-{
-    match str::from_utf8(&out[..count]) {
-        Ok(text) => Text::of(alloc, text),
-        Err(_) => unreachable!(),
-    }
-}
 
 /// An unsigned decimal with a sign in canonical form, written into this buffer.
 fn written_in(alloc: Global, digits: &str, negative: bool, out: &mut [u8]) -> Result<Text, NoMemory>
@@ -42,13 +18,6 @@ fn written_in(alloc: Global, digits: &str, negative: bool, out: &mut [u8]) -> Re
     numbers_are_text();
     let count = scaled(digits, 0, negative, out);
     text_at(alloc, out, count)
-}
-
-/// So many zeros.
-fn zeros(alloc: Global, count: usize) -> Result<Vec<u8>, NoMemory>
-    ensures { IfOk result (λ v. vec_len v ≡ count) }
-{
-    Ok(vec![in alloc; 0u8; count]?)
 }
 
 /// An unsigned decimal with a sign in canonical form.
@@ -66,7 +35,7 @@ pub(crate) fn canonical_order(alloc: Global, text: &str) -> Result<Text, NoMemor
 {
     let digits = without_sign(text);
     if is_unsigned_decimal(digits) {
-        written(alloc, digits, is_negative(text))
+        written(alloc, digits, has_minus(text.as_bytes()))
     } else {
         Text::of(alloc, text)
     }

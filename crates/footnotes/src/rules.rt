@@ -9,12 +9,12 @@ ghost use Rattle.ix_base.specs.Located.{located};
 ghost use Rattle.id_table.specs.Held.{asked};
 ghost use Rattle.id_table.specs.Tables.{all_located};
 ghost use Rattle.footnotes.specs.Known.{seen, all_seen, IsKnown};
-ghost use Rattle.footnotes.specs.Tests.{rule_of};
+ghost use Rattle.footnotes.specs.Tests.{relationship_rule};
 
-use crate::kinds::{is_fact, is_footnote, target_at};
+use crate::kinds::{is_footnote, target_at};
 use crate::relation::Relation;
 use id_table::Index;
-use ix_base::{Breaches, NoMemory, Rule, Spot};
+use ix_base::{Breaches, NoMemory, Rule, Spot, is_fact};
 
 /// What is asked of each relationship.
 #[derive(Clone, Copy)]
@@ -28,9 +28,9 @@ pub(crate) enum Test {
 }
 
 impl Test {
-    /// The rule for which a test looks.
-    fn rule(self) -> Rule
-        ensures { result ≡ rule_of self }
+    /// The rule on relationships for which a test looks.
+    fn relationship_rule(self) -> Rule
+        ensures { result ≡ relationship_rule self }
     {
         match self {
             Test::Sources => Rule::L11,
@@ -144,7 +144,7 @@ fn crosses_targets(index: &Index<'_>, relation: &Relation<'_>) -> bool
 fn is_broken(index: &Index<'_>, relation: &Relation<'_>, test: Test) -> bool
     requires known { IsKnown (asked index.now) relation.now }
     requires is { rules_of.is_relationship (seen relation.now) ≡ true }
-    ensures { result ≡ breaks_link (asked index.now) (seen relation.now) (rule_of test) }
+    ensures { result ≡ breaks_link (asked index.now) (seen relation.now) (relationship_rule test) }
 {
     match test {
         Test::Sources => comes_from_nothing(index, relation),
@@ -162,11 +162,16 @@ fn add_if_broken(
 ) -> Result<(), NoMemory>
     requires known { IsKnown (asked index.now) relation.now }
     requires is { rules_of.is_relationship (seen relation.now) ≡ true }
-    ensures ok { OnOk result (breaches.new ≡ breaches.old ++ broken_at (asked index.now) (rule_of test) (seen relation.now)) }
+    ensures ok { OnOk result (breaches.new
+        ≡ breaches.old ++ broken_at (asked index.now) (relationship_rule test) (seen relation.now)) }
     ensures err { OnErr result (breaches.new ≡ breaches.old) }
 {
     let is_broken = is_broken(index, relation, test);
-    breaches.add_if(relation.spot.element.place, test.rule(), is_broken)
+    breaches.add_if(
+        relation.spot.element.place,
+        test.relationship_rule(),
+        is_broken,
+    )
 }
 
 /// Adds exactly the relationships that break a rule.
@@ -178,8 +183,8 @@ pub(crate) fn add_broken(
 ) -> Result<(), NoMemory>
     requires seen { all_seen relations.now ≡ filter rules_of.is_relationship index.now.spots }
     requires known { All (IsKnown (asked index.now)) relations.now }
-    ensures ok { OnOk result (breaches.new ≡ breaches.old ++ breaking (rule_of test) index.now.spots) }
-    ensures err { OnErr result (AppendsFront (breaking (rule_of test) index.now.spots) breaches.old breaches.new) }
+    ensures ok { OnOk result (breaches.new ≡ breaches.old ++ breaking (relationship_rule test) index.now.spots) }
+    ensures err { OnErr result (AppendsFront (breaking (relationship_rule test) index.now.spots) breaches.old breaches.new) }
 {
     for relation in relations {
         add_if_broken(index, relation, test, breaches)?;

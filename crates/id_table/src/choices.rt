@@ -6,8 +6,7 @@ ghost use Rattle.ix_base.specs.Located.{located};
 ghost use Rattle.id_table.specs.Tables.{choice_at, entry_for};
 
 use crate::entries::{Entry, entry_of, only_in};
-use crate::holders::id_at;
-use ix_base::{NoMemory, Spot};
+use ix_base::{NoMemory, Spot, id_at};
 use text_map::TextMap;
 
 /// What was chosen for ids.

@@ -5,8 +5,7 @@ ghost use Rattle.ix_base.specs.Ids as ids;
 ghost use Rattle.ix_base.specs.Located.{located};
 ghost use Rattle.id_table.specs.Tables.{IsEntered, entries_at, entry_for};
 
-use crate::holders::id_at;
-use ix_base::{Kind, NoMemory, Spot, kind_of};
+use ix_base::{Kind, NoMemory, Spot, id_at, kind_of};
 use text_map::TextMap;
 
 /// An element that was found, with its kind.

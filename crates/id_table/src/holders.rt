@@ -1,32 +1,13 @@
 //! Tables from an id to the elements that have it.
 ghost use Rattle.std.specs.Prelude.{◌≡◌, OnOk, OnErr, option_map, length};
 ghost use Rattle.ix_base.specs.Asks.{only};
-ghost use Rattle.ix_base.specs.Ids as ids;
-ghost use Rattle.ix_base.specs.Located.{located};
 ghost use Rattle.id_table.specs.Tables.{Entered, SameSpots, spots_at};
 
-use ix_base::{Kind, NoMemory, Spot, kind_of, token_at};
+use ix_base::{NoMemory, Spot};
 use text_map::TextMap;
 
 /// The elements with each id, in the order in which they were met.
 pub type Holders<'a> = TextMap<'a, Vec<&'a Spot<'a>>>;
-
-/// The id of an element.
-pub fn id_at<'a>(spot: &Spot<'a>) -> Option<&'a str>
-    ensures { option_map (λ s. s.now) result ≡ ids.id_of (located spot.now) }
-{
-    token_at(spot.element, "id")
-}
-
-/// The tuple id of a tuple.
-pub fn tuple_id_at<'a>(spot: &Spot<'a>) -> Option<&'a str>
-    ensures { option_map (λ s. s.now) result ≡ ids.tuple_id_of (located spot.now) }
-{
-    if kind_of(spot) != Kind::Tuple {
-        return None;
-    }
-    token_at(spot.element, "tupleID")
-}
 
 /// Enters an element at an id, where it has one. A refusal leaves the elements at each id as they were.
 pub fn enter<'a>(

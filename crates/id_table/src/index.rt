@@ -18,10 +18,10 @@ ghost use Rattle.id_table.specs.Tables.{AreOnOwnPages, AreWhole, all_located};
 
 use crate::choices::{Choices, choice_in, chosen_or_only, set_choice};
 use crate::entries::{Entry, entries_in, entry_at};
-use crate::holders::{count_in, id_at, one_in, tuple_id_at};
+use crate::holders::{count_in, one_in};
 use crate::tables::Tables;
 use bumpalo::Bump;
-use ix_base::{Breaches, Element, NoMemory, Rule, Spot};
+use ix_base::{Breaches, Element, NoMemory, Rule, Spot, id_at, tuple_id_at};
 use std::alloc::Global;
 use std::marker::Model;
 use text_map::TextMap;

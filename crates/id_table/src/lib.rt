@@ -10,5 +10,5 @@ mod tables;
 mod walk;
 
 pub use entries::Entry;
-pub use holders::{Holders, count_in, enter, id_at};
+pub use holders::{Holders, count_in, enter, one_in};
 pub use index::Index;

@@ -8,10 +8,10 @@ ghost use Rattle.ix_base.specs.Trees.{tree_of};
 ghost use Rattle.id_table.specs.Tables.{AreOnOwnPages, AreWhole, all_located};
 
 use crate::entries::{Entries, enter_entry};
-use crate::holders::{Holders, enter, tuple_id_at};
+use crate::holders::{Holders, enter};
 use crate::walk::walk;
 use bumpalo::Bump;
-use ix_base::{Element, Kind, NoMemory, Spot, kind_of};
+use ix_base::{Element, Kind, NoMemory, Spot, kind_of, tuple_id_at};
 use std::alloc::Global;
 use text_map::TextMap;
 

@@ -21,7 +21,7 @@ use Rattle.ix_base.specs.Trees.{Nodes, none, chars, elem, Tree}
 use Rattle.ix_base.specs.UnitForm.{unit}
 use Rattle.instance_out.specs.Denotation.{Labelled, arc_in, are_parts, content_in, ends_of, facts_among, facts_in, footnote_in, linkbase_in, locator_in, notes_in, parts_in, reference_in, schema_in, xlink_at}
 use Rattle.instance_out.specs.Lists.{are_apart}
-use Rattle.instance_in.specs.Reading.{is_typed}
+use Rattle.instance_tree.specs.Reading.{is_typed}
 use Rattle.instance_out.specs.Holds.{all_notes}
 use Rattle.instance_out.specs.Proper.{AreBodies, IsBody}
 use Rattle.instance_out.proofs.RunLaws.{Each}

@@ -11,12 +11,11 @@ ghost use Rattle.instance_in.specs.Texts.{Gives, IsTextOf};
 
 use instance_out::prepare;
 use ix_base::{Content, NoMemory};
+use proper_content::is_proper;
 use std::alloc::Global;
 use thiserror::Error;
 
-mod denoted;
 mod page;
-mod proper;
 
 /// Why bytes aren't read back.
 #[derive(Clone, Copy, Debug, PartialEq, Eq, Error)]
@@ -32,7 +31,7 @@ pub enum ReadBack {
 fn is_canonical(alloc: Global, content: &Content, bytes: &[u8]) -> Result<bool, NoMemory>
     ensures { IfOk result (λ b. b ≡ (is_proper (said_of content.now) && bytes_eq (canon content.now) bytes.now)) }
 {
-    if !proper::is_proper(alloc, content)? {
+    if !is_proper(alloc, content)? {
         return Ok(false);
     }
     let prepared = prepare(alloc, content)?;

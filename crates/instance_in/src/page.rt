@@ -3,17 +3,15 @@ ghost use Rattle.std.specs.Prelude.{◌≡◌, [], IfOk, OnOk};
 ghost use Rattle.page_tree.specs.Standing.{StandsFor, limit};
 ghost use Rattle.instance_in.specs.Outcomes.{Denotes, HasRoot};
 
-use crate::denoted::denoted;
 use bumpalo::Bump;
+use instance_tree::denoted;
+use ix_base::limits::PIECE;
 use ix_base::{Content, Element, NoMemory};
 use page_tree::{PageFault, TreeBuilder};
 use std::alloc::Global;
 
 /// The most levels of elements of a canonical text: 255 in the body of a footnote, and three around it.
 const DEPTH: u32 = 258;
-
-/// How many bytes the builder is given at once.
-const PIECE: usize = 65_536;
 
 /// Gives bytes to a builder that was given none.
 fn feed_all(builder: &mut TreeBuilder<'_>, bytes: &[u8]) -> Result<(), NoMemory>

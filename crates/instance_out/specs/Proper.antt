@@ -2,6 +2,7 @@
 use Rattle.std.specs.Prelude.{◌≡◌, ℕ, ◌*◌, nat_lt, nat_le, Bool, true, false, not, ◌&&◌, ◌||◌, pos, List, [], ◌∷◌, ◌++◌, map, flat_map, Option, Some, None, if◌then◌else◌, bytes_eq, codes, is_some}
 use Rattle.std.specs.List.{list_any, list_all}
 use Rattle.std.specs.Ordering.{on}
+use Rattle.ix_base.specs.declared.limits.TheConstants.{DEEPEST_TUPLE}
 use Rattle.ix_base.specs.declared.content.Accuracy.{Accuracy}
 use Rattle.ix_base.specs.declared.content.Accuracy.TheVariants as accuracy
 use Rattle.ix_base.specs.declared.content.Context.{Context}
@@ -156,7 +157,7 @@ is_ratio (value.Plain text) = true
 unfoldable pub fractions_fit : Said → Bool
 fractions_fit c = list_all (λ i. is_ratio i.value) (items_in c.facts)
 
--- 11. A nil tuple has no members, and tuples stand at most 100 deep.
+-- 11. A nil tuple has no members, and tuples stand no deeper than the limit.
 
 abbrev pub is_none_nil : Bool → Facts → Bool
 is_none_nil true none = true
@@ -170,7 +171,7 @@ nil_is_empty (item i rest) = nil_is_empty rest
 nil_is_empty (tuple name id nil members rest) = is_none_nil nil members && nil_is_empty members && nil_is_empty rest
 
 unfoldable pub tuples_fit : Said → Bool
-tuples_fit c = nil_is_empty c.facts && nat_le (depth c.facts) 100
+tuples_fit c = nil_is_empty c.facts && nat_le (depth c.facts) DEEPEST_TUPLE
 
 -- 12. Footnote links: their locators and footnotes are those that their arcs name, and each locator is a fact.
 

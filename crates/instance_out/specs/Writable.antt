@@ -1,5 +1,6 @@
 -- The contents that can be written.
 use Rattle.std.specs.Prelude.{ℕ, suc, ◌≤◌, max, All, ℤ, pos, ◌≤ℤ◌, ◌<ℤ◌}
+use Rattle.ix_base.specs.declared.limits.TheConstants.{DEEPEST_TUPLE}
 use Rattle.ix_base.specs.declared.content.Content.{Content}
 use Rattle.ix_base.specs.declared.content.Period.{Period}
 use Rattle.ix_base.specs.declared.content.Period.TheVariants as period
@@ -33,4 +34,4 @@ depth (tuple name id nil members rest) = max (suc (depth members)) (depth rest)
 -- the content can be written
 pub record IsWritable (c : Content) : Type 0 where
   pub times : All (λ x. IsTimely x.period) c.contexts
-  pub tuples : depth (facts_of c.facts) ≤ 100
+  pub tuples : depth (facts_of c.facts) ≤ DEEPEST_TUPLE

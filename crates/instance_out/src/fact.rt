@@ -14,18 +14,8 @@ use crate::markup::{Valued, push_close, push_element, push_leaf, push_start};
 use crate::names::spaces_in;
 use crate::prefix::Prefixes;
 use crate::sort::sort_texts;
-use ix_base::{Accuracy, Content, Fact, Item, NoMemory, Text, Tuple, Value};
+use ix_base::{Accuracy, Content, Fact, Item, NoMemory, Text, Tuple, Value, shown};
 use std::alloc::Global;
-
-/// A text, if there is one.
-pub fn shown(text: &Option<Text>) -> Option<&str>
-    ensures { option_map (λ t. t.now) result ≡ text.now }
-{
-    match text {
-        Some(text) => Some(text.as_str()),
-        None => None,
-    }
-}
 
 /// The decimals of an item.
 fn decimals_of(item: &Item) -> Option<&str>

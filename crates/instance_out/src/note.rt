@@ -9,10 +9,9 @@ ghost use Rattle.instance_out.specs.Elements.{arc_text, footnote_text, locator_t
 ghost use Rattle.instance_out.specs.Gaining.{Gains};
 ghost use Rattle.instance_out.specs.Tables.{values_of};
 
-use crate::fact::shown;
 use crate::markup::{Valued, push_close, push_leaf, push_plain, push_start};
 use crate::sort::{Keyed, by_keys, sort_texts, views_of};
-use ix_base::{Arc, Footnote, NoMemory, NoteLink, Text, each_once};
+use ix_base::{Arc, Footnote, NoMemory, NoteLink, Text, each_once, shown};
 use std::alloc::Global;
 
 /// The locator of a fact by its id.

@@ -6,10 +6,9 @@ ghost use Rattle.instance_out.specs.Elements.{reference_markup};
 ghost use Rattle.instance_out.specs.Tags.{attrs_of};
 ghost use Rattle.ix_base.specs.Written.{leaf, nothing};
 
-use crate::fact::shown;
 use crate::markup::{Valued, push_leaf};
 use crate::sort::once;
-use ix_base::{Linkbase, NoMemory, RoleRef, Text};
+use ix_base::{Linkbase, NoMemory, RoleRef, Text, shown};
 use std::alloc::Global;
 
 /// Each reference is a simple link.

@@ -1,6 +1,7 @@
 -- The forms of values.
 use Rattle.std.specs.Prelude.{ℕ, ◌==◌, nat_le, Bool, true, false, not, ◌&&◌, ◌||◌, List, [], ◌∷◌, ◌++◌, if◌then◌else◌, bytes_eq, codes, ℤ, pos, neg_ℤ}
 use Rattle.std.specs.List.{list_all}
+use Rattle.ix_base.specs.declared.limits.TheConstants.{LARGEST_SCALE}
 use Rattle.ix_base.specs.Decimals.{number_in, front_of, back_of, pointed}
 use Rattle.ix_base.specs.NcName.{is_ncname, is_white}
 use Rattle.ix_base.specs.Scope.{is_qname}
@@ -133,9 +134,9 @@ is_false value = bytes_eq (token_of value) (codes "false") || bytes_eq (token_of
 abbrev pub is_boolean : List ℕ → Bool
 is_boolean value = is_true value || is_false value
 
--- an integer from -100 to 100
+-- an integer of at most the largest scale, with either sign
 abbrev pub is_scale : List ℕ → Bool
-is_scale value = is_integer (token_of value) && nat_le (size_of (token_of value)) 100
+is_scale value = is_integer (token_of value) && nat_le (size_of (token_of value)) LARGEST_SCALE
 
 abbrev pub is_sign : List ℕ → Bool
 is_sign value = bytes_eq (token_of value) (codes "-")

@@ -1,13 +1,32 @@
 //! The content of an instance: what a target's instance says.
 
+ghost use Rattle.std.specs.Prelude.{◌≡◌, IfOk};
+ghost use Rattle.ix_base.specs.OwnNames.{own};
+ghost use Rattle.ix_base.specs.Trees.{named};
+
+use crate::NoMemory;
 use crate::list::List;
 use crate::text::Text;
+use crate::tree::Name;
+use std::alloc::Global;
 
 /// A name that is owned: the text of its namespace, and its local name.
 #[derive(Debug, Drop)]
 pub struct OwnName {
     pub ns: Text,
     pub local: Text,
+}
+
+impl OwnName {
+    /// A copy of a name.
+    pub fn of(alloc: Global, name: Name<'_>) -> Result<OwnName, NoMemory>
+        ensures { IfOk result (λ n. n ≡ own (named name.entry)) }
+    {
+        Ok(OwnName {
+            ns: Text::of(alloc, name.ns)?,
+            local: Text::of(alloc, name.local)?,
+        })
+    }
 }
 
 /// How exact a number is, as a text: `INF`, or an integer in normal form.

@@ -1,5 +1,6 @@
 //! Pages come from a source, and targets and texts go to sinks.
 ghost use Rattle.std.specs.Prelude.{◌≡◌, ◌++◌, ◌∷◌, [], ◌+◌, ◌^◌, ◌<◌, ◌≤◌, ℕ, List, Bool, true, Option, OnOk, OnErr, IfOk, IfSome, IsTrue, is_ok, is_err, length, drop, option_map};
+ghost use Rattle.ix_base.specs.declared.limits.TheConstants.{LONGEST_NAME};
 ghost use Rattle.ix_base.specs.Outside.{HasCause, TellsAlso, ReadsFrom, Begun, begun, last_grown, last_finished, GainsFront, TextGainsFront};
 
 use thiserror::Error;
@@ -40,7 +41,7 @@ pub trait PageSource {
     /// Begins a page at its first byte, and ends the page before it. A page that isn't there is a fault.
     fn start(&mut self, name: &str) -> Result<(), Failed>
         requires count { faults self.old + 1 < 2 ^ 64 }
-        requires name { length name.now ≤ 4096 }
+        requires name { length name.now ≤ LONGEST_NAME }
         ensures cause { HasCause (faults self.old) (faults self.new) result }
         ensures failed { last_failed self.new ≡ is_err result }
         ensures numbers { numbers self.new ≡ numbers self.old }

@@ -1,5 +1,5 @@
 //! Texts that are owned.
-ghost use Rattle.std.specs.Prelude.{◌≡◌, ◌++◌, OnOk, OnErr, IfOk};
+ghost use Rattle.std.specs.Prelude.{◌≡◌, ◌++◌, OnOk, OnErr, IfOk, bytes_eq, option_map};
 
 use crate::NoMemory;
 use std::alloc::Global;
@@ -37,6 +37,16 @@ impl Text {
         Ok(Text { string })
     }
 
+    /// A copy of `s`, where it is there.
+    pub fn of_some(alloc: Global, s: Option<&str>) -> Result<Option<Text>, NoMemory>
+        ensures { IfOk result (λ o. o ≡ option_map (λ t. t.now) s.entry) }
+    {
+        match s {
+            Some(s) => Ok(Some(Text::of(alloc, s)?)),
+            None => Ok(None),
+        }
+    }
+
     /// The text as it stands. It takes no memory.
     pub fn as_str(&self) -> &str
         ensures { result.now ≡ self.now }
@@ -51,5 +61,22 @@ impl Text {
     {
         self.string.push_str(s)?;
         Ok(())
+    }
+
+    /// Whether two texts have the same bytes. It takes no memory.
+    pub fn is_same(&self, other: &Text) -> bool
+        ensures { result ≡ bytes_eq self.now other.now }
+    {
+        self.as_str() == other.as_str()
+    }
+}
+
+/// A text as it stands, if there is one. It takes no memory.
+pub fn shown(text: &Option<Text>) -> Option<&str>
+    ensures { option_map (λ t. t.now) result ≡ text.now }
+{
+    match text {
+        Some(text) => Some(text.as_str()),
+        None => None,
     }
 }

@@ -3,12 +3,10 @@ ghost use Rattle.std.specs.Prelude.{◌≡◌, IfOk, IfSome, None};
 ghost use Rattle.ixds_run.specs.Commands as run;
 
 use crate::complaint::push_shown;
+use ix_base::limits::MOST_PAGES;
 use ix_base::{NoMemory, Text};
 use ixds_run::command_of;
 use std::alloc::Global;
-
-/// The most pages.
-const MOST_PAGES: usize = 64;
 
 /// What is wrong: a word, and what stands before and behind it in the line that tells so.
 #[derive(Clone, Copy)]

@@ -1,5 +1,5 @@
 -- What is done in the folder of targets, in its order.
-use Rattle.std.specs.Prelude.{ℕ, List, [], ◌∷◌, ◌++◌, Option, option_map}
+use Rattle.std.specs.Prelude.{ℕ, List, ◌++◌, Option, option_map}
 
 -- what was found at a path, by its permissions, where a file stood there; an empty file was made at a path, with these
 -- permissions, where any were asked for; what a file held stands on the disk; the folder was entered; a file was renamed; the names

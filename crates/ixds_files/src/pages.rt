@@ -1,10 +1,12 @@
 //! Pages that are files.
 ghost use Rattle.std.specs.Prelude.{◌≡◌, ◌≤◌, ◌<◌, ◌++◌, ◌∷◌, [], length, take, ℕ, List, Option, IfOk, OnErr, None, option_map};
 ghost use Rattle.std.specs.Io.KnownBytes.{Consumes, IsAtEnd, Keeps};
+ghost use Rattle.ix_base.specs.declared.limits.TheConstants.{LONGEST_NAME};
 
 use crate::blamed::Blamed;
 use crate::cause::Cause;
-use ix_base::{Failed, NoMemory, PageSource};
+use ix_base::limits::LONGEST_NAME;
+use ix_base::{Failed, NoMemory, PageSource, keep_name};
 use std::alloc::Global;
 use std::io;
 use std::io::Read;
@@ -27,11 +29,11 @@ pub trait Opener {
 pub struct FilePages<O: Opener + Drop> {
     opener: O,
     file: Option<O::File>,
-    asked: [u8; 4096],
+    asked: [u8; LONGEST_NAME],
     asked_len: usize,
     faults: u64,
     cause: Option<Cause>,
-    ghost kept: { asked_len ≤ 4096 },
+    ghost kept: { asked_len ≤ LONGEST_NAME },
 }
 
 impl<O: Opener + Drop> FilePages<O> {
@@ -43,21 +45,12 @@ impl<O: Opener + Drop> FilePages<O> {
         FilePages {
             opener,
             file: None,
-            asked: [0; 4096],
+            asked: [0; LONGEST_NAME],
             asked_len: 0,
             faults: 0,
             cause: None,
         }
     }
-}
-
-/// Keeps a name at the front of a buffer.
-fn keep(asked: &mut [u8; 4096], name: &str)
-    requires { length name.now ≤ 4096 }
-    ensures { take (length name.now) asked.new ≡ name.now }
-{
-    let n = name.len();
-    asked[..n].copy_from_slice(name.as_bytes());
 }
 
 /// Reads a piece, again where the call was interrupted.
@@ -99,7 +92,7 @@ impl<O: Opener + Drop> PageSource for FilePages<O> {
     ghost starts = { λ p. O.opens p.opener };
 
     fn start(&mut self, name: &str) -> Result<(), Failed> {
-        keep(&mut self.asked, name);
+        keep_name(&mut self.asked, name);
         self.asked_len = name.len();
         self.file = None;
         self.cause = None;

@@ -31,7 +31,7 @@ impl<W: Write + Drop> StdoutText<W> {
 }
 
 impl<W: Write + Drop> TextSink for StdoutText<W> {
-    ghost use Rattle.std.specs.Prelude.{[], is_err, is_some, OnOk, OnErr, ◌+◌, ◌<◌, ◌^◌};
+    ghost use Rattle.std.specs.Prelude.{[], is_err, is_some, OnOk, ◌+◌, ◌<◌, ◌^◌};
     ghost use Rattle.std.specs.Io.KnownBytes.{Appends};
     ghost use Rattle.ix_base.specs.Outside.{HasCause};
     ghost use Rattle.ixds_files.specs.Written.{AppendsFront};

@@ -23,7 +23,7 @@ use Rattle.ixds_run.specs.SessionOutcomes.{behind}
 use Rattle.ixds_run.specs.Verdicts.{CommandMakes, PagesMake}
 use Rattle.ixds_run.specs.Reading.{IsRead}
 use Rattle.ixds_run.specs.declared.due.Due.{Due}
-use Rattle.ixds_run.specs.declared.forest.Forest.{Forest}
+use Rattle.ixds_run.specs.declared.read_pages.Forest.{Forest}
 use Rattle.ixds_run.specs.declared.due.DueTarget.{DueTarget}
 use Rattle.page_session.proofs.MadeLaws.{cut_at}
 use Rattle.targets.specs.declared.outcome.Target.{Target}

@@ -18,8 +18,8 @@ use Rattle.ixds_run.specs.SessionBytes.{OfScript, names_said, to_read}
 use Rattle.ixds_run.specs.SessionOutcomes.{IsSaidDue, IsSession, broken_line}
 use Rattle.ixds_run.specs.Texts.{cannot_read_line}
 use Rattle.ixds_run.specs.declared.due.Due.{Due}
-use Rattle.ixds_run.specs.declared.forest.Stopped.{Stopped}
-use Rattle.ixds_run.specs.declared.forest.Stopped.TheVariants as stopped
+use Rattle.ixds_run.specs.declared.read_pages.Stopped.{Stopped}
+use Rattle.ixds_run.specs.declared.read_pages.Stopped.TheVariants as stopped
 use Rattle.ixds_run.proofs.FollowLaws.{started_more}
 use Rattle.ixds_run.proofs.ForestLaws.{none_started}
 use Rattle.ixds_run.proofs.ScriptLaws.{script_small}

@@ -20,13 +20,13 @@ use Rattle.ixds_run.specs.Gains.{GainsStarts}
 use Rattle.ixds_run.specs.CommandBytes.{AreSome}
 use Rattle.ix_base.specs.Outside.{TellsAlso}
 use Rattle.ixds_run.specs.Reading.{Holds, IsReadWhole, HasGained, HasGainedTree, HasRead, HasReadSome, IsRead, IsRoot, AreRoots, IsSound, IsAmong, IsLast, ReadsOn, StopsAt, StopsInTime, WhyStopped, kept_texts}
-use Rattle.ixds_run.specs.declared.forest.Stopped.{Stopped}
-use Rattle.ixds_run.specs.declared.forest.Stopped.TheVariants as stopped
-use Rattle.ixds_run.specs.declared.reading.OpenPage.{OpenPage}
+use Rattle.ixds_run.specs.declared.read_pages.Stopped.{Stopped}
+use Rattle.ixds_run.specs.declared.read_pages.Stopped.TheVariants as stopped
+use Rattle.ixds_run.specs.declared.open_page.OpenPage.{OpenPage}
 use Rattle.ix_base.specs.declared.rule.Rule.TheVariants.{S1, S2}
 use Rattle.page_tree.specs.Break.{Fault}
 use Rattle.targets.specs.Breaches.{size_rule, tags_in, all_tags_in, bytes_in, fault_row, on_page, text_fault, text_faults}
-use Rattle.ixds_run.specs.declared.forest.Forest.{Forest}
+use Rattle.ixds_run.specs.declared.read_pages.Forest.{Forest}
 
 -- a page that has a tree was ended
 pub gained_root : (n : ℕ) (b : List ℕ) (limit : ℕ) (f f' : Forest) (e : Bor Element) {k : ℕ} → limit ≡ 256 → None ≡ w b limit → f'.found ≡ f.found
@@ -391,6 +391,19 @@ next_stopped page names name rest n asked f before mid now failed stopped.NoMemo
 -- the name at this index and those behind it
 pub next_of : (names : List (List ℕ)) (n : ℕ) (name : List ℕ) → n < length names → name ≡ get_or names n name → drop n names ≡ name ∷ drop (n + 1) names
 next_of names n name h e = drop-cons names n name h ∙ (λ i. sym e i ∷ drop (sym (add-one n) i) names)
+
+-- what was read before a name, which stands in front of those that are left
+pub before_next : (page : List ℕ → Option (List ℕ)) (names : List (List ℕ)) (n : ℕ) (name : List ℕ) (f : Forest) → n < length names
+    → name ≡ get_or names n name → HasReadSome page names (drop n names) n f → HasReadSome page names (name ∷ drop (n + 1) names) n f
+before_next page names n name f within is h =
+    subst (λ (rest : List (List ℕ)). HasReadSome page names rest n f) (next_of names n name within is) h
+
+-- a page that was read on, of a source that tells what it told at first, and what was read before it
+pub next_read : (page now : List ℕ → Option (List ℕ)) (names : List (List ℕ)) (n : ℕ) (name : List ℕ) (left : Option (List ℕ)) (f g : Forest)
+    → n < length names → name ≡ get_or names n name → now ≡ page → ReadsOn (now name) left n f g → HasReadSome page names (drop n names) n f
+    → ReadsOn (page name) left n f g × HasReadSome page names (name ∷ drop (n + 1) names) n f
+next_read page now names n name left f g within is same on h =
+    (subst (λ (source : List ℕ → Option (List ℕ)). ReadsOn (source name) left n f g) same on, before_next page names n name f within is h)
 
 -- no name is left
 pub stops_at_end : (page : List ℕ → Option (List ℕ)) (names back : List (List ℕ)) (left asked : Option (List ℕ)) (n : ℕ) → 0 < n → back ≡ []

@@ -16,7 +16,7 @@ use Rattle.page_tree.specs.Page.{page}
 use Rattle.targets.specs.Forest.{AreSoundRoots, AreTrees, page_set, trees_of}
 use Rattle.targets.specs.SetOutcomes.{ComesTo, IsReport}
 use Rattle.ixds_run.specs.Reading.{AreRoots, HasRead, IsRead}
-use Rattle.ixds_run.specs.declared.forest.Forest.{Forest}
+use Rattle.ixds_run.specs.declared.read_pages.Forest.{Forest}
 use Rattle.targets.specs.declared.outcome.Outcome.{Outcome}
 
 pub are_trees : (n : ℕ) (bs : List (List ℕ)) (es : List (Bor Element)) → AreRoots n bs es → AreTrees bs (trees_of es)

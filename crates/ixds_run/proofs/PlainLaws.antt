@@ -16,7 +16,7 @@ use Rattle.targets.specs.Breaches.{on_page, size_rule, text_faults}
 use Rattle.targets.specs.Forest.{AreTrees}
 use Rattle.ixds_run.specs.Reading.{AreRoots, HasRead, IsRead}
 use Rattle.ixds_run.specs.Verdicts.{IsShown, IsShownBy, Reports}
-use Rattle.ixds_run.specs.declared.forest.Forest.{Forest}
+use Rattle.ixds_run.specs.declared.read_pages.Forest.{Forest}
 use Rattle.ixds_run.specs.declared.verdict.Verdict.{Verdict}
 use Rattle.ixds_run.specs.declared.verdict.Verdict.TheVariants.{Printed}
 use Rattle.ixds_run.proofs.JudgeLaws.{empty_of}

@@ -17,8 +17,8 @@ use Rattle.ixds_run.specs.SessionBytes.{OfScript}
 use Rattle.ixds_run.specs.declared.command.Command.{Command}
 use Rattle.ixds_run.specs.declared.command.Command.TheVariants.{Extract, Check, Sample, Plain, Trace, Session}
 use Rattle.ixds_run.specs.declared.due.Due.{Due}
-use Rattle.ixds_run.specs.declared.forest.Stopped.{Stopped}
-use Rattle.ixds_run.specs.declared.forest.Stopped.TheVariants as stopped
+use Rattle.ixds_run.specs.declared.read_pages.Stopped.{Stopped}
+use Rattle.ixds_run.specs.declared.read_pages.Stopped.TheVariants as stopped
 use Rattle.ixds_run.specs.declared.status.Status.{Status}
 use Rattle.ixds_run.specs.declared.status.Status.TheVariants.{Done, Broken, ReadFault, WriteFault, NoMemory}
 use Rattle.ixds_run.proofs.AnswerLaws.{complete_by, fault_answer, memory_answer, of_some, told_of}

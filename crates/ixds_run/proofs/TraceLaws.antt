@@ -23,7 +23,7 @@ use Rattle.targets.specs.declared.outcome.Target.{Target}
 use Rattle.page_session.specs.Names.{has_repeat}
 use Rattle.ixds_run.specs.Reading.{AreRoots, IsRead, IsRoot, IsSound, kept_texts}
 use Rattle.ixds_run.specs.Verdicts.{IsTraced, sources, trace_text}
-use Rattle.ixds_run.specs.declared.forest.Forest.{Forest}
+use Rattle.ixds_run.specs.declared.read_pages.Forest.{Forest}
 use Rattle.ixds_run.specs.declared.verdict.Verdict.{Verdict}
 use Rattle.ixds_run.specs.declared.verdict.Verdict.TheVariants.{Printed, Reported}
 use Rattle.ixds_run.proofs.JudgeLaws.{are_trees, no_faults}

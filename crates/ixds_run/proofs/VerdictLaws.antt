@@ -7,7 +7,7 @@ use Rattle.ixds_run.specs.Sample.{sample_base}
 use Rattle.ixds_run.specs.Verdicts.{CommandMakes, IsOfSet, IsShown, IsTraced, PagesMake}
 use Rattle.ixds_run.specs.declared.command.Command.{Command}
 use Rattle.ixds_run.specs.declared.command.Command.TheVariants.{Extract, Check, Sample, Plain, Trace, Session}
-use Rattle.ixds_run.specs.declared.forest.Forest.{Forest}
+use Rattle.ixds_run.specs.declared.read_pages.Forest.{Forest}
 use Rattle.ixds_run.specs.declared.verdict.Verdict.{Verdict}
 
 -- the only command without a base shows a page

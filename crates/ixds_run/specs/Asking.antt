@@ -5,7 +5,7 @@ use Rattle.ixds_run.specs.Commands.{number_of, pages_of}
 use Rattle.ixds_run.specs.Gains.{GainsStarts}
 use Rattle.ixds_run.specs.Reading.{IsAmong, StopsInTime, WhyStopped}
 use Rattle.ixds_run.specs.declared.command.Command.{Command}
-use Rattle.ixds_run.specs.declared.forest.Stopped.{Stopped}
+use Rattle.ixds_run.specs.declared.read_pages.Stopped.{Stopped}
 
 -- Pages of these names were asked for and read, in this order: all of them, or up to one that can't be read, or to where memory
 -- was wanted.

@@ -1,6 +1,7 @@
 -- What the words of a command line ask for.
 use Rattle.std.specs.Prelude.{◌≡◌, ℕ, ◌<◌, ◌≤◌, Bool, true, false, All, IfSome, ◌&&◌, nat_lt, List, [], ◌∷◌, length, bytes_eq, codes, Option, Some, None, option_and_then, option_map, if◌then◌else◌}
 use Rattle.clap.specs.Walk.{Row, all_of, first_of}
+use Rattle.ix_base.specs.declared.limits.TheConstants.{LONGEST_NAME, MOST_FACTS, MOST_PAGES}
 use Rattle.ixds_run.specs.declared.command.Command.{Command}
 use Rattle.ixds_run.specs.declared.command.Command.TheVariants.{Extract, Check, Sample, Plain, Trace, Session}
 use Rattle.ixds_run.specs.Bases.{is_base}
@@ -135,14 +136,14 @@ is_session (Session base dir script) = true
 -- Names of pages as a command has them: few enough, none too long for a source, and none twice.
 pub record AreNames (names : List (List ℕ)) : Type 0 where
   pub some : 0 < length names
-  pub few : length names ≤ 64
-  pub short : All (λ n. length n ≤ 4096) names
+  pub few : length names ≤ MOST_PAGES
+  pub short : All (λ n. length n ≤ LONGEST_NAME) names
   pub once : has_repeat names ≡ false
 
 -- A command as words give it: a base is a URL of the web, its directory word isn't empty, its pages can be asked for, and a sample
--- has from 1 to 200000 facts.
+-- has 1 fact at least and no more than a sample may have.
 pub record IsGiven (c : Command) : Type 0 where
   pub base : IfSome (base_of c) (λ b. is_base b ≡ true)
   pub dir : IfSome (dir_of c) (λ d. 0 < length d)
   pub pages : AreNames (pages_of c)
-  pub number : IfSome (number_of c) (λ n. (1 ≤ n) × (n ≤ 200000))
+  pub number : IfSome (number_of c) (λ n. (1 ≤ n) × (n ≤ MOST_FACTS))

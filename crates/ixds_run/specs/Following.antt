@@ -3,11 +3,13 @@ use Rattle.std.specs.Prelude.{◌≡◌, ℕ, ◌≤◌, ◌<◌, All, true, fal
 use Rattle.std.specs.Prelude.{Option, Some, None, IfSome, option_map, Result, Ok, Err, IfOk, IfErr, OnOk}
 use Rattle.std.specs.List.{concat, list_any}
 use Rattle.ix_base.specs.declared.NoMemory.{NoMemory}
+use Rattle.ix_base.specs.declared.limits.TheConstants.{LONGEST_NAME}
 use Rattle.page_session.specs.Course.{AreTold, Course, Standing, StandsAs, course, course_from, names_read, names_read_from, with_check}
 use Rattle.page_session.specs.Handed.{Handed}
 use Rattle.page_session.specs.Script.{is_extract}
 use Rattle.page_session.specs.Sessions.{IsWithin, base_of}
 use Rattle.page_session.specs.Sources.{IsTelling, Source, told}
+use Rattle.page_session.specs.declared.limits.TheConstants.{MOST_BYTES_PUT}
 use Rattle.page_session.specs.declared.script.Line.{Line}
 use Rattle.page_session.specs.declared.script.Line.TheVariants as line
 use Rattle.page_session.specs.declared.script.ScriptLine.{ScriptLine}
@@ -20,12 +22,12 @@ use Rattle.ixds_run.specs.SessionBytes.{OfScript, to_read}
 use Rattle.ixds_run.specs.SessionOutcomes.{AreChecked, IsCourseDue, IsSession}
 use Rattle.ixds_run.specs.Texts.{cannot_read_line}
 use Rattle.ixds_run.specs.declared.due.Due.{Due}
-use Rattle.ixds_run.specs.declared.forest.Stopped.{Stopped}
-use Rattle.ixds_run.specs.declared.forest.Stopped.TheVariants as stopped
+use Rattle.ixds_run.specs.declared.read_pages.Stopped.{Stopped}
+use Rattle.ixds_run.specs.declared.read_pages.Stopped.TheVariants as stopped
 
 -- the name of a page that a line puts isn't too long for a source
 abbrev pub IsShort : Line → Type 0
-IsShort (line.Put name) = length name ≤ 4096
+IsShort (line.Put name) = length name ≤ LONGEST_NAME
 IsShort (line.Drop name) = Unit {0}
 IsShort line.Check = Unit {0}
 IsShort line.Extract = Unit {0}
@@ -82,7 +84,7 @@ pub record IsLastPut (page : List ℕ → Option (List ℕ)) (names : List (List
   pub front : List (List ℕ)
   pub splits : names ≡ front ++ name ∷ []
   pub asked_is : IfSome asked (λ n. n ≡ name)
-  pub within : IfSome (told page front) (λ bs. bytes_in bs ≤ 134217728)
+  pub within : IfSome (told page front) (λ bs. bytes_in bs ≤ MOST_BYTES_PUT)
   pub telling : IsTelling page front
 
 -- why following lines ended before their end: a page can't be read, which the last call told, and the line names it, or memory was

@@ -4,6 +4,7 @@ use Rattle.std.specs.Borrow.{Bor}
 use Rattle.ix_base.specs.Spaces.{AreNumbered, spaces_of}
 use Rattle.ix_base.specs.Elements.{pages_of}
 use Rattle.ix_base.specs.Trees.{tree_of}
+use Rattle.ix_base.specs.declared.limits.TheConstants.{DEEPEST_ELEMENT, MOST_BYTES, PIECE}
 use Rattle.ix_base.specs.declared.tree.Element.{Element}
 use Rattle.page_tree.specs.Page.{page as page_with}
 use Rattle.page_tree.specs.Break.{w}
@@ -13,10 +14,10 @@ use Rattle.page_session.specs.Sources.{IsTelling, told}
 use Rattle.page_session.specs.declared.reading.Sums.{Sums}
 use Rattle.targets.specs.Breaches.{size_rule, tags_in, all_tags_in, bytes_in, set_rule, text_fault, text_faults}
 use Rattle.ixds_run.specs.Texts.{cannot_read_line}
-use Rattle.ixds_run.specs.declared.forest.Forest.{Forest}
-use Rattle.ixds_run.specs.declared.forest.Stopped.{Stopped}
-use Rattle.ixds_run.specs.declared.forest.Stopped.TheVariants as stopped
-use Rattle.ixds_run.specs.declared.reading.OpenPage.{OpenPage}
+use Rattle.ixds_run.specs.declared.read_pages.Forest.{Forest}
+use Rattle.ixds_run.specs.declared.read_pages.Stopped.{Stopped}
+use Rattle.ixds_run.specs.declared.read_pages.Stopped.TheVariants as stopped
+use Rattle.ixds_run.specs.declared.open_page.OpenPage.{OpenPage}
 
 -- An open page was given these bytes: its builder stands for them, and where bytes are kept, these are.
 pub record Holds (t : OpenPage) (b : List ℕ) : Type 0 where
@@ -32,11 +33,11 @@ pub record HasTaken (fresh : OpenPage) (b : List ℕ) (p : OpenPage) : Type 0 wh
 
 -- What was read of a page is all of it, unless the bytes read are more than pages may have.
 abbrev pub IsReadWhole : Option (List ℕ) → Option (List ℕ) → Sums → Type 0
-IsReadWhole page left sums = sums.bytes ≤ 268435456 → IfSome page (λ b. left ≡ Some [])
+IsReadWhole page left sums = sums.bytes ≤ MOST_BYTES → IfSome page (λ b. left ≡ Some [])
 
 -- a page of this number, with these bytes, has this root
 abbrev pub IsRoot : ℕ → List ℕ → Bor Element → Type 0
-IsRoot n b e = page_with b 256 (tree_of e.now) × AreAll n (pages_of e.now) × AreNumbered (spaces_of e.now)
+IsRoot n b e = page_with b DEEPEST_ELEMENT (tree_of e.now) × AreAll n (pages_of e.now) × AreNumbered (spaces_of e.now)
 
 -- these are the roots of pages with these bytes, numbered on from this number
 abbrev pub AreRoots : ℕ → List (List ℕ) → List (Bor Element) → Type 0
@@ -51,7 +52,7 @@ kept_texts f = map (λ t. t.now) f.texts.items
 -- the forest gained the tree of the page of this number with these bytes: its root or its break
 pub record HasGainedTree (n : ℕ) (b : List ℕ) (old new : Forest) : Type 0 where
   pub found : new.found ≡ old.found ++ text_fault n b
-  pub root : w b 256 ≡ None → (e : Bor Element) × (new.roots.items ≡ old.roots.items ++ e ∷ []) × IsRoot n b e
+  pub root : w b DEEPEST_ELEMENT ≡ None → (e : Bor Element) × (new.roots.items ≡ old.roots.items ++ e ∷ []) × IsRoot n b e
 
 -- and the bytes of the page, where it keeps them
 pub record HasGained (n : ℕ) (b : List ℕ) (old new : Forest) : Type 0 where
@@ -74,7 +75,7 @@ pub record ReadsOn (page left : Option (List ℕ)) (n : ℕ) (old new : Forest) 
   pub tags : new.sums.tags ≡ old.sums.tags + tags_in front
   pub told : IfSome page (λ b. (rest : List ℕ) × (b ≡ front ++ rest) × (left ≡ Some rest))
   pub whole : IsReadWhole page left new.sums
-  pub gained : new.sums.bytes ≤ 268435456 → HasGained n front old new
+  pub gained : new.sums.bytes ≤ MOST_BYTES → HasGained n front old new
 
 -- So many of the pages of these names were read, and these names are left.
 pub record HasReadSome (page : List ℕ → Option (List ℕ)) (names rest : List (List ℕ)) (n : ℕ) (f : Forest) : Type 0 where
@@ -103,7 +104,7 @@ pub record IsAmong (page : List ℕ → Option (List ℕ)) (names : List (List �
   pub back : List (List ℕ)
   pub splits : names ≡ front ++ name ∷ back
   pub asked_is : IfSome asked (λ n. n ≡ name)
-  pub within : IfSome (told page front) (λ bs. bytes_in bs ≤ 268435456)
+  pub within : IfSome (told page front) (λ bs. bytes_in bs ≤ MOST_BYTES)
   pub telling : IsTelling page front
 
 -- The same, with these names behind it. Of the pages up to it, where the source tells them, at most the limit and one
@@ -113,16 +114,16 @@ pub record IsLast (page : List ℕ → Option (List ℕ)) (names back : List (Li
   pub name : List ℕ
   pub splits : names ≡ front ++ name ∷ back
   pub asked_is : IfSome asked (λ n. n ≡ name)
-  pub within : IfSome (told page front) (λ bs. bytes_in bs ≤ 268435456)
+  pub within : IfSome (told page front) (λ bs. bytes_in bs ≤ MOST_BYTES)
   pub telling : IsTelling page front
-  pub most : IfSome (told page (front ++ name ∷ [])) (λ bs. IfSome left (λ rest. bytes_in bs ≤ length rest + (268435456 + 65536)))
+  pub most : IfSome (told page (front ++ name ∷ [])) (λ bs. IfSome left (λ rest. bytes_in bs ≤ length rest + (MOST_BYTES + PIECE)))
 
 -- Reading stopped in time: at the last of these pages, unless they have together, where the source tells them, more bytes
 -- than pages may have.
 abbrev pub StopsInTime : (List ℕ → Option (List ℕ)) → List (List ℕ) → (left asked : Option (List ℕ)) → Type 0
 StopsInTime page names left asked =
     (back : List (List ℕ)) × IsLast page names back left asked
-    × ((back ≡ []) ⊎ IfSome (told page names) (λ bs. 268435456 < bytes_in bs))
+    × ((back ≡ []) ⊎ IfSome (told page names) (λ bs. MOST_BYTES < bytes_in bs))
 
 -- why reading the page of this name ended before its end: it can't be read, which the last call told, and the line names it, or
 -- memory was wanted

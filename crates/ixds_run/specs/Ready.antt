@@ -8,7 +8,7 @@ use Rattle.ixds_run.specs.Following.{IsFollowed, IsSilent}
 use Rattle.ixds_run.specs.declared.command.Command.{Command}
 use Rattle.ixds_run.specs.declared.command.Command.TheVariants.{Session}
 use Rattle.ixds_run.specs.declared.due.Due.{Due}
-use Rattle.ixds_run.specs.declared.forest.Stopped.{Stopped}
+use Rattle.ixds_run.specs.declared.read_pages.Stopped.{Stopped}
 
 -- The pages of a command were read or made, and this is due of them; or why it isn't.
 pub record IsPrepared (c : Command) (old new : Source) (Same : Type 0) (result : Result Due Stopped) : Type 0 where

@@ -4,6 +4,7 @@ use Rattle.std.specs.Fmt.{decimal}
 use Rattle.std.specs.List.{list_all}
 use Rattle.ix_base.specs.Decimals.{number_in}
 use Rattle.ix_base.specs.Forms.{is_digit}
+use Rattle.ix_base.specs.declared.limits.TheConstants.{MOST_FACTS}
 
 -- the base of the pages, and their names
 abbrev pub sample_base : List ℕ
@@ -56,7 +57,7 @@ abbrev pub is_number : List ℕ → Bool
 is_number [] = false
 is_number (c ∷ cs) = not (c == 48) && list_all is_digit (c ∷ cs)
 
--- the number of facts that a word asks for: one from 1 to 200000, in digits without a zero in front
+-- the number of facts that a word asks for: one from 1 to the most of a sample, in digits without a zero in front
 abbrev pub sample_number : List ℕ → Option ℕ
 sample_number word =
-    if is_number word && nat_le 1 (number_in word) && nat_le (number_in word) 200000 then Some (number_in word) else None
+    if is_number word && nat_le 1 (number_in word) && nat_le (number_in word) MOST_FACTS then Some (number_in word) else None

@@ -1,5 +1,6 @@
 //! Following a script line by line.
 ghost use Rattle.std.specs.Prelude.{◌≡◌, ◌+◌, ◌^◌, ◌<◌, ◌≤◌, ◌++◌, ℕ, List, None, Some, length, IfOk, OnOk};
+ghost use Rattle.ix_base.specs.declared.limits.TheConstants.{LONGEST_NAME};
 ghost use Rattle.page_session.specs.Handed.{Handed};
 ghost use Rattle.page_session.specs.Sessions.{StandsFor, base_of};
 ghost use Rattle.page_session.specs.Sources.{source_told};
@@ -11,9 +12,9 @@ ghost use Rattle.ixds_run.specs.Following.{IsLineFollowed, IsShort, IsSilent, en
 ghost use Rattle.ixds_run.specs.SessionOutcomes.{IsChecked, IsExtracted, broken_line};
 
 use crate::due::{Due, ready};
-use crate::forest::Stopped;
 use crate::laws::said_read_back;
 use crate::lines::cannot_read;
+use crate::read_pages::Stopped;
 use crate::report::{line_of, lines_of};
 use crate::summary::summary;
 use crate::verdict::verdict_of;
@@ -99,7 +100,7 @@ fn put_page<P: PageSource>(
     pages: &mut P,
 ) -> Result<Option<Due>, Stopped>
     requires count { P.faults pages.old + 1 < 2 ^ 64 }
-    requires name { length name.now ≤ 4096 }
+    requires name { length name.now ≤ LONGEST_NAME }
     ensures follows { (text : List ℕ) → IsLineFollowed script.now (record { start = start; line = script_line.Put name.now })
         (source_told P.PageSource pages.old) (source_told P.PageSource pages.new) session.old session.new text text result }
     ensures pages { P.page pages.new ≡ P.page pages.old }

@@ -1,23 +1,21 @@
 //! What pages that were read say, or the rules that they break.
 ghost use Rattle.std.specs.Prelude.{◌≡◌, ◌∷◌, [], ◌<◌, ◌≤◌, ℕ, List, None, length, IfOk, ◌≢◌};
+ghost use Rattle.ix_base.specs.declared.limits.TheConstants.{MOST_PAGES};
 ghost use Rattle.ix_base.specs.Trees.{Tree};
 ghost use Rattle.targets.specs.Breaches.{size_rule, PagesComeTo, on_page, text_faults};
 ghost use Rattle.targets.specs.Forest.{AreTrees, page_set};
 ghost use Rattle.targets.specs.SetOutcomes.{ComesTo, CanBeWritten, IsReport};
 ghost use Rattle.ixds_run.specs.Reading.{HasRead, IsRead, IsSound};
 
-use crate::forest::Forest;
-use crate::reading::MOST_BYTES;
+use crate::read_pages::Forest;
 use bumpalo::Bump;
+use ix_base::limits::{MOST_BYTES, MOST_TAGS};
 use ix_base::{Breaches, NoMemory, Place, Rule, Text};
-use page_session::made::{made, reported};
+use page_session::made::made;
 use page_session::reading::Sums;
 use page_tree::laws::sound_tree;
 use std::alloc::Global;
 use targets::Outcome;
-
-/// The most bytes `<` of the pages together.
-const MOST_TAGS: u64 = 8_388_608;
 
 /// The size rule that pages with these sums break.
 pub fn size_rule_of(sums: Sums) -> Option<Rule>
@@ -40,7 +38,7 @@ fn too_large(alloc: Global, names: &[Text], rule: Rule) -> Result<Outcome, NoMem
 {
     let mut found = Breaches::new(alloc);
     found.add(Place { page: 0, offset: 0 }, rule)?;
-    reported(found, names)
+    Outcome::broken(found, names)
 }
 
 /// What pages say that break no size rule.
@@ -52,7 +50,7 @@ fn judge_kept<'a>(
     names: &[Text],
 ) -> Result<Outcome, NoMemory>
     requires some { 0 < length names.now }
-    requires most { length names.now ≤ 64 }
+    requires most { length names.now ≤ MOST_PAGES }
     requires read { (bs : List (List ℕ)) × HasRead bs forest × (length bs ≡ length names.now) }
     ensures broken { (bs : List (List ℕ)) → HasRead bs forest.entry → text_faults 0 bs ≢ []
         → IfOk result (IsReport names.now (text_faults 0 bs)) }
@@ -64,7 +62,7 @@ fn judge_kept<'a>(
         sound_tree();
         return made(alloc, arena, base, names, forest.roots.as_slice());
     }
-    reported(forest.found, names)
+    Outcome::broken(forest.found, names)
 }
 
 /// What pages say that were read.
@@ -76,7 +74,7 @@ pub fn judge<'a>(
     forest: Forest<'a>,
 ) -> Result<Outcome, NoMemory>
     requires some { 0 < length names.now }
-    requires most { length names.now ≤ 64 }
+    requires most { length names.now ≤ MOST_PAGES }
     requires sound { IsSound names.now forest }
     ensures says { IfOk result (λ o. (bs : List (List ℕ)) → IsRead bs forest.entry → PagesComeTo base.now names.now bs o) }
     ensures written { IfOk result CanBeWritten }

@@ -8,10 +8,10 @@ ghost use Rattle.ixds_run.specs.Reading.{IsRead, IsSound};
 ghost use Rattle.ixds_run.specs.Ready.{IsPrepared};
 
 use crate::command::Command;
+use crate::command_pages::gathered;
 use crate::due::{Due, ready};
-use crate::forest::{Forest, Stopped};
-use crate::gather::gathered;
 use crate::laws::{said_in_any_order, said_read_back};
+use crate::read_pages::{Forest, Stopped};
 use crate::verdict::verdict_from;
 use bumpalo::Bump;
 use ix_base::{NoMemory, PageSource};

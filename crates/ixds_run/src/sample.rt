@@ -1,5 +1,6 @@
 //! The pages of a sample.
 ghost use Rattle.std.specs.Prelude.{◌≡◌, ◌++◌, ◌≤◌, map, IfOk, OnOk};
+ghost use Rattle.ix_base.specs.declared.limits.TheConstants.{MOST_FACTS};
 ghost use Rattle.ixds_run.specs.Sample as spec;
 
 use ix_base::{List, MemPage, NoMemory, Text};
@@ -73,7 +74,7 @@ fn push_more(alloc: Global, text: &mut Vec<u8>, number: u32) -> Result<(), NoMem
 
 /// Adds what a fact puts on a page: it begins on one page, and goes on on the next.
 fn put_on(alloc: Global, text: &mut Vec<u8>, page: u32, number: u32) -> Result<(), NoMemory>
-    requires { number ≤ 200000 }
+    requires { number ≤ MOST_FACTS }
     ensures { OnOk result (text.new.items ≡ text.old.items ++ spec.put_on page number) }
 {
     if number % 4 == page {
@@ -88,7 +89,7 @@ fn put_on(alloc: Global, text: &mut Vec<u8>, page: u32, number: u32) -> Result<(
 /// Adds what all facts put on a page.
 #[tactic(auto, unfolding(crate::specs::Sample::all_put_on))]
 fn put_all_on(alloc: Global, text: &mut Vec<u8>, page: u32, facts: u32) -> Result<(), NoMemory>
-    requires { facts ≤ 200000 }
+    requires { facts ≤ MOST_FACTS }
     ensures { OnOk result (text.new.items ≡ text.old.items ++ spec.all_put_on page facts) }
 {
     for i in 0..facts {
@@ -100,7 +101,7 @@ fn put_all_on(alloc: Global, text: &mut Vec<u8>, page: u32, facts: u32) -> Resul
 /// The page of this number in the sample of so many facts.
 #[tactic(auto, unfolding(crate::specs::Sample::sample_page))]
 fn sample_page(alloc: Global, name: &str, page: u32, facts: u32) -> Result<MemPage, NoMemory>
-    requires { facts ≤ 200000 }
+    requires { facts ≤ MOST_FACTS }
     ensures name { IfOk result (λ p. p.name ≡ name.now) }
     ensures bytes { IfOk result (λ p. p.bytes ≡ spec.sample_page facts page) }
 {
@@ -116,7 +117,7 @@ fn sample_page(alloc: Global, name: &str, page: u32, facts: u32) -> Result<MemPa
 
 /// The four pages of the sample of so many facts.
 pub fn sample_pages(alloc: Global, facts: u32) -> Result<Vec<MemPage>, NoMemory>
-    requires { facts ≤ 200000 }
+    requires { facts ≤ MOST_FACTS }
     ensures names { IfOk result (λ v. map (λ p. p.name) v.items ≡ spec.sample_names) }
     ensures bytes { IfOk result (λ v. map (λ p. p.bytes) v.items ≡ spec.sample_bytes facts) }
 {

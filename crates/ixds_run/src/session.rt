@@ -1,5 +1,6 @@
 //! A session, from its script up to what is due of it.
 ghost use Rattle.std.specs.Prelude.{◌≡◌, ◌+◌, ◌^◌, ◌<◌, ◌≤◌, length, IfErr, IfOk, OnOk};
+ghost use Rattle.ix_base.specs.declared.limits.TheConstants.{LONGEST_NAME};
 ghost use Rattle.page_session.specs.Course.{names_read};
 ghost use Rattle.page_session.specs.Sources.{source_told};
 ghost use Rattle.ixds_run.specs.Following.{AreLines, IsEnded, IsFollowed, IsSilent, OfLines, WhyUnfollowed};
@@ -7,8 +8,8 @@ ghost use Rattle.ixds_run.specs.Gains.{GainsStarts};
 
 use crate::due::Due;
 use crate::follow::{due_of_line, follow_line};
-use crate::forest::Stopped;
 use crate::lines::cannot_read;
+use crate::read_pages::Stopped;
 use bumpalo::Bump;
 use ix_base::{PageSource, Rule, Text};
 use page_session::laws::lines_by_calls;
@@ -62,7 +63,7 @@ pub fn follow<P: PageSource>(
     pages: &mut P,
 ) -> Result<Due, Stopped>
     requires count { P.faults pages.old + 1 < 2 ^ 64 }
-    requires name { length script.now ≤ 4096 }
+    requires name { length script.now ≤ LONGEST_NAME }
     ensures { IsFollowed base.now script.now (source_told P.PageSource pages.old) (source_told P.PageSource pages.new) result }
 {
     let Ok(line) = cannot_read(alloc, script) else {

@@ -1,6 +1,7 @@
 //! Where the text of each fact of a set of pages stands.
 ghost use Rattle.std.specs.Prelude.{◌≡◌, ◌++◌, ◌<◌, ◌≤◌, ℕ, List as Items, false, true, length, map, IfOk, OnOk};
 ghost use Rattle.std.specs.List.{flat_map};
+ghost use Rattle.ix_base.specs.declared.limits.TheConstants.{MOST_PAGES};
 ghost use Rattle.fact_trace.specs.Spans.{traces};
 ghost use Rattle.targets.specs.Breaches.{PagesComeTo};
 ghost use Rattle.targets.specs.Forest.{trees_of};
@@ -12,8 +13,8 @@ ghost use Rattle.ixds_run.specs.Texts.{item_text, next_span, span_text, spans_te
 ghost use Rattle.ixds_run.specs.declared.verdict.Verdict.TheVariants.{Printed};
 ghost use Rattle.ixds_run.specs.Verdicts.{AreWritable, IsTraced, sources, trace_text};
 
-use crate::forest::Forest;
 use crate::judge::judge;
+use crate::read_pages::Forest;
 use crate::verdict::Verdict;
 use bumpalo::Bump;
 use fact_trace::{Span, Traced, Tracer};
@@ -147,7 +148,7 @@ pub fn traced<'a>(
     forest: Forest<'a>,
 ) -> Result<Verdict, NoMemory>
     requires some { 0 < length names.now }
-    requires most { length names.now ≤ 64 }
+    requires most { length names.now ≤ MOST_PAGES }
     requires once { has_repeat names.now ≡ false }
     requires sound { IsSound names.now forest }
     requires keeps { forest.keeps ≡ true }

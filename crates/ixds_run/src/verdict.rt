@@ -6,9 +6,9 @@ ghost use Rattle.ixds_run.specs.Verdicts.{AreWritable, CommandMakes, verdict_of}
 ghost use Rattle.targets.specs.SetOutcomes.{CanBeWritten};
 
 use crate::command::Command;
-use crate::forest::Forest;
 use crate::judge::judge;
 use crate::plain::shown;
+use crate::read_pages::Forest;
 use crate::trace::traced;
 use bumpalo::Bump;
 use ix_base::{List, NoMemory, Report, Text};

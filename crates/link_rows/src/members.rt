@@ -8,7 +8,7 @@ ghost use Rattle.tuples.specs.Fits.{fits, is_number};
 use anyhow::{Result, ensure};
 use bumpalo::Bump;
 use id_table::Index;
-use ix_base::{Breaches, Spot, attr_of, is_fact, kind_of};
+use ix_base::{Breaches, Spot, attr_of, is_fact};
 use std::alloc::Global;
 use tuples::{Members, membership};
 use value_forms::{Form, has_form};
@@ -25,7 +25,7 @@ fn has_number(spot: &Spot<'_>) -> bool
 fn is_fit(spot: &Spot<'_>) -> bool
     ensures { result ≡ fits (located spot.now) }
 {
-    !is_fact(kind_of(spot)) || has_number(spot)
+    !is_fact(spot) || has_number(spot)
 }
 
 fn are_fit(spots: &[&Spot<'_>]) -> bool

@@ -3,7 +3,7 @@ ghost use Rattle.std.specs.Prelude.{◌≡◌, ◌++◌, ◌∷◌, [], OnOk, If
 ghost use Rattle.ix_base.specs.Markup.{declaration};
 ghost use Rattle.ix_base.specs.Spaces.{AreNumbered, IsOuter, space_of, spaces_in, spaces_of};
 ghost use Rattle.ix_base.specs.Trees.{before, nodes_of, none, tree_of};
-ghost use Rattle.ix_base.specs.Written.{attrs_text, close_text};
+ghost use Rattle.ix_base.specs.Written.{attrs_text};
 ghost use Rattle.ix_base.specs.Sound.{IsSoundTree};
 ghost use Rattle.page_plain.specs.Bare as spec;
 ghost use Rattle.page_plain.specs.Numbered.{IsWithin};
@@ -14,7 +14,7 @@ use crate::attrs::{push_declared, push_value};
 use crate::names::{is_dropped, is_opened};
 use crate::prefixes::Prefixes;
 use crate::spaces::spaces_below;
-use escape_text::ends_short;
+use escape_text::{ends_short, push_close};
 use ix_base::{Element, Name, NoMemory, Node, Outer, Text, push_te};
 use std::alloc::Global;
 
@@ -57,23 +57,14 @@ fn push_default(around: Outer<'_>, name: &Name<'_>, out: &mut Text) -> Result<()
     push_value(name.ns, out)
 }
 
-/// Appends an end tag.
-fn push_close(name: &str, out: &mut Text) -> Result<(), NoMemory>
-    ensures { OnOk result (out.new ≡ out.old ++ close_text name.now) }
-{
-    out.push("</")?;
-    out.push(name)?;
-    out.push(">")
-}
-
 /// Appends the start tag of an element within a namespace, without its end, with the declarations of the prefixes of some
 /// namespaces.
 #[tactic(auto, using(escape_text::proofs::MarkupLaws::attrs_laws))]
 fn push_open(
     alloc: Global,
-    declared: &[&str],
     prefixes: &Prefixes<'_>,
     around: Outer<'_>,
+    declared: &[&str],
     element: &Element<'_>,
     out: &mut Text,
 ) -> Result<(), NoMemory>
@@ -135,7 +126,7 @@ fn push_element(
     if is_opened(element) {
         return push_nodes(alloc, prefixes, around, element.children, out);
     }
-    push_open(alloc, &[], prefixes, around, element, out)?;
+    push_open(alloc, prefixes, around, &[], element, out)?;
     push_rest(alloc, prefixes, element, out)
 }
 
@@ -174,9 +165,9 @@ fn push_root(
 {
     push_open(
         alloc,
-        prefixes.spaces(),
         prefixes,
         Outer::start(""),
+        prefixes.spaces(),
         root,
         out,
     )?;

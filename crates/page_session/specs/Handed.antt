@@ -1,5 +1,6 @@
 -- Pages as they are handed over, and what putting and dropping them does to a list of them.
 use Rattle.std.specs.Prelude.{ℕ, suc, ◌==◌, nat_lt, Bool, not, ◌&&◌, List, [], ◌∷◌, length, map, bytes_eq, if◌then◌else◌}
+use Rattle.ix_base.specs.declared.limits.TheConstants.{MOST_PAGES}
 
 -- a page as it is handed over: its name and its bytes
 pub record Handed : Type 0 where
@@ -34,6 +35,6 @@ place_of (n ∷ ns) name = if bytes_eq n name then 0 else suc (place_of ns name)
 abbrev pub is_there : List (List ℕ) → List ℕ → Bool
 is_there names name = nat_lt (place_of names name) (length names)
 
--- it isn't, and 64 are
+-- it isn't, and there are as many as may be
 abbrev pub is_one_too_many : List (List ℕ) → List ℕ → Bool
-is_one_too_many names name = not (is_there names name) && (length names == 64)
+is_one_too_many names name = not (is_there names name) && (length names == MOST_PAGES)

@@ -2,6 +2,7 @@
 use Rattle.std.specs.Prelude.{ℕ, suc, ◌==◌, nat_eq, nat_lt, Bool, true, false, List, [], ◌∷◌, length, drop, Option, Some, None, if◌then◌else◌, bytes_eq, codes, option_map}
 use Rattle.std.specs.List.{starts_with}
 use Rattle.std.specs.Str.{is_utf8}
+use Rattle.ix_base.specs.declared.limits.TheConstants.{LONGEST_SCRIPT}
 use Rattle.page_session.specs.Names.{is_page_name}
 use Rattle.page_session.specs.declared.script.Line.{Line}
 use Rattle.page_session.specs.declared.script.Line.TheVariants as line
@@ -81,6 +82,6 @@ abbrev pub unless_none : List Written → Script
 unless_none [] = Bad 0
 unless_none (w ∷ ws) = said (w ∷ ws)
 
--- What a script says: it is bad at 65536 where it is longer than that, and else at 0 where it has no line.
+-- What a script says: where it is longer than it may be, it is bad at its first byte too many, and else at 0 where it has no line.
 abbrev pub script_of : List ℕ → Script
-script_of script = if nat_lt 65536 (length script) then Bad 65536 else unless_none (lines_from 0 script)
+script_of script = if nat_lt LONGEST_SCRIPT (length script) then Bad LONGEST_SCRIPT else unless_none (lines_from 0 script)

@@ -2,6 +2,7 @@
 use Rattle.std.specs.Prelude.{◌≡◌, ℕ, suc, ◌+◌, ◌≤◌, ◌<◌, List, [], ◌∷◌, ◌++◌, length, map, Option, IfSome, Result, Err, Some, None}
 use Rattle.ix_base.specs.Trees.{Tree}
 use Rattle.ix_base.specs.declared.breach.Found.{Found}
+use Rattle.ix_base.specs.declared.limits.TheConstants.{DEEPEST_ELEMENT}
 use Rattle.page_tree.specs.Break.{fault, w}
 use Rattle.page_tree.specs.Page.{page}
 use Rattle.targets.specs.Breaches.{all_tags_in, bytes_in, on_page, tags_in}
@@ -10,14 +11,15 @@ use Rattle.page_session.specs.Limits.{Passes}
 use Rattle.page_session.specs.declared.kept.Held.{Held}
 use Rattle.page_session.specs.declared.kept.Held.TheVariants as held
 use Rattle.page_session.specs.declared.kept.Kept.{Kept}
+use Rattle.page_session.specs.declared.limits.TheConstants.{MOST_BYTES_PUT, MOST_TAGS_PUT}
 use Rattle.page_session.specs.declared.put.PutFault.{PutFault}
 use Rattle.page_session.specs.declared.put.PutFault.TheVariants as put
 use Rattle.page_session.specs.declared.session.Session.{Session}
 
 -- this is kept of a page with these bytes: its tree where its text has no break, and else the break
 abbrev pub IsHeld : Held → List ℕ → Type 0
-IsHeld (held.Tree r) b = page b 256 r.tree × (w b 256 ≡ None)
-IsHeld (held.Broken offset rule) b = w b 256 ≡ Some (fault offset rule)
+IsHeld (held.Tree r) b = page b DEEPEST_ELEMENT r.tree × (w b DEEPEST_ELEMENT ≡ None)
+IsHeld (held.Broken offset rule) b = w b DEEPEST_ELEMENT ≡ Some (fault offset rule)
 
 -- the breaks that are kept, of pages of which the first has this number
 abbrev pub break_row : ℕ → Held → List Found
@@ -102,7 +104,7 @@ IsOver s b = Passes (bytes_put s + length b) (tags_put s + tags_in b)
 
 -- both sums of what was put are within their numbers
 abbrev pub IsWithin : Session → Type 0
-IsWithin s = (bytes_put s ≤ 134217728) × (tags_put s ≤ 4194304)
+IsWithin s = (bytes_put s ≤ MOST_BYTES_PUT) × (tags_put s ≤ MOST_TAGS_PUT)
 
 -- a put that failed to read raised the count of faults; any other answer left it
 abbrev pub HasPutCause : {X : Type 0} → (before now : ℕ) → Result X PutFault → Type 0

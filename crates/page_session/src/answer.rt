@@ -1,5 +1,6 @@
 //! What the pages of a session come to.
 ghost use Rattle.std.specs.Prelude.{◌≡◌, ◌+◌, ◌++◌, ◌∷◌, ◌<◌, ◌≤◌, [], List, length, IfOk, OnOk, None};
+ghost use Rattle.ix_base.specs.declared.limits.TheConstants.{MOST_PAGES};
 ghost use Rattle.page_session.specs.Handed.{Handed, bytes_of, names_of};
 ghost use Rattle.page_session.specs.Sessions.{AreKept, break_row, breaks_from, names_kept, tree_row, trees_kept};
 ghost use Rattle.targets.specs.Breaches.{PagesComeTo, set_rule};
@@ -7,7 +8,7 @@ ghost use Rattle.targets.specs.Forest.{AreSoundRoots, page_set, trees_of};
 ghost use Rattle.targets.specs.SetOutcomes.{CanBeWritten, ComesTo};
 
 use crate::kept::{Held, Kept};
-use crate::made::{made, reported};
+use crate::made::made;
 use crate::root::SoundRoot;
 use bumpalo::Bump;
 use ix_base::{Breaches, Element, NoMemory, Place, Text};
@@ -44,7 +45,7 @@ fn add_break(page: &Kept<'_>, number: u32, found: &mut Breaches) -> Result<(), N
 
 /// The breaks of pages.
 fn breaks(alloc: Global, kept: &[Kept<'_>]) -> Result<Breaches, NoMemory>
-    requires { length kept.now ≤ 64 }
+    requires { length kept.now ≤ MOST_PAGES }
     ensures { IfOk result (λ found. found ≡ breaks_from 0 kept.now) }
 {
     let mut found = Breaches::new(alloc);
@@ -61,7 +62,7 @@ fn push_root<'s, 'a: 's>(
     root: &SoundRoot<'a>,
     roots: &mut Vec<&'s Element<'s>>,
 ) -> Result<(), NoMemory>
-    requires { length roots.old.items < 64 }
+    requires { length roots.old.items < MOST_PAGES }
     ensures trees { OnOk result (trees_of roots.new.items ≡ trees_of roots.old.items ++ root.now.tree ∷ []) }
     ensures sound { OnOk result (AreSoundRoots 0 roots.old.items → AreSoundRoots 0 roots.new.items) }
     ensures few { OnOk result (length roots.new.items ≤ length roots.old.items + 1) }
@@ -79,7 +80,7 @@ fn add_root<'s, 'a: 's>(
     page: &Kept<'a>,
     roots: &mut Vec<&'s Element<'s>>,
 ) -> Result<(), NoMemory>
-    requires { length roots.old.items < 64 }
+    requires { length roots.old.items < MOST_PAGES }
     ensures trees { OnOk result (trees_of roots.new.items ≡ trees_of roots.old.items ++ tree_row page.now.held) }
     ensures sound { OnOk result (AreSoundRoots 0 roots.old.items → AreSoundRoots 0 roots.new.items) }
     ensures few { OnOk result (length roots.new.items ≤ length roots.old.items + 1) }
@@ -96,7 +97,7 @@ fn roots_of<'s, 'a: 's>(
     arena: &'s Bump,
     kept: &[Kept<'a>],
 ) -> Result<Vec<&'s Element<'s>>, NoMemory>
-    requires { length kept.now ≤ 64 }
+    requires { length kept.now ≤ MOST_PAGES }
     ensures trees { IfOk result (λ roots. trees_of roots.items ≡ trees_kept kept.now) }
     ensures sound { IfOk result (λ roots. AreSoundRoots 0 roots.items) }
 {
@@ -114,7 +115,7 @@ fn made_of(
     names: &[Text],
     kept: &[Kept<'_>],
 ) -> Result<Outcome, NoMemory>
-    requires { length kept.now ≤ 64 }
+    requires { length kept.now ≤ MOST_PAGES }
     ensures made { IfOk result (ComesTo (page_set base.now names.now (trees_kept kept.now))) }
     ensures written { IfOk result CanBeWritten }
 {
@@ -125,7 +126,7 @@ fn made_of(
 
 /// What pages come to.
 pub fn outcome_of(alloc: Global, base: &str, kept: &[Kept<'_>]) -> Result<Outcome, NoMemory>
-    requires { length kept.now ≤ 64 }
+    requires { length kept.now ≤ MOST_PAGES }
     ensures says { IfOk result (λ o. (pages : List Handed) → AreKept kept.now pages → set_rule (bytes_of pages) ≡ None
         → PagesComeTo base.now (names_of pages) (bytes_of pages) o) }
     ensures written { IfOk result CanBeWritten }
@@ -136,5 +137,5 @@ pub fn outcome_of(alloc: Global, base: &str, kept: &[Kept<'_>]) -> Result<Outcom
     if found.is_empty() {
         return made_of(alloc, base, shown, kept);
     }
-    reported(found, shown)
+    Outcome::broken(found, shown)
 }

@@ -1,5 +1,6 @@
 //! What a session keeps of its pages.
 ghost use Rattle.std.specs.Prelude.{◌≡◌, ◌<◌, ◌≤◌, ◌++◌, ◌∷◌, [], ℕ, List, length, slice_set, IfOk, OnOk, OnErr};
+ghost use Rattle.ix_base.specs.declared.limits.TheConstants.{DEEPEST_ELEMENT};
 ghost use Rattle.page_tree.specs.Standing.{StandsFor, limit, page_number};
 ghost use Rattle.page_session.specs.Handed.{place_of};
 ghost use Rattle.page_session.specs.Sessions.{IsHeld, names_kept};
@@ -39,7 +40,7 @@ pub fn place_in(kept: &[Kept<'_>], name: &str) -> usize
 
 /// What is to be kept of the page that a builder was given.
 pub fn held_of<'a>(builder: TreeBuilder<'a>, number: u32) -> Result<Held<'a>, NoMemory>
-    requires depth { limit builder ≡ 256 }
+    requires depth { limit builder ≡ DEEPEST_ELEMENT }
     requires page { page_number builder ≡ number }
     requires built { (b : List ℕ) × StandsFor builder b }
     ensures { IfOk result (λ h. (b : List ℕ) → StandsFor builder.entry b → IsHeld h b) }

@@ -12,6 +12,7 @@
 mod answer;
 mod kept;
 pub mod laws;
+pub mod limits;
 pub mod made;
 mod name;
 mod put;

@@ -1,10 +1,9 @@
 //! Names of pages.
 ghost use Rattle.std.specs.Prelude.{◌≡◌};
 ghost use Rattle.std.specs.List.{list_all};
-ghost use Rattle.page_session.specs.Names.{is_page_name as is_name, may_stand_in_name};
+ghost use Rattle.page_session.specs.Names.{is_page_name, may_stand_in_name};
 
-/// The longest name of a page, in bytes.
-const LONGEST_NAME: usize = 4096;
+use ix_base::limits::LONGEST_NAME;
 
 fn all_may_stand(name: &[u8]) -> bool
     ensures { result ≡ list_all may_stand_in_name name.now }
@@ -14,7 +13,7 @@ fn all_may_stand(name: &[u8]) -> bool
 
 /// Whether a text may name a page.
 pub fn is_page_name(name: &str) -> bool
-    ensures { result ≡ is_name name.now }
+    ensures { result ≡ is_page_name name.now }
 {
     let bytes = name.as_bytes();
     !bytes.is_empty() && bytes.len() <= LONGEST_NAME && all_may_stand(bytes)

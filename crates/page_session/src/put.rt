@@ -1,5 +1,6 @@
 //! Reading a page that is put.
 ghost use Rattle.std.specs.Prelude.{◌≡◌, ◌<◌, ◌≤◌, ◌+◌, ◌^◌, length, true, IfOk, OnOk, IfSome, None};
+ghost use Rattle.ix_base.specs.declared.limits.TheConstants.{LONGEST_NAME};
 ghost use Rattle.targets.specs.Breaches.{tags_in};
 ghost use Rattle.page_session.specs.Limits.{may_hold, Passes};
 ghost use Rattle.page_session.specs.Reading.{Tries};
@@ -7,20 +8,19 @@ ghost use Rattle.page_session.specs.Sessions.{IsHeld, OfPage};
 ghost use Rattle.page_session.specs.Sources.{source_told};
 
 use crate::kept::{Held, held_of};
+use crate::limits::{MOST_BYTES_PUT, MOST_TAGS_PUT};
 use crate::reading::{ReadError, Sums, buffer, read_page};
 use bumpalo::Bump;
 use ix_base::PageSource;
+use ix_base::limits::DEEPEST_ELEMENT;
 use page_tree::TreeBuilder;
 use std::alloc::Global;
 use thiserror::Error;
 
-/// The most levels of elements of a page.
-const DEPTH: u32 = 256;
-
 /// The most that all pages that are put have together, replaced and dropped ones included.
 const MOST: Sums = Sums {
-    bytes: 134_217_728,
-    tags: 4_194_304,
+    bytes: MOST_BYTES_PUT,
+    tags: MOST_TAGS_PUT,
 };
 
 /// Why a page was not put.
@@ -46,7 +46,7 @@ pub fn read_held<'a, P: PageSource>(
     sums: &mut Sums,
 ) -> Result<Option<Held<'a>>, ReadError>
     requires count { P.faults pages.old + 1 < 2 ^ 64 }
-    requires name { length name.now ≤ 4096 }
+    requires name { length name.now ≤ LONGEST_NAME }
     requires most { may_hold sums.old.bytes sums.old.tags ≡ true }
     requires tags { sums.old.tags ≤ sums.old.bytes }
     ensures held { IfOk result (λ held. IfSome held (λ h. OfPage (P.page pages.old name.now) (λ b. IsHeld h b
@@ -61,7 +61,7 @@ pub fn read_held<'a, P: PageSource>(
     let Ok(mut buffer) = buffer(alloc) else {
         return Err(ReadError::NoMemory);
     };
-    let mut builder = TreeBuilder::new(alloc, arena, number, DEPTH);
+    let mut builder = TreeBuilder::new(alloc, arena, number, DEEPEST_ELEMENT);
     read_page(pages, name, buffer.as_mut_slice(), &mut builder, sums, MOST)?;
     if !sums.is_within(MOST) {
         return Ok(None);

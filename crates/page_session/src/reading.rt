@@ -1,14 +1,16 @@
 //! Reading a page, until sums of what was read pass their numbers.
 ghost use Rattle.std.specs.Prelude.{◌≡◌, ◌+◌, ◌^◌, ◌<◌, ◌≤◌, ◌++◌, ◌∷◌, [], ℕ, List, Option, length, vec_len, true, false};
 ghost use Rattle.std.specs.Prelude.{IsTrue, IfOk, IfSome, OnOk, option_map};
+ghost use Rattle.ix_base.specs.declared.limits.TheConstants.{LONGEST_NAME, PIECE};
 ghost use Rattle.ix_base.specs.Outside.{TellsAlso};
 ghost use Rattle.targets.specs.Breaches.{tags_in};
 ghost use Rattle.page_session.specs.Reading.{HasFed, HasReadCause, IsLastCall, IsWhole, is_within};
 ghost use Rattle.page_session.specs.declared.reading.Sums.{Sums as SumsOf};
 
 use crate::taking::PageTaker;
-use ix_base::PageSource;
-use std::alloc::{AllocError, Global};
+use ix_base::limits::PIECE;
+use ix_base::{NoMemory, PageSource, zeros};
+use std::alloc::Global;
 use thiserror::Error;
 
 /// Why a page was not read.
@@ -36,14 +38,11 @@ impl Sums {
     }
 }
 
-/// How many bytes a read asks for at most.
-const BUFFER: usize = 65_536;
-
 /// Room for what a read gives.
-pub fn buffer(alloc: Global) -> Result<Vec<u8>, AllocError>
-    ensures { IfOk result (λ v. vec_len v ≡ 65536) }
+pub fn buffer(alloc: Global) -> Result<Vec<u8>, NoMemory>
+    ensures { IfOk result (λ v. vec_len v ≡ PIECE) }
 {
-    vec![in alloc; 0u8; BUFFER]
+    zeros(alloc, PIECE)
 }
 
 /// How many bytes of a piece are `<`.
@@ -105,16 +104,16 @@ pub fn read_page<P: PageSource, T: PageTaker>(
     most: Sums,
 ) -> Result<(), ReadError>
     requires count { P.faults pages.old + 1 < 2 ^ 64 }
-    requires name { length name.now ≤ 4096 }
-    requires room { length buffer.old ≡ 65536 }
+    requires name { length name.now ≤ LONGEST_NAME }
+    requires room { length buffer.old ≡ PIECE }
     requires fresh { T.took taker.old [] taker.old }
     requires least { sums.old.bytes ≤ most.bytes }
-    requires fits { most.bytes + 65536 < 2 ^ 64 }
+    requires fits { most.bytes + PIECE < 2 ^ 64 }
     requires tags { sums.old.tags ≤ sums.old.bytes }
     ensures reads { OnOk result (HasFed (λ b. T.took taker.old b taker.new) (P.page pages.old name.now) (P.left pages.new)
         sums.old sums.new) }
     ensures whole { OnOk result (IsWhole (P.page pages.old name.now) (P.left pages.new) sums.new most) }
-    ensures most { OnOk result (sums.new.bytes ≤ most.bytes + 65536) }
+    ensures most { OnOk result (sums.new.bytes ≤ most.bytes + PIECE) }
     ensures tags { OnOk result (sums.new.tags ≤ sums.new.bytes) }
     ensures named { IfSome (P.asked pages.new) (λ n. n ≡ name.now) }
     ensures starts { P.starts pages.new ≡ option_map (λ names. names ++ name.now ∷ []) (P.starts pages.old) }

@@ -1,5 +1,6 @@
 //! Roots of sound trees.
 ghost use Rattle.std.specs.Prelude.{◌≡◌, IfOk};
+ghost use Rattle.ix_base.specs.declared.limits.TheConstants.{DEEPEST_ELEMENT};
 ghost use Rattle.ix_base.specs.Sound.{IsSoundRoot};
 ghost use Rattle.ix_base.specs.Trees.{tree_of};
 
@@ -9,7 +10,8 @@ use ix_base::{Element, NoMemory};
 use std::alloc::Global;
 use std::marker::Model;
 
-/// The root of a sound tree whose elements are at most 256 deep, with the number of its page. Contracts see its tree and the number.
+/// The root of a sound tree whose elements are no deeper than those of a page may be, with the number of its page. Contracts
+/// see its tree and the number.
 #[derive(Drop)]
 pub struct SoundRoot<'a> {
     root: &'a Element<'a>,
@@ -17,6 +19,7 @@ pub struct SoundRoot<'a> {
 }
 
 impl<'a> Model for SoundRoot<'a> {
+    ghost use Rattle.ix_base.specs.declared.limits.TheConstants.{DEEPEST_ELEMENT};
     ghost use Rattle.ix_base.specs.Sound.{IsSoundRoot};
     ghost use Rattle.ix_base.specs.Trees.{tree_of};
     ghost use Rattle.page_session.specs.Rooted.{Rooted, rooted_code};
@@ -27,12 +30,12 @@ impl<'a> Model for SoundRoot<'a> {
 
     ghost view = { λ s. record { tree = tree_of s.root.now; page = s.page } };
 
-    ghost invariant = { λ s. IsSoundRoot s.root.now s.page 256 };
+    ghost invariant = { λ s. IsSoundRoot s.root.now s.page DEEPEST_ELEMENT };
 }
 
 impl<'a> SoundRoot<'a> {
     pub fn of(root: &'a Element<'a>, page: u32) -> SoundRoot<'a>
-        requires { IsSoundRoot root.now page 256 }
+        requires { IsSoundRoot root.now page DEEPEST_ELEMENT }
         ensures { result ≡ record { tree = tree_of root.entry.now; page = page } }
     {
         SoundRoot { root, page }
@@ -43,7 +46,7 @@ impl<'a> SoundRoot<'a> {
     where
         'a: 's,
         ensures tree { tree_of result.now ≡ self.now.tree }
-        ensures sound { IsSoundRoot result.now self.now.page 256 }
+        ensures sound { IsSoundRoot result.now self.now.page DEEPEST_ELEMENT }
     {
         self.root
     }
@@ -58,7 +61,7 @@ impl<'a> SoundRoot<'a> {
     where
         'a: 's,
         ensures tree { IfOk result (λ e. tree_of e.now ≡ self.now.tree) }
-        ensures sound { IfOk result (λ e. IsSoundRoot e.now page 256) }
+        ensures sound { IfOk result (λ e. IsSoundRoot e.now page DEEPEST_ELEMENT) }
     {
         let root = self.lent();
         if page == self.page {

@@ -3,11 +3,9 @@ ghost use Rattle.std.specs.Prelude.{◌≡◌, ◌==◌, IfOk, position};
 ghost use Rattle.page_session.specs.Script as spec;
 
 use crate::name::is_page_name;
+use ix_base::limits::LONGEST_SCRIPT;
 use ix_base::{List, NoMemory, Text};
 use std::alloc::Global;
-
-/// The longest script, in bytes.
-pub(crate) const MOST_BYTES: usize = 65_536;
 
 /// A line of a script.
 #[derive(Debug, Drop)]
@@ -106,8 +104,8 @@ fn line_feed_in(bytes: &[u8]) -> Option<usize>
 pub fn parse(alloc: Global, script: &[u8]) -> Result<Script, NoMemory>
     ensures { IfOk result (λ said. said ≡ spec.script_of script.now) }
 {
-    if script.len() > MOST_BYTES {
-        return Ok(Script::Bad(MOST_BYTES as u64));
+    if script.len() > LONGEST_SCRIPT {
+        return Ok(Script::Bad(LONGEST_SCRIPT as u64));
     }
     if script.is_empty() {
         return Ok(Script::Bad(0));

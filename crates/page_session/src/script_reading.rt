@@ -1,19 +1,21 @@
 //! Reading a script.
 ghost use Rattle.std.specs.Prelude.{◌≡◌, ◌⊎◌, ◌+◌, ◌^◌, ◌<◌, ◌≤◌, ◌++◌, ◌∷◌, [], length};
 ghost use Rattle.std.specs.Prelude.{Err, IfOk, IfSome, OnOk, option_map};
+ghost use Rattle.ix_base.specs.declared.limits.TheConstants.{LONGEST_NAME};
 ghost use Rattle.ix_base.specs.Outside.{TellsAlso};
 ghost use Rattle.page_session.specs.Reading.{HasReadCause, IsLastCall};
 ghost use Rattle.page_session.specs.Script.{script_of};
 ghost use Rattle.page_session.specs.Sessions.{OfPage};
 
 use crate::reading::{ReadError, Sums, buffer, read_page};
-use crate::script::{MOST_BYTES, Script, parse};
+use crate::script::{Script, parse};
 use ix_base::PageSource;
+use ix_base::limits::LONGEST_SCRIPT;
 use std::alloc::Global;
 
 /// The most that is read of a script.
 const MOST: Sums = Sums {
-    bytes: MOST_BYTES as u64,
+    bytes: LONGEST_SCRIPT as u64,
     tags: u64::MAX,
 };
 
@@ -24,7 +26,7 @@ pub fn read_script<P: PageSource>(
     pages: &mut P,
 ) -> Result<Script, ReadError>
     requires count { P.faults pages.old + 1 < 2 ^ 64 }
-    requires name { length name.now ≤ 4096 }
+    requires name { length name.now ≤ LONGEST_NAME }
     ensures says { IfOk result (λ said. OfPage (P.page pages.old name.now) (λ b. said ≡ script_of b)) }
     ensures cause { HasReadCause (P.faults pages.old) (P.faults pages.new) result }
     ensures failed { IsLastCall (P.last_failed pages.new) result }

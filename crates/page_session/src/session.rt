@@ -1,5 +1,6 @@
 //! A session.
 ghost use Rattle.std.specs.Prelude.{◌≡◌, ◌↔◌, ◌⊎◌, ◌<◌, ◌≤◌, ◌+◌, ◌^◌, ◌++◌, ◌∷◌, [], List, length, vec_len, true, IsTrue, IfOk, OnOk, OnErr, IfSome, Err, option_map};
+ghost use Rattle.ix_base.specs.declared.limits.TheConstants.{LONGEST_NAME, MOST_PAGES};
 ghost use Rattle.page_session.specs.Limits.{may_hold};
 
 use crate::answer::outcome_of;
@@ -7,12 +8,10 @@ use crate::kept::{Kept, keep, place_in};
 use crate::put::{PutFault, read_held};
 use crate::reading::{ReadError, Sums};
 use bumpalo::Bump;
+use ix_base::limits::MOST_PAGES;
 use ix_base::{NoMemory, PageSource, Text};
 use std::alloc::Global;
 use targets::Outcome;
-
-/// The most pages that are there at one time.
-const MOST_PAGES: usize = 64;
 
 /// A session over pages that change one at a time. Of each page that is there it keeps its tree or its break, in the arena. Trees of
 /// pages that were replaced or taken away stay there until the arena ends, and so what is put is limited.
@@ -23,7 +22,7 @@ pub struct Session<'a> {
     base: Text,
     kept: Vec<Kept<'a>>,
     sums: Sums,
-    ghost few: { vec_len kept ≤ 64 },
+    ghost few: { vec_len kept ≤ MOST_PAGES },
     ghost within: { may_hold sums.bytes sums.tags ≡ true },
     ghost tags: { sums.tags ≤ sums.bytes },
 }
@@ -54,7 +53,7 @@ impl<'a> Session<'a> {
     /// the pages that are there and the sums of what was put.
     pub fn put<P: PageSource>(&mut self, name: &str, pages: &mut P) -> Result<(), PutFault>
         requires count { P.faults pages.old + 1 < 2 ^ 64 }
-        requires name { length name.now ≤ 4096 }
+        requires name { length name.now ≤ LONGEST_NAME }
         ensures ok { OnOk result (OfPage (P.page pages.old name.now) (λ b. HasPut (handed name.now b) self.old self.new)) }
         ensures err { OnErr result (IsSame self.old self.new) }
 

@@ -10,12 +10,12 @@ ghost use Rattle.page_tree.specs.Placing.{IsPlaced};
 ghost use Rattle.page_tree.specs.Seeking.{IsSought};
 ghost use Rattle.page_tree.specs.Taking.{Meets};
 
-use crate::kind::Kind;
+use crate::kind::{Kind, kind_of};
 use crate::meaning::meant;
 use crate::pending::Places;
 use crate::refusal::Refusal;
 use crate::setting::Setting;
-use crate::size::{End, Sought, kind_of, unsought, whole_size};
+use crate::size::{End, Sought, unsought, whole_size};
 use crate::token::Attribute;
 use crate::tree::Building;
 use ix_base::{NoMemory, Rule};

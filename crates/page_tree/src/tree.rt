@@ -1,19 +1,15 @@
 //! A page's tree, built from its constructs one after another.
-ghost use Rattle.std.specs.Prelude.{◌≡◌, ◌≢◌, ◌∷◌, [], ◌&&◌, ℕ, true, not, Err, IfOk, IfSome, OnOk, map, flat_map, option_map, string_bytes, encode_utf8};
-ghost use Rattle.std.specs.List.{list_all};
+ghost use Rattle.std.specs.Prelude.{◌≡◌, ◌∷◌, [], ◌&&◌, ℕ, true, Err, IfOk, IfSome, OnOk, map, flat_map, option_map, string_bytes, encode_utf8};
 ghost use Rattle.ix_base.specs.Elements.{pages_of};
-ghost use Rattle.ix_base.specs.NcName.{is_white as is_white_byte};
 ghost use Rattle.ix_base.specs.Spaces.{AreNumbered, spaces_bound, spaces_of};
 ghost use Rattle.ix_base.specs.Trees.{tree_of, bindings_in, none};
 ghost use Rattle.page_tree.specs.Break.{broken_by_tag, is_outside as is_outside_of, matches as matches_of};
 ghost use Rattle.page_tree.specs.Expansions.{expansion, expansions};
 ghost use Rattle.page_tree.specs.Machine.{outline_of, scope_in, begin, flushed, opening, standing, closing, running};
-ghost use Rattle.page_tree.specs.Page.{is_within as is_within_profile, is_encoding as is_known_encoding};
 ghost use Rattle.page_tree.specs.Spaces.{AreFrom, HaveNumbers, Keeps, spaces_expanded};
 ghost use Rattle.page_tree.specs.Stacks.{frame, frames_of, pages_open, spaces_open, AreAll};
 ghost use Rattle.page_tree.specs.Tags.{head_of, scope_of as scope_under_tag};
-ghost use Rattle.page_tree.specs.Tokens.{start, empty, close, words, refer, section, declaration, doctype};
-ghost use Rattle.page_tree.specs.Views.{tag_of, token_of};
+ghost use Rattle.page_tree.specs.Views.{tag_of};
 
 use crate::names::{Expanded, expand, judge_names};
 use crate::opened::Open;
@@ -24,8 +20,8 @@ use crate::spaces::Spaces;
 use crate::stack::{
     close_element, empty_list, flush_innermost, innermost_scope, open_element, put,
 };
-use crate::token::{Tag, Token};
-use ix_base::{Attr, Element, NoMemory, Node, Rule, Scope, is_white};
+use crate::token::Tag;
+use ix_base::{Attr, Element, NoMemory, Node, Rule, Scope};
 use std::alloc::Global;
 
 /// What is built of the constructs so far: the open elements, the innermost last, the text since the last tag, the root
@@ -46,36 +42,9 @@ pub(crate) struct Building<'a> {
     pub spare: Vec<Vec<Node<'a>>>,
 }
 
-/// Version 1.0, and no encoding but UTF-8, ASCII or US-ASCII, in any ASCII case.
-fn is_within(version: &str, encoding: Option<&str>) -> bool
-    ensures { result ≡ is_within_profile version.now (option_map (λ e. e.now) encoding.entry) }
-{
-    if version != "1.0" {
-        return false;
-    }
-    match encoding {
-        Some(encoding) => is_encoding(encoding),
-        None => true,
-    }
-}
-
-fn is_encoding(name: &str) -> bool
-    ensures { result ≡ is_known_encoding name.now }
-{
-    name.eq_ignore_ascii_case("utf-8")
-        || name.eq_ignore_ascii_case("ascii")
-        || name.eq_ignore_ascii_case("us-ascii")
-}
-
-fn is_all_white(text: &str) -> bool
-    ensures { result ≡ list_all is_white_byte text.now }
-{
-    text.as_bytes().iter().all(|byte| is_white(*byte))
-}
-
 impl<'a> Building<'a> {
     ghost use Rattle.page_tree.specs.Buildings.{state_of, IsOnPage};
-    ghost use Rattle.page_tree.specs.Taking.{Judges, Becomes, Takes};
+    ghost use Rattle.page_tree.specs.Taking.{Judges, Becomes};
 
     /// Nothing is built yet.
     pub(crate) fn new(alloc: Global) -> Building<'a>
@@ -131,7 +100,7 @@ impl<'a> Building<'a> {
     }
 
     /// Whether an end tag's name is that of the innermost open element.
-    fn matches(&self, name: &str) -> bool
+    pub(crate) fn matches(&self, name: &str) -> bool
         ensures { result ≡ matches_of (outline_of (state_of self.now)).open_elements name.now }
     {
         match self.elements.last() {
@@ -223,7 +192,7 @@ impl<'a> Building<'a> {
     }
 
     /// An element is open from here on.
-    fn open(
+    pub(crate) fn open(
         &mut self,
         setting: &Setting<'a>,
         scope: Scope<'a>,
@@ -241,7 +210,7 @@ impl<'a> Building<'a> {
     }
 
     /// An element begins and ends.
-    fn stand(
+    pub(crate) fn stand(
         &mut self,
         setting: &Setting<'a>,
         scope: Scope<'a>,
@@ -260,7 +229,7 @@ impl<'a> Building<'a> {
     }
 
     /// The innermost open element ends.
-    fn close(&mut self, setting: &Setting<'a>) -> Result<(), NoMemory>
+    pub(crate) fn close(&mut self, setting: &Setting<'a>) -> Result<(), NoMemory>
         ensures { OnOk result (Becomes setting.now.page self.old self.new (closing (state_of self.old).frames (state_of self.old))) }
     {
         let Some(mut own) = self.elements.pop() else {
@@ -273,7 +242,7 @@ impl<'a> Building<'a> {
     }
 
     /// Characters come. They belong to the innermost open element.
-    fn run(&mut self, chars: &str) -> Result<(), NoMemory>
+    pub(crate) fn run(&mut self, chars: &str) -> Result<(), NoMemory>
         ensures { (page : ℕ) → OnOk result (Becomes page self.old self.new
             (running (state_of self.old).frames (state_of self.old) chars.now)) }
     {
@@ -285,7 +254,7 @@ impl<'a> Building<'a> {
     }
 
     /// A character comes. It belongs to the innermost open element.
-    fn run_char(&mut self, ch: char) -> Result<(), NoMemory>
+    pub(crate) fn run_char(&mut self, ch: char) -> Result<(), NoMemory>
         ensures { (page : ℕ) → OnOk result (Becomes page self.old self.new
             (running (state_of self.old).frames (state_of self.old) (encode_utf8 ch))) }
     {
@@ -297,7 +266,11 @@ impl<'a> Building<'a> {
     }
 
     /// The scope of a tag's element. The lowest rule that the tag breaks is an error. Its attributes are expanded.
-    fn judge(&mut self, setting: &Setting<'a>, tag: &Tag<'a, '_>) -> Result<Scope<'a>, Refusal>
+    pub(crate) fn judge(
+        &mut self,
+        setting: &Setting<'a>,
+        tag: &Tag<'a, '_>,
+    ) -> Result<Scope<'a>, Refusal>
         ensures scope { IfOk result (λ s. bindings_in s ≡ scope_under_tag (scope_in (state_of self.old).frames) (tag_of tag.now)) }
         ensures expanded { IfOk result (λ s. map expansion self.new.expanded.items ≡ expansions (bindings_in s) (tag_of tag.now)) }
         ensures from { IfOk result (λ s. AreFrom (spaces_bound s) (spaces_expanded self.new.expanded.items)) }
@@ -309,134 +282,5 @@ impl<'a> Building<'a> {
         expand(scope, tag.attrs, &mut self.expanded)?;
         self.judge_tag(setting, scope, tag)?;
         Ok(scope)
-    }
-
-    /// Takes a start tag.
-    #[tactic(auto, unfolding(crate::specs::Break::broken_by, crate::specs::Machine::moved))]
-    fn take_start_tag(&mut self, setting: &Setting<'a>, tag: &Tag<'a, '_>) -> Result<(), Refusal>
-        ensures { Takes setting.now self.old self.new (start (tag_of tag.now)) result }
-    {
-        let scope = self.judge(setting, tag)?;
-        self.open(setting, scope, tag)?;
-        Ok(())
-    }
-
-    /// Takes an empty-element tag.
-    #[tactic(auto, unfolding(crate::specs::Break::broken_by, crate::specs::Machine::moved))]
-    fn take_empty_tag(&mut self, setting: &Setting<'a>, tag: &Tag<'a, '_>) -> Result<(), Refusal>
-        ensures { Takes setting.now self.old self.new (empty (tag_of tag.now)) result }
-    {
-        let scope = self.judge(setting, tag)?;
-        self.stand(setting, scope, tag)?;
-        Ok(())
-    }
-
-    /// Takes an end tag.
-    #[tactic(auto, unfolding(crate::specs::Break::broken_by, crate::specs::Machine::moved))]
-    fn take_end_tag(&mut self, setting: &Setting<'a>, name: &str) -> Result<(), Refusal>
-        ensures { Takes setting.now self.old self.new (close name.now) result }
-    {
-        if !self.matches(name) {
-            return Err(Refusal::Breaks(Rule::W5));
-        }
-        self.close(setting)?;
-        Ok(())
-    }
-
-    /// Whether a text stands where only white space may.
-    fn is_misplaced(&self, text: &str) -> bool
-        ensures { result ≡ (is_outside_of (outline_of (state_of self.now)) && not (list_all is_white_byte text.now)) }
-    {
-        self.is_outside() && !is_all_white(text)
-    }
-
-    /// Takes a text.
-    #[tactic(auto, unfolding(crate::specs::Break::broken_by, crate::specs::Machine::moved))]
-    fn take_text(&mut self, text: &str) -> Result<(), Refusal>
-        ensures { (setting : _) → Takes setting self.old self.new (words text.now) result }
-    {
-        if self.is_misplaced(text) {
-            return Err(Refusal::Breaks(Rule::W12));
-        }
-        self.run(text)?;
-        Ok(())
-    }
-
-    /// Takes a reference, with the character that it means, if it is a good one.
-    #[tactic(auto, unfolding(crate::specs::Break::broken_by, crate::specs::Machine::moved))]
-    fn take_reference(&mut self, meant: Option<char>) -> Result<(), Refusal>
-        ensures { (setting : _) → Takes setting self.old self.new (refer (option_map encode_utf8 meant)) result }
-    {
-        let Some(ch) = meant else {
-            return Err(Refusal::Breaks(Rule::W8));
-        };
-        if self.is_outside() {
-            return Err(Refusal::Breaks(Rule::W12));
-        }
-        self.run_char(ch)?;
-        Ok(())
-    }
-
-    /// Takes a CDATA section.
-    #[tactic(auto, unfolding(crate::specs::Break::broken_by, crate::specs::Machine::moved))]
-    fn take_cdata(&mut self, text: &str) -> Result<(), Refusal>
-        ensures { (setting : _) → Takes setting self.old self.new (section text.now) result }
-    {
-        if self.is_outside() {
-            return Err(Refusal::Breaks(Rule::W12));
-        }
-        self.run(text)?;
-        Ok(())
-    }
-
-    /// Takes a declaration.
-    #[tactic(auto, unfolding(crate::specs::Break::broken_by, crate::specs::Machine::moved))]
-    fn take_declaration(&self, version: &str, encoding: Option<&str>) -> Result<(), Refusal>
-        ensures takes { (setting : _) → Takes setting self.now self.now
-            (declaration version.now (option_map (λ e. e.now) encoding.entry)) result }
-        ensures certain { result ≢ Err Refusal.NoMemory }
-    {
-        if !is_within(version, encoding) {
-            return Err(Refusal::Breaks(Rule::W11));
-        }
-        Ok(())
-    }
-
-    /// Takes a doctype.
-    #[tactic(auto, unfolding(crate::specs::Break::broken_by, crate::specs::Machine::moved))]
-    fn take_doctype(&mut self, has_subset: bool) -> Result<(), Refusal>
-        ensures takes { (setting : _) → Takes setting self.old self.new (doctype has_subset) result }
-        ensures certain { result ≢ Err Refusal.NoMemory }
-    {
-        if has_subset {
-            return Err(Refusal::Breaks(Rule::W11));
-        }
-        if self.doctyped || self.is_rooted() {
-            return Err(Refusal::Breaks(Rule::W12));
-        }
-        self.doctyped = true;
-        Ok(())
-    }
-
-    /// Takes a construct: it is built in, or the lowest rule that it breaks is an error.
-    #[tactic(auto, unfolding(crate::specs::Break::broken_by, crate::specs::Machine::moved))]
-    pub(crate) fn take(
-        &mut self,
-        setting: &Setting<'a>,
-        token: &Token<'a, '_>,
-    ) -> Result<(), Refusal>
-        ensures { Takes setting.now self.old self.new (token_of token.now) result }
-    {
-        match token {
-            Token::StartTag(tag) => self.take_start_tag(setting, tag),
-            Token::EmptyTag(tag) => self.take_empty_tag(setting, tag),
-            Token::EndTag(name) => self.take_end_tag(setting, name),
-            Token::Text(text) => self.take_text(text),
-            Token::Reference(meant) => self.take_reference(*meant),
-            Token::Cdata(text) => self.take_cdata(text),
-            Token::Declaration { version, encoding } => self.take_declaration(version, *encoding),
-            Token::Doctype { has_subset } => self.take_doctype(*has_subset),
-            Token::Silent => Ok(()),
-        }
     }
 }

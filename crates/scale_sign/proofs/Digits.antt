@@ -1,11 +1,26 @@
 -- What keeps digits digits, and the normal forms of their lists.
-use Rattle.std.proofs.Common.{◌≡◌, ◌≢◌, ℕ, ◌+◌, ◌-◌, ◌*◌, ◌^◌, ◌<◌, ◌≤◌, List, [], ◌∷◌, ◌++◌, length, take, drop, replicate, zero, suc, refl, sym, ap, subst, ◌∙◌, inl, inr, arith, length-append}
+use Rattle.std.proofs.Common.{◌≡◌, ◌≢◌, ℕ, ◌+◌, ◌-◌, ◌*◌, ◌^◌, ◌<◌, ◌≤◌, List, [], ◌∷◌, ◌++◌, length, take, drop, replicate, zero, suc, nat_le, true, refl, sym, ap, subst, ◌∙◌, inl, inr, arith, length-append}
 use Rattle.std.proofs.lemmas.List.{length-replicate, append-nil}
 use Rattle.std.proofs.lemmas.Nat.{same_from_place}
-use Rattle.std.proofs.lemmas.Bool.{cases_eq, eq-eqb, ne_eqb}
+use Rattle.std.proofs.lemmas.Bool.{and_from, and_parts, cases_eq, eq-eqb, le-leb, leb-true, ne_eqb}
+use Rattle.std.specs.List.{list_all}
 use Rattle.ix_base.specs.Decimals.{AreDigits, number_in, IsWholePart, IsFraction, front_of, back_of, pointed}
+use Rattle.ix_base.specs.Forms.{is_digit}
 use Rattle.scale_sign.specs.Written.{strip, cut, kept, or_zero}
 use Rattle.scale_sign.proofs.Values.{number_in-below, number_in-lead, number_in-pad, cut-append, cut-zeros_alone, cut_zero}
+
+-- The test of digits, and what they are.
+
+pub digits-are : (t : List ℕ) → list_all is_digit t ≡ true → AreDigits t
+digits-are [] e = tt
+digits-are (c ∷ cs) e =
+    let s = and_parts (is_digit c) (list_all is_digit cs) e in
+    let d = and_parts (nat_le 48 c) (nat_le c 57) s.0 in
+    (leb-true 48 c d.0, leb-true c 57 d.1, digits-are cs s.1)
+
+pub are-digits : (t : List ℕ) → AreDigits t → list_all is_digit t ≡ true
+are-digits [] d = refl
+are-digits (c ∷ cs) (low, high, more) = and_from _ _ (and_from _ _ (le-leb 48 c low) (le-leb c 57 high)) (are-digits cs more)
 
 pub AreDigits-append : (xs ys : List ℕ) → AreDigits xs → AreDigits ys → AreDigits (xs ++ ys)
 AreDigits-append [] ys d e = e

@@ -5,6 +5,7 @@
 ghost use Rattle.std.specs.Prelude.{◌≡◌, ◌+◌, ◌≤◌, ◌↔◌, ℕ, ℤ, Bool, IsTrue, List, length, take, unsigned_abs};
 ghost use Rattle.std.specs.Str.{IsUtf8};
 ghost use Rattle.ix_base.specs.Decimals.{IsUnsigned};
+ghost use Rattle.ix_base.specs.declared.limits.TheConstants.{LARGEST_SCALE};
 ghost use Rattle.scale_sign.specs.Scaled.{IsNumber};
 
 mod parts;
@@ -35,7 +36,7 @@ pub fn is_unsigned(text: &str) -> bool
 /// point only where such a part stands.
 pub fn scaled(digits: &str, scale: i32, negative: bool, out: &mut [u8]) -> usize
     requires unsigned { IsUnsigned digits.now }
-    requires scale { unsigned_abs scale ≤ 100 }
+    requires scale { unsigned_abs scale ≤ LARGEST_SCALE }
     requires room { length digits.now + unsigned_abs scale + 3 ≤ length out.old }
     ensures number { IsNumber digits.now scale negative (take result out.new) }
     ensures bound { result ≤ length out.new }

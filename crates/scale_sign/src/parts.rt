@@ -3,6 +3,8 @@
 ghost use Rattle.std.specs.Prelude.{◌≡◌, ◌+◌, ◌<◌, ◌≤◌, ◌++◌, ◌==◌, ◌↔◌, ◌&&◌, not, IsTrue, length, take, drop};
 ghost use Rattle.ix_base.specs.Decimals.{front_of, back_of, AreDigits, number_in};
 
+use ix_base::all_digits;
+
 // Where the first point stands, or the length.
 fn point_of(text: &[u8]) -> usize
     ensures bound { result ≤ length text.now }
@@ -67,21 +69,9 @@ pub fn are_empty(first: &[u8], second: &[u8]) -> bool
     first.is_empty() && second.is_empty()
 }
 
-// Whether each byte is a digit.
-fn are_digits(bytes: &[u8]) -> bool
-    ensures { IsTrue result ↔ AreDigits bytes.now }
-{
-    for byte in bytes {
-        if *byte < b'0' || b'9' < *byte {
-            return false;
-        }
-    }
-    true
-}
-
 // Whether each byte of both is a digit.
 pub fn are_both_digits(front: &[u8], back: &[u8]) -> bool
     ensures { IsTrue result ↔ AreDigits (front.now ++ back.now) }
 {
-    are_digits(front) && are_digits(back)
+    all_digits(front) && all_digits(back)
 }

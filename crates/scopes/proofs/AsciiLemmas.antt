@@ -6,7 +6,7 @@ use Rattle.std.proofs.lemmas.Bool.{and_parts, and_from}
 use Rattle.std.proofs.lemmas.Str.{IsUtf8-from_ascii, chars-IsAscii, is_utf8-from_IsUtf8}
 use Rattle.std.proofs.lemmas.Str.Ascii.{IsAscii-nil, IsAscii-cons}
 use Rattle.ix_base.specs.NcName.{is_name_start, is_name_char, is_name_of, is_ncname}
-use Rattle.scopes.specs.AsciiNames.{is_start, is_char, is_name}
+use Rattle.scopes.specs.AsciiNames.{is_start, is_char, is_ascii_name}
 
 all-parts : (cs : List ℕ) → list_all is_char cs ≡ true → IsAscii cs × (list_all is_name_char cs ≡ true)
 all-parts [] h = (IsAscii-nil, refl)
@@ -18,7 +18,7 @@ all-parts (c ∷ cs) h =
       and_from (is_name_char c) (list_all is_name_char cs) here.1 rest.1,
     )
 
-name-parts : (text : List ℕ) → is_name text ≡ true → IsAscii text × (is_name_of text ≡ true)
+name-parts : (text : List ℕ) → is_ascii_name text ≡ true → IsAscii text × (is_name_of text ≡ true)
 name-parts [] h = (IsAscii-nil, h)
 name-parts (c ∷ cs) h =
     let z = and_parts (is_start c) (list_all is_char cs) h in
@@ -29,7 +29,7 @@ name-parts (c ∷ cs) h =
     )
 
 -- each of them is a name
-pub ascii_ncname : (text : List ℕ) → is_name text ≡ true → is_ncname text ≡ true
+pub ascii_ncname : (text : List ℕ) → is_ascii_name text ≡ true → is_ncname text ≡ true
 unfolding is_ncname
 ascii_ncname text h =
     let p = name-parts text h in

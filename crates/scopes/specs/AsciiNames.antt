@@ -9,6 +9,6 @@ is_start c = nat_lt c 128 && is_name_start c
 abbrev pub is_char : ℕ → Bool
 is_char c = nat_lt c 128 && is_name_char c
 
-abbrev pub is_name : List ℕ → Bool
-is_name [] = false
-is_name (c ∷ cs) = is_start c && list_all is_char cs
+abbrev pub is_ascii_name : List ℕ → Bool
+is_ascii_name [] = false
+is_ascii_name (c ∷ cs) = is_start c && list_all is_char cs

@@ -4,12 +4,10 @@ ghost use Rattle.url.specs.Parser.{Gives, Parsed, parse_url};
 ghost use Rattle.url.specs.Parts.{Parts, IsValid};
 ghost use Rattle.ix_base.specs.Address as address;
 
+use ix_base::limits::LONGEST_LINK;
 use ix_base::{NoMemory, Text, are_allowed, token};
 use std::alloc::Global;
 use url::{ParseError, ParseResult, Url};
-
-/// The longest text that is resolved, in bytes.
-const LONGEST: usize = 65_536;
 
 /// The URL, or none where the text is refused. A text that is too long for a URL is want of memory.
 pub(crate) fn accepted(given: ParseResult<Url>) -> Result<Option<Url>, NoMemory>
@@ -28,8 +26,9 @@ pub(crate) fn accepted(given: ParseResult<Url>) -> Result<Option<Url>, NoMemory>
     }
 }
 
-/// What a text is by itself.
-pub(crate) fn parsed(alloc: Global, text: &str) -> Result<Option<Url>, NoMemory>
+/// The URL that a text is by itself, without a base (the URL Standard, section 4.4). None where it is none. A text that is too
+/// long for a URL is want of memory.
+pub fn parsed_url(alloc: Global, text: &str) -> Result<Option<Url>, NoMemory>
     ensures url { IfOk result (λ r. r ≡ address.url_of text.now) }
     ensures valid { IfOk result (λ r. IfSome r IsValid) }
 {
@@ -47,7 +46,7 @@ fn is_link(text: &str) -> bool
 pub(crate) fn stands_alone(alloc: Global, text: &str) -> Result<bool, NoMemory>
     ensures { IfOk result (λ b. b ≡ (nat_lt address.longest_link (length text.now) || is_some (address.url_of text.now))) }
 {
-    Ok(LONGEST < text.len() || parsed(alloc, text)?.is_some())
+    Ok(LONGEST_LINK < text.len() || parsed_url(alloc, text)?.is_some())
 }
 
 /// The link, or the text where it gives none.

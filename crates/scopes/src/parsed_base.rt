@@ -3,7 +3,7 @@ ghost use Rattle.std.specs.Prelude.{◌≡◌, Some, IfOk, IfSome, option_copied
 ghost use Rattle.url.specs.Parts.{IsValid, serialize};
 ghost use Rattle.ix_base.specs.Address as address;
 
-use crate::link::{accepted, link_or, parsed, stands_alone};
+use crate::link::{accepted, link_or, parsed_url, stands_alone};
 use ix_base::{NoMemory, Text};
 use std::alloc::Global;
 use std::marker::Model;
@@ -50,7 +50,7 @@ impl ParsedBase {
     pub fn of(alloc: Global, text: &str) -> Result<ParsedBase, NoMemory>
         ensures { IfOk result (λ b. b ≡ text.now) }
     {
-        let url = parsed(alloc, text)?;
+        let url = parsed_url(alloc, text)?;
         let text = Text::of(alloc, text)?;
         Ok(ParsedBase {
             origin: Origin::Given(text, url),

@@ -2,12 +2,12 @@
 use Rattle.std.proofs.Common.{◌≡◌, ◌≢◌, ◌∙◌, ℕ, ℤ, pos, negsuc, Bool, true, false, not, ◌&&◌, ◌+◌, ◌-◌, ◌*◌, ◌^◌, ◌<◌, ◌≤◌, ◌==◌, List, [], ◌∷◌, ◌++◌, append-nil, ap, arith, codes, cond, length, refl, sym}
 use Rattle.std.specs.Prelude.{◌||◌, nat_le}
 use Rattle.std.specs.List.{list_all}
-use Rattle.std.proofs.lemmas.Bool.{and_from, and_parts, eq-eqb, eqb-true, le-leb, leb-true, ne_eqb}
+use Rattle.std.proofs.lemmas.Bool.{and_from, and_parts, eq-eqb, eqb-true, le-leb, ne_eqb}
 use Rattle.std.proofs.lemmas.Slice.Eq.{bytes_eq-Decides}
 use Rattle.ix_base.specs.Decimals.{AreDigits, IsCanonical, IsFraction, IsWholePart, back_of, front_of, behind, number_in, pointed, whole}
 use Rattle.ix_base.specs.Forms.{is_canonical_decimal, is_canonical_unsigned, is_digit, is_empty, is_fraction_part, is_integer, is_negative, is_normal_integer, is_whole_part, is_zero, integer_form, signed_digits, size_of, unsigned_of, without_zeros}
 use Rattle.scale_sign.specs.Scaled.{IsMoved, IsNumber, signed}
-use Rattle.scale_sign.proofs.Digits.{back-alone, back-pointed, front-pointed}
+use Rattle.scale_sign.proofs.Digits.{back-alone, back-pointed, digits-are, front-pointed}
 use Rattle.scale_sign.proofs.Laws.{whole-digits}
 use Rattle.scale_sign.proofs.Values.{number_in-some, pow_pos-ten}
 
@@ -99,13 +99,6 @@ number-passes digits scale negative text n =
     (λ h. not-zero n.body (λ z. sign-some negative (whole digits) h (moved-none digits scale n.body n.moved z)))
 
 -- Integers.
-
-digits-are : (cs : List ℕ) → list_all is_digit cs ≡ true → AreDigits cs
-digits-are [] h = tt
-digits-are (c ∷ cs) h =
-    let parts = and_parts (is_digit c) (list_all is_digit cs) h in
-    let both = and_parts (nat_le 48 c) (nat_le c 57) parts.0 in
-    (leb-true 48 c both.0, leb-true c 57 both.1, digits-are cs parts.1)
 
 -- digits without the zeros in front are none, or don't begin with one
 stripped : (cs : List ℕ) → AreDigits cs → AreDigits (without_zeros cs) × ((c : ℕ) (ds : List ℕ) → without_zeros cs ≡ c ∷ ds → c ≢ 48)

@@ -8,7 +8,7 @@ mod BelowLaws
 pub mod BodiesFit
 pub mod BodyLaws
 pub mod CanonicalLaws
-mod ChainLaws
+pub mod ChainLaws
 pub mod ChoiceLaws
 mod ChoosingLaws
 pub mod CleanLaws

@@ -3,6 +3,7 @@
 use Rattle.std.specs.Prelude.{◌≡◌, ◌≢◌, ◌⊎◌, ℕ, suc, ◌+◌, ◌==◌, nat_lt, List, [], ◌∷◌, ◌++◌, length, Option, Some, None, if◌then◌else◌}
 use Rattle.std.specs.List.{count_by}
 use Rattle.ix_base.specs.declared.breach.Found.{Found}
+use Rattle.ix_base.specs.declared.limits.TheConstants.{DEEPEST_ELEMENT, MOST_BYTES, MOST_TAGS}
 use Rattle.ix_base.specs.declared.rule.Rule.{Rule}
 use Rattle.ix_base.specs.declared.rule.Rule.TheVariants.{S1, S2}
 use Rattle.ix_base.specs.Trees.{Tree}
@@ -17,7 +18,7 @@ tags_in bytes = count_by (λ b. b == 60) bytes
 
 -- the size rule that so many bytes break, of which so many are `<`
 abbrev pub size_rule : ℕ → ℕ → Option Rule
-size_rule bytes tags = if nat_lt 268435456 bytes then Some S1 else if nat_lt 8388608 tags then Some S2 else None
+size_rule bytes tags = if nat_lt MOST_BYTES bytes then Some S1 else if nat_lt MOST_TAGS tags then Some S2 else None
 
 -- how many bytes pages have together, and how many of them are `<`
 abbrev pub bytes_in : List (List ℕ) → ℕ
@@ -42,7 +43,7 @@ fault_row n (Some fault) = on_page n fault.offset fault.rule ∷ []
 
 -- the first break of the text of the page of this number, if it has one
 abbrev pub text_fault : ℕ → List ℕ → List Found
-text_fault n b = fault_row n (w b 256)
+text_fault n b = fault_row n (w b DEEPEST_ELEMENT)
 
 -- those of pages whose first has this number
 abbrev pub text_faults : ℕ → List (List ℕ) → List Found

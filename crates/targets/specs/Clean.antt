@@ -1,5 +1,6 @@
 -- Sets that break no rule of elements and none on links, and what is kept of their contents.
 use Rattle.std.specs.Prelude.{◌≡◌, [], All}
+use Rattle.ix_base.specs.declared.limits.TheConstants.{DEEPEST_ELEMENT}
 use Rattle.ix_base.specs.Sound.{IsSoundTree}
 use Rattle.instance_out.specs.Proper.{Proper}
 use Rattle.ix_base.specs.Said.{said_of}
@@ -10,7 +11,7 @@ use Rattle.targets.specs.PageSet.{PageSet}
 
 -- its pages are sound, and break no rule of elements and none on links
 pub record IsClean (s : PageSet) : Type 0 where
-  pub sound : All (λ p. IsSoundTree p.tree 256) s.pages
+  pub sound : All (λ p. IsSoundTree p.tree DEEPEST_ELEMENT) s.pages
   pub elements : element_faults s ≡ []
   pub links : link_faults s ≡ []
 

@@ -1,6 +1,7 @@
 -- The trees of pages, by their bytes.
 use Rattle.std.specs.Prelude.{ℕ, suc, List, [], ◌∷◌, map}
 use Rattle.std.specs.Borrow.{Bor}
+use Rattle.ix_base.specs.declared.limits.TheConstants.{DEEPEST_ELEMENT}
 use Rattle.ix_base.specs.declared.tree.Element.{Element}
 use Rattle.ix_base.specs.Located.{Paged}
 use Rattle.ix_base.specs.Sound.{IsSoundRoot}
@@ -11,7 +12,7 @@ use Rattle.targets.specs.PageSet.{PageSet}
 -- these are the trees of pages with these bytes
 abbrev pub AreTrees : List (List ℕ) → List Tree → Type 0
 AreTrees [] [] = Unit {0}
-AreTrees (b ∷ bs) (t ∷ ts) = page b 256 t × AreTrees bs ts
+AreTrees (b ∷ bs) (t ∷ ts) = page b DEEPEST_ELEMENT t × AreTrees bs ts
 AreTrees bs ts = ⊥
 
 -- pages of these names with these trees, as many as there are of both
@@ -31,4 +32,4 @@ trees_of es = map (λ e. tree_of e.now) es
 -- these are sound roots of pages numbered on from this number
 abbrev pub AreSoundRoots : ℕ → List (Bor Element) → Type 0
 AreSoundRoots n [] = Unit {0}
-AreSoundRoots n (e ∷ es) = IsSoundRoot e.now n 256 × AreSoundRoots (suc n) es
+AreSoundRoots n (e ∷ es) = IsSoundRoot e.now n DEEPEST_ELEMENT × AreSoundRoots (suc n) es

@@ -3,6 +3,7 @@ use Rattle.std.specs.Coded.{Coded, code_by, coded×, coded_ℕ, coded_list, code
 use Rattle.std.specs.List.{slice_get}
 use Rattle.std.specs.Option.{option_map_or}
 use Rattle.std.specs.Prelude.{refl, ◌≡◌, ℕ, suc, Bool, false, List, [], ◌∷◌, map}
+use Rattle.ix_base.specs.declared.limits.TheConstants.{DEEPEST_ELEMENT}
 use Rattle.ix_base.specs.Located.{Paged, marked}
 use Rattle.ix_base.specs.Sound.{IsSoundRoot}
 use Rattle.ix_base.specs.TreeCodes.{tree_code}
@@ -32,7 +33,7 @@ names_of names = names_with names.pages.now names.next.now
 -- the roots are sound, and of pages numbered on from this number
 abbrev pub AreSoundFrom : ℕ → List Page → Type 0
 AreSoundFrom n [] = Unit {0}
-AreSoundFrom n (p ∷ ps) = IsSoundRoot p.root.now n 256 × AreSoundFrom (suc n) ps
+AreSoundFrom n (p ∷ ps) = IsSoundRoot p.root.now n DEEPEST_ELEMENT × AreSoundFrom (suc n) ps
 
 -- the set has an index of its pages, with the choices that they ask for, and their bases, and their roots are sound
 pub record Keeps (base : List ℕ) (pages : List Page) (i : Held) (b : Kept) : Type 0 where

@@ -8,8 +8,8 @@ ghost use Rattle.targets.specs.Choices.{HasChoices, choice};
 ghost use Rattle.targets.specs.LinkTables.{AreLinks};
 
 use crate::standing::Links;
-use id_table::{Index, id_at};
-use ix_base::{NoMemory, Spot};
+use id_table::Index;
+use ix_base::{NoMemory, Spot, id_at};
 
 /// What is to be chosen for an id: where several elements have it and agree, the first of them.
 fn choice_for<'a>(index: &Index<'a>, links: &Links<'a>, id: &str) -> Option<&'a Spot<'a>>

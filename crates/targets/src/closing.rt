@@ -1,11 +1,11 @@
 //! What the pages of a set come to, class by class.
-ghost use Rattle.std.specs.Prelude.{◌≡◌, ◌<◌, [], All, length, map, IfOk};
+ghost use Rattle.std.specs.Prelude.{◌≡◌, [], map, IfOk};
 ghost use Rattle.targets.specs.Faults.{element_faults, link_faults};
 ghost use Rattle.targets.specs.Holding.{KeepsAll, set_of};
 ghost use Rattle.targets.specs.Linked.{IsLinked, IsShallow, IsValued, all_of, bases_of};
 ghost use Rattle.ix_base.specs.Located.{base_in};
 ghost use Rattle.ix_base.specs.Once.{SameMembers};
-ghost use Rattle.targets.specs.SetOutcomes.{AreAllTargets, CanBeWritten, ComesOfValues, ComesTo, FirstOf, IsReport};
+ghost use Rattle.targets.specs.SetOutcomes.{AreAllTargets, CanBeWritten, ComesOfValues, ComesTo, FirstOf};
 ghost use Rattle.targets.specs.PageSet as spec;
 ghost use Rattle.targets.specs.PageSet.{elements, page_bases};
 
@@ -34,16 +34,6 @@ pub(crate) struct Pages<'s, 'a> {
     pub(crate) pages: &'s [Page<'a>],
     pub(crate) index: &'s Index<'a>,
     pub(crate) bases: &'s Bases,
-}
-
-/// The report of what was found.
-fn reported(found: Breaches, names: &[Text]) -> Result<Outcome, NoMemory>
-    requires { All (λ f. f.place.page < length names.now) found }
-    ensures report { IfOk result (IsReport names.now found) }
-    ensures written { IfOk result CanBeWritten }
-{
-    let report = found.report(names)?;
-    Ok(Outcome::Broken(report))
 }
 
 /// The rules of elements that the pages break, page by page and in document order.
@@ -90,7 +80,7 @@ fn comes_of_values(
     if found.is_empty() {
         return whole(alloc, linked);
     }
-    reported(found, names)
+    Outcome::broken(found, names)
 }
 
 /// What pages come to whose links were looked at, and break these rules.
@@ -114,7 +104,7 @@ fn comes_of_linked(
     if found.is_empty() {
         return comes_of_values(alloc, pages, linked, names);
     }
-    reported(found, names)
+    Outcome::broken(found, names)
 }
 
 /// What pages come to that break no rule of elements.
@@ -161,5 +151,5 @@ pub(crate) fn closed<'a>(
     if found.is_empty() {
         return comes_of_links(alloc, arena, pages, names.as_slice());
     }
-    reported(found, names.as_slice())
+    Outcome::broken(found, names.as_slice())
 }

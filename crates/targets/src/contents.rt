@@ -17,7 +17,7 @@ ghost use Rattle.targets.specs.Seen.{values_of};
 ghost use Rattle.targets.specs.TargetFacts.{AreFacts};
 
 use crate::facts_in::facts_at;
-use crate::groups::{Groups, at, groups_of, is_fact};
+use crate::groups::{Groups, at, groups_of};
 use crate::links::Linked;
 use crate::notes::{arcroles_for, notes_for, roles_for};
 use crate::outcome::Target;
@@ -26,14 +26,12 @@ use crate::references::{addresses_at, linkbases_at};
 use fact_view::target_of;
 use id_table::Index;
 use instance_out::arrange;
+use ix_base::limits::DEEPEST_TUPLE;
 use ix_base::{
-    Content, Context, Fact, Kind, Linkbase, List, NoMemory, Spot, Text, Unit, each_once, kind_of,
+    Content, Context, Fact, Kind, Linkbase, List, NoMemory, Spot, Text, Unit, each_once, is_fact,
+    kind_of,
 };
-use scopes::Bases;
 use std::alloc::Global;
-
-/// How deep tuples stand within tuples at most.
-const DEEPEST: u32 = 100;
 
 /// Adds an element that has no owner.
 fn push_outer<'a>(
@@ -147,7 +145,7 @@ fn facts_for<'a>(
 {
     let facts = at(alloc, &groups.facts, target)?;
     let outer = outer_of(alloc, linked, facts.as_slice())?;
-    facts_at(alloc, linked, outer.as_slice(), DEEPEST)
+    facts_at(alloc, linked, outer.as_slice(), DEEPEST_TUPLE)
 }
 
 /// What the elements of a set say of a target, each list as they come.

@@ -1,12 +1,10 @@
 //! The facts of a target, tuples with their members within.
-ghost use Rattle.std.specs.Prelude.{◌≡◌, ℕ, All, Contains, true, IfOk, option_map};
+ghost use Rattle.std.specs.Prelude.{◌≡◌, ℕ, All, Contains, true, IfOk};
 ghost use Rattle.ix_base.specs.Facts.{Facts, before, facts_of, tuple};
 ghost use Rattle.ix_base.specs.Ids.{id_of};
 ghost use Rattle.ix_base.specs.Located as kinds;
 ghost use Rattle.ix_base.specs.Located.{located};
 ghost use Rattle.ix_base.specs.Membership as spec;
-ghost use Rattle.ix_base.specs.OwnNames.{own};
-ghost use Rattle.ix_base.specs.Trees.{named};
 ghost use Rattle.id_table.specs.Tables.{all_located};
 ghost use Rattle.targets.specs.Linked.{IsLinked, IsValued, SaysIn, all_of};
 ghost use Rattle.targets.specs.Seen.{AreAmong};
@@ -16,8 +14,7 @@ use crate::links::Linked;
 use crate::values::item_at;
 use fact_view::fact_name;
 use facts::ItemFault;
-use id_table::id_at;
-use ix_base::{Fact, Kind, List, Name, NoMemory, OwnName, Spot, Text, Tuple, kind_of};
+use ix_base::{Fact, Kind, List, NoMemory, OwnName, Spot, Text, Tuple, id_at, kind_of};
 use std::alloc::Global;
 use value_forms::is_nil;
 
@@ -36,26 +33,6 @@ fn item_fact<'a>(alloc: Global, linked: &Linked<'_, 'a>, spot: &Spot<'a>) -> Res
     }
 }
 
-/// A name that is owned.
-fn own_name(alloc: Global, name: Name<'_>) -> Result<OwnName, NoMemory>
-    ensures { IfOk result (λ n. n ≡ own (named name.entry)) }
-{
-    Ok(OwnName {
-        ns: Text::of(alloc, name.ns)?,
-        local: Text::of(alloc, name.local)?,
-    })
-}
-
-/// A text that is owned, where there is one.
-fn own_if(alloc: Global, text: Option<&str>) -> Result<Option<Text>, NoMemory>
-    ensures { IfOk result (λ o. o ≡ option_map (λ t. t.now) text.entry) }
-{
-    match text {
-        Some(text) => Ok(Some(Text::of(alloc, text)?)),
-        None => Ok(None),
-    }
-}
-
 /// A tuple with these facts within.
 fn tuple_of(alloc: Global, spot: &Spot<'_>, members: List<Fact>) -> Result<Tuple, NoMemory>
     ensures name { IfOk result (λ t. t.name ≡ spec.fact_name (located spot.now)) }
@@ -63,8 +40,8 @@ fn tuple_of(alloc: Global, spot: &Spot<'_>, members: List<Fact>) -> Result<Tuple
     ensures nil { IfOk result (λ t. t.nil ≡ kinds.is_nil (located spot.now)) }
     ensures members { IfOk result (λ t. t.members ≡ members) }
 {
-    let name = own_name(alloc, fact_name(spot.element))?;
-    let id = own_if(alloc, id_at(spot))?;
+    let name = OwnName::of(alloc, fact_name(spot.element))?;
+    let id = Text::of_some(alloc, id_at(spot))?;
     Ok(Tuple {
         name,
         id,

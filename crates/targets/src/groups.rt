@@ -1,6 +1,5 @@
 //! The elements of a set by the target for which they stand.
 ghost use Rattle.std.specs.Prelude.{◌≡◌, ℕ, List, IfOk, filter, option_map};
-ghost use Rattle.ix_base.specs.Located as kinds;
 ghost use Rattle.ix_base.specs.LinkRules as rules;
 ghost use Rattle.ix_base.specs.Located.{located};
 ghost use Rattle.id_table.specs.Tables.{HasEach, all_located, spots_at};
@@ -9,7 +8,7 @@ ghost use Rattle.targets.specs.Groups.{AreGroups, key_by};
 
 use fact_view::target_of;
 use id_table::{Holders, Index, enter};
-use ix_base::{Kind, NoMemory, Spot, kind_of};
+use ix_base::{Kind, NoMemory, Spot, is_fact, kind_of};
 use std::alloc::Global;
 
 /// What elements are put together by their targets.
@@ -18,12 +17,6 @@ pub(crate) enum Group {
     Facts,
     Schemas,
     Linkbases,
-}
-
-pub(crate) fn is_fact(spot: &Spot<'_>) -> bool
-    ensures { result ≡ kinds.is_fact (located spot.now) }
-{
-    ix_base::is_fact(kind_of(spot))
 }
 
 /// The target of the element right above.
@@ -91,8 +84,10 @@ fn references_of<'a>(
     alloc: Global,
     index: &Index<'a>,
 ) -> Result<(Holders<'a>, Holders<'a>), NoMemory>
-    ensures schemas { IfOk result (λ r. (target : List ℕ) → all_located (spots_at r.0 target) ≡ filter (rules.is_schema_for target) index.now.spots) }
-    ensures linkbases { IfOk result (λ r. (target : List ℕ) → all_located (spots_at r.1 target) ≡ filter (is_linkbase_for target) index.now.spots) }
+    ensures schemas { IfOk result (λ r. (target : List ℕ) → all_located (spots_at r.0 target)
+        ≡ filter (rules.is_schema_for target) index.now.spots) }
+    ensures linkbases { IfOk result (λ r. (target : List ℕ) → all_located (spots_at r.1 target)
+        ≡ filter (is_linkbase_for target) index.now.spots) }
 {
     let schemas = grouped(alloc, Group::Schemas, index.spots())?;
     let linkbases = grouped(alloc, Group::Linkbases, index.spots())?;

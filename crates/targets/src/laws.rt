@@ -1,12 +1,12 @@
 //! Laws of what pages come to.
 ghost use Rattle.std.specs.Prelude.{◌≡◌, ◌↔◌, ◌++◌, ℕ, true, false, All, List, Some, map, option_and_then};
-ghost use Rattle.std.specs.List.Sorted.{IsPermutation};
 ghost use Rattle.ix_base.specs.declared.content.Item.{Item};
 ghost use Rattle.ix_base.specs.declared.kind.Kind.TheVariants as kind;
+ghost use Rattle.ix_base.specs.declared.limits.TheConstants.{DEEPEST_ELEMENT};
 ghost use Rattle.ix_base.specs.Asks.{if_such};
 ghost use Rattle.ix_base.specs.Facts.{Facts, joined};
 ghost use Rattle.ix_base.specs.Ids.{context_for, one, unit_for};
-ghost use Rattle.ix_base.specs.Located.{Located, Paged, is_kind, is_tuple};
+ghost use Rattle.ix_base.specs.Located.{Located, is_kind, is_tuple};
 ghost use Rattle.ix_base.specs.Membership.{deepest, fact};
 ghost use Rattle.ix_base.specs.Sound.{IsSoundTree};
 ghost use Rattle.id_table.specs.Held.{AreChosen, Held, one_held};
@@ -21,8 +21,10 @@ ghost use Rattle.targets.specs.declared.outcome.Outcome.{Outcome};
 
 /// Sound pages come to the same in every order, and each content that they come to is proper.
 pub fn sound_pages()
-    ensures rearranged { (s : PageSet) → All (λ p. IsSoundTree p.tree 256) s.pages → (o : Outcome) → ComesTo s o → ComesToAlways s o }
-    ensures proper { (s : PageSet) → All (λ p. IsSoundTree p.tree 256) s.pages → (o : Outcome) → ComesTo s o → AreProper o }
+    ensures rearranged { (s : PageSet) → All (λ p. IsSoundTree p.tree DEEPEST_ELEMENT) s.pages
+        → (o : Outcome) → ComesTo s o → ComesToAlways s o }
+    ensures proper { (s : PageSet) → All (λ p. IsSoundTree p.tree DEEPEST_ELEMENT) s.pages
+        → (o : Outcome) → ComesTo s o → AreProper o }
 {}
 
 /// With more elements each link stays, and how it stands never goes back. The pages have these names, those that are still to come

@@ -12,18 +12,18 @@ ghost use Rattle.id_table.specs.Held.{AreChosen, asked};
 ghost use Rattle.id_table.specs.Tables.{all_located, spots_at};
 ghost use Rattle.tuples.specs.Fits.{fits};
 ghost use Rattle.tuples.specs.Kept.{AreMembersOf};
-ghost use Rattle.targets.specs.Faults.{redirected_at, refs_at};
+ghost use Rattle.targets.specs.Faults.{refs_at};
 ghost use Rattle.targets.specs.RoleAddresses.{SeesAll};
 
 use crate::addresses::{SeenRoles, add_redirected};
-use crate::groups::{Group, grouped, is_fact};
+use crate::groups::{Group, grouped};
 use bumpalo::Bump;
 use continuations::{Chains, link};
 use fact_view::target_of;
 use facts::refs_of;
 use footnotes::{Relations, relate};
 use id_table::{Holders, Index, count_in};
-use ix_base::{Breaches, NoMemory, Rule, Spot};
+use ix_base::{Breaches, NoMemory, Rule, Spot, is_fact};
 use scopes::Bases;
 use std::alloc::Global;
 use tuples::{Members, membership};
@@ -121,22 +121,6 @@ fn tied<'a>(
     Ok((members, relations))
 }
 
-/// Adds the facts whose targets have no schema and the addresses that have two roles, and gives the roles that were seen.
-fn ended<'a>(
-    alloc: Global,
-    index: &Index<'a>,
-    bases: &Bases,
-    found: &mut Breaches,
-) -> Result<SeenRoles<'a>, NoMemory>
-    requires { All (λ e. e.page < length bases.now.pages) index.now.spots }
-    ensures faults { OnOk result (found.new ≡ found.old ++ breaking rule.L14 index.now.spots
-        ++ flat_map (redirected_at (base_in bases.now.pages) (asked index.now)) index.now.spots) }
-    ensures seen_roles { IfOk result (λ seen. SeesAll (base_in bases.now.pages) index.now.spots seen) }
-{
-    add_lacking_schema(alloc, index, found)?;
-    add_redirected(alloc, index, bases, found)
-}
-
 /// Adds the rules on links that the elements of a set break, and gives what was made of the links.
 pub(crate) fn link_all<'s, 'a>(
     alloc: Global,
@@ -159,7 +143,8 @@ pub(crate) fn link_all<'s, 'a>(
 {
     let chains = chained(alloc, arena, index, found)?;
     let (members, relations) = tied(alloc, arena, index, found)?;
-    let seen_roles = ended(alloc, index, bases, found)?;
+    add_lacking_schema(alloc, index, found)?;
+    let seen_roles = add_redirected(alloc, index, bases, found)?;
     Ok(Linked {
         index,
         bases,

@@ -1,5 +1,5 @@
 //! The footnote links of a target, and the references to the roles that they use.
-ghost use Rattle.std.specs.Prelude.{◌≡◌, ◌++◌, ◌∷◌, [], ℕ, List as Items, map, IfOk, OnOk};
+ghost use Rattle.std.specs.Prelude.{◌≡◌, ◌++◌, ◌∷◌, [], map, IfOk, OnOk};
 ghost use Rattle.std.specs.List.{filter_map, flat_map};
 ghost use Rattle.ix_base.specs.Located.{base_in};
 ghost use Rattle.ix_base.specs.declared.kind.Kind.TheVariants as kind;

@@ -1,6 +1,8 @@
 //! What a set of pages comes to.
+ghost use Rattle.std.specs.Prelude.{◌<◌, All, length, IfOk};
+ghost use Rattle.targets.specs.SetOutcomes.{CanBeWritten, IsReport};
 
-use ix_base::{Content, List, Report, Text};
+use ix_base::{Breaches, Content, List, NoMemory, Report, Text};
 
 /// A target with its content.
 #[derive(Drop)]
@@ -17,4 +19,16 @@ pub enum Outcome {
     Broken(Report),
     /// It breaks none, and these are its targets, in the byte order of their names.
     Whole(List<Target>),
+}
+
+impl Outcome {
+    /// The outcome of pages of these names that break these rules: the report of them.
+    pub fn broken(found: Breaches, names: &[Text]) -> Result<Outcome, NoMemory>
+        requires { All (λ f. f.place.page < length names.now) found }
+        ensures report { IfOk result (IsReport names.now found) }
+        ensures written { IfOk result CanBeWritten }
+    {
+        let report = found.report(names)?;
+        Ok(Outcome::Broken(report))
+    }
 }

@@ -11,11 +11,10 @@ ghost use Rattle.id_table.specs.Tables.{all_located};
 ghost use Rattle.targets.specs.Groups.{ref_by};
 ghost use Rattle.targets.specs.Seen.{values_of};
 
-use crate::values::is_item;
 use id_table::Index;
-use ix_base::{Context, Kind, List, NoMemory, Spot, Unit, each_once, kind_of, token_at};
+use ix_base::{Context, Kind, List, NoMemory, Spot, Unit, each_once, is_item, kind_of, token_at};
 use std::alloc::Global;
-use xbrl_parts::{PartFault, context_of, unit_of};
+use xbrl_parts::{read_context, read_unit};
 
 /// What an item names: a context or a unit.
 #[derive(Clone, Copy)]
@@ -85,11 +84,7 @@ fn context_with(alloc: Global, index: &Index<'_>, id: &str) -> Result<Option<Con
     if entry.kind != Kind::Context {
         return Ok(None);
     }
-    match context_of(alloc, entry.spot.element) {
-        Ok(context) => Ok(Some(context)),
-        Err(PartFault::Breach(_)) => Ok(None),
-        Err(PartFault::NoMemory) => Err(NoMemory),
-    }
+    read_context(alloc, entry.spot.element)
 }
 
 /// Adds the context of an id, where there is one.
@@ -135,11 +130,7 @@ fn unit_with(alloc: Global, index: &Index<'_>, id: &str) -> Result<Option<Unit>,
     if entry.kind != Kind::Unit {
         return Ok(None);
     }
-    match unit_of(alloc, entry.spot.element) {
-        Ok(unit) => Ok(Some(unit)),
-        Err(PartFault::Breach(_)) => Ok(None),
-        Err(PartFault::NoMemory) => Err(NoMemory),
-    }
+    read_unit(alloc, entry.spot.element)
 }
 
 /// Adds the unit of an id, where there is one.

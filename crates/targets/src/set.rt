@@ -1,5 +1,6 @@
 //! A set of pages.
 ghost use Rattle.std.specs.Prelude.{◌≡◌, ◌++◌, ◌∷◌, [], length, true, false, IfOk, OnOk, OnErr, IsErr};
+ghost use Rattle.ix_base.specs.declared.limits.TheConstants.{DEEPEST_ELEMENT};
 ghost use Rattle.ix_base.specs.Sound.{IsSoundRoot};
 ghost use Rattle.ix_base.specs.Trees.{tree_of};
 ghost use Rattle.targets.specs.Clean.{AreProper};
@@ -74,7 +75,7 @@ impl<'a> Set<'a> {
     /// answers so from then on.
     #[tactic(auto, using(crate::proofs::SetLaws::spots_less))]
     pub fn add_page(&mut self, name: &str, root: &'a Element<'a>) -> Result<(), NoMemory>
-        requires { IsSoundRoot root.now (length self.old.held.pages) 256 }
+        requires { IsSoundRoot root.now (length self.old.held.pages) DEEPEST_ELEMENT }
         ensures ok { OnOk result (self.new ≡ record {
           held = record self.old.held { pages = self.old.held.pages ++ record { name = name.now; tree = tree_of root.now } ∷ [] };
           is_spent = false;

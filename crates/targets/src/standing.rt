@@ -3,8 +3,9 @@
 //! A link is an id that an attribute of an element names. It is pending as long as no element has the id, resolved where one has
 //! it, or several contexts or units of one normal form, and doubled where more have it that don't agree. Each id that was met
 //! lies in a table, with how it stands and how many links name it; so an element that comes, and a link that comes, cost a look-up
-//! and an entry each, whatever the ids are. Of an element that comes the kind is asked once, and only the attributes that its kind has are looked at.
-ghost use Rattle.std.specs.Prelude.{◌≡◌, ◌++◌, ◌∷◌, ◌≤◌, [], ℕ, List, OnOk, IfOk, IfSome, filter, option_map, if◌then◌else◌, bytes_eq, true};
+//! and an entry each, whatever the ids are. Of an element that comes the kind is asked once, of a tuple twice, and only the
+//! attributes that its kind has are looked at.
+ghost use Rattle.std.specs.Prelude.{◌≡◌, ◌++◌, ◌∷◌, ◌≤◌, [], ℕ, List, OnOk, IfSome, filter, option_map, true};
 ghost use Rattle.ix_base.specs.Forms.{words_of};
 ghost use Rattle.ix_base.specs.Ids.{tuple_id_of};
 ghost use Rattle.ix_base.specs.Kinds.{kind_of as spec_kind_of};
@@ -16,15 +17,14 @@ ghost use Rattle.ix_base.specs.Spots.{IsOnOnePage};
 ghost use Rattle.id_table.specs.Tables.{AreOnOwnPages, all_located};
 ghost use Rattle.targets.specs.Holding.{names_of};
 ghost use Rattle.targets.specs.LinkTables as tables;
-ghost use Rattle.targets.specs.LinkTables.{AreFirstOnPages, AreLinked, AreLinks, AreOfSome, AreSomeLinks, IsFirstOnPage, kept_in, named_of, named_in};
+ghost use Rattle.targets.specs.LinkTables.{AreFirstOnPages, AreLinked, AreLinks, AreOfSome, AreSomeLinks, kept_in, named_of, named_in};
 ghost use Rattle.targets.specs.LinkAttributes.{links_in, links_to};
 ghost use Rattle.targets.specs.LinkStates.{Link, links_of};
 
 use crate::agreeing::{PageNames, Standing, with_holder, with_tuple};
 use crate::link_ids::{LinkAttribute, attributes_of, ids_in, list_at, single_at};
 use crate::met_ids::{Named, Names, known, name_once_more};
-use id_table::id_at;
-use ix_base::{Kind, NoMemory, Spot, kind_of, token_at};
+use ix_base::{Kind, NoMemory, Spot, id_at, kind_of};
 use scopes::is_ncname;
 use std::alloc::Global;
 use text_map::TextMap;
@@ -44,7 +44,7 @@ fn tuple_id_at<'a>(kind: Kind, spot: &Spot<'a>) -> Option<&'a str>
     ensures { option_map (λ s. s.now) result ≡ tuple_id_of (located spot.now) }
 {
     match kind {
-        Kind::Tuple => token_at(spot.element, "tupleID"),
+        Kind::Tuple => ix_base::tuple_id_at(spot),
         _ => None,
     }
 }

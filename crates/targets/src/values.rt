@@ -1,5 +1,5 @@
 //! The items of a set, and the rules of values that they break.
-ghost use Rattle.std.specs.Prelude.{◌≡◌, ◌<◌, ◌++◌, ◌∷◌, List, [], All, Contains, length, map, option_map, true, filter, Some, IfOk, IfSome, OnOk};
+ghost use Rattle.std.specs.Prelude.{◌≡◌, ◌<◌, ◌++◌, ◌∷◌, List, [], All, Contains, length, option_map, true, filter, Some, IfOk, IfSome, OnOk};
 ghost use Rattle.ix_base.specs.Asks.{asks};
 ghost use Rattle.ix_base.specs.Chain as spec;
 ghost use Rattle.ix_base.specs.Elements.{place_of};
@@ -14,23 +14,14 @@ ghost use Rattle.facts.specs.ItemValue.{IsItem};
 ghost use Rattle.facts.specs.Verdicts.{said};
 ghost use Rattle.id_table.specs.Tables.{all_located, AreOnOwnPages};
 ghost use Rattle.targets.specs.Faults.{AreOfItems, fault_by, rule_said, faultless, value_fault};
-ghost use Rattle.targets.specs.Linked.{IsLinked, IsValued, all_of, bases_of};
+ghost use Rattle.targets.specs.Linked.{IsLinked, all_of, bases_of};
 ghost use Rattle.targets.specs.Seen.{AreAmong};
 
 use crate::links::Linked;
 use facts::{ItemFault, item_of};
-use ix_base::{Breaches, Item, Kind, NoMemory, Rule, Spot, attr_of, kind_of};
+use ix_base::{Breaches, Item, Kind, NoMemory, Rule, Spot, attr_of, is_item, kind_of};
 use std::alloc::Global;
 use value_forms::is_nil;
-
-pub(crate) fn is_item(spot: &Spot<'_>) -> bool
-    ensures { result ≡ kinds.is_item (located spot.now) }
-{
-    matches!(
-        kind_of(spot),
-        Kind::NonFraction | Kind::NonNumeric | Kind::Fraction
-    )
-}
 
 /// The chain of a nonNumeric; for another item nothing.
 fn chain_of<'a>(linked: &Linked<'_, 'a>, spot: &Spot<'a>) -> &'a [&'a Spot<'a>]

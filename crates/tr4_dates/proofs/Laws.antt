@@ -15,7 +15,7 @@ use Rattle.tr4_dates.specs.declared.part.Part.{Part}
 use Rattle.tr4_dates.specs.declared.part.Part.TheVariants.{Day, Month, Year, Gap, Tail, Signs, Edge, Ordinal, Name}
 use Rattle.tr4_dates.specs.Languages.{names, ordinals, has_links}
 use Rattle.tr4_dates.specs.Runs.{Class, Digit, Letter, Sign, class_of, is_nil, digits, letters, others, signs, alphanumerics, all_in, begins_in, ends_in, run, after, number}
-use Rattle.tr4_dates.specs.Parts.{IsIn, IsSmall, IsYear, IsName, IsSeparator, Joins, put, year_of, is_year_size, is_ordinal, is_listed, is_link}
+use Rattle.tr4_dates.specs.Parts.{IsIn, IsSmall, IsYear, IsName, IsSeparator, Joins, put, year_of, is_year_size, is_ordinal, is_listed, is_link_word}
 use Rattle.tr4_dates.specs.Reading.{read, says, piece_at, small, is_within, when, month_of, month_in, is_number, is_linked, closes, separator, name_at}
 use Rattle.tr4_dates.proofs.RunLemmas.{run_after, all_in-run, begins_in-after, run-append, run-whole}
 use Rattle.tr4_dates.proofs.KeyTests.{bytes_eq-true}
@@ -189,8 +189,8 @@ record Follows (l : Language) (behind : List ℕ) : Type 0 where
   no_sign : begins_in signs behind ≡ false
   no_link : has_links l ≡ true → is_linked behind ≡ false
 
-unlinked : (t : List ℕ) (w : List ℕ) → run letters t ≡ w → is_link w ≡ false → is_linked t ≡ false
-unlinked t w e no_word = and_left (is_link (run letters t)) _ (ap is_link e ∙ no_word)
+unlinked : (t : List ℕ) (w : List ℕ) → run letters t ≡ w → is_link_word w ≡ false → is_linked t ≡ false
+unlinked t w e no_word = and_left (is_link_word (run letters t)) _ (ap is_link_word e ∙ no_word)
 
 after_number : (l : Language) (piece behind : List ℕ) → begins_in digits piece ≡ true → Follows l (piece ++ behind)
 after_number l piece behind first =

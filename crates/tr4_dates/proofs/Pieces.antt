@@ -5,7 +5,7 @@ use Rattle.std.proofs.lemmas.Bool.{and_parts, and_from, and_right, cases_Bool, c
 use Rattle.tr4_dates.specs.declared.format.Language.{Language}
 use Rattle.tr4_dates.specs.Runs.{Class, Digit, Letter, Sign, class_of, letters, others, signs, alphanumerics, all_in, begins_in, ends_in, run, after}
 use Rattle.tr4_dates.specs.Languages.{has_links}
-use Rattle.tr4_dates.specs.Parts.{IsSigns, IsLinked, IsSeparator, is_link}
+use Rattle.tr4_dates.specs.Parts.{IsSigns, IsLinked, IsSeparator, is_link_word}
 use Rattle.tr4_dates.specs.Reading.{is_linked, link_and_signs, separator, closes, name_at}
 use Rattle.tr4_dates.proofs.RunLemmas.{run_after, all_in-run, begins_in-after, run-append, after-append, run-all, after-all, run-whole, after-whole, run-stops, ends_in-tail, all_in-tail}
 use Rattle.tr4_dates.proofs.PlainNames.{link_letters, link_some}
@@ -95,7 +95,7 @@ linked_whole l piece behind links h stop =
     let aw_word = after-whole letters link (back ++ behind) all word_stop in
     let rb = run-whole signs back behind h.back_signs.run stop in
     let linked : is_linked tail ≡ true =
-    and_from (is_link (run letters tail)) _ (ap is_link rw_word ∙ h.is_de) (ap (begins_in signs) aw_word ∙ sign_first back behind h.back_signs) in
+    and_from (is_link_word (run letters tail)) _ (ap is_link_word rw_word ∙ h.is_de) (ap (begins_in signs) aw_word ∙ sign_first back behind h.back_signs) in
     let chosen : (has_links l && is_linked (after signs (front ++ tail))) ≡ true =
     and_from (has_links l) _ links (ap is_linked a ∙ linked) in
     let words : link_and_signs tail ≡ link ++ back =
@@ -131,7 +131,7 @@ separator_is l text first =
     elim (cases_Bool (has_links l && is_linked (after signs text))) [
       | inl both ↦
           let links = and_parts (has_links l) _ both in
-          let parts = and_parts (is_link (run letters (after signs text))) _ links.1 in
+          let parts = and_parts (is_link_word (run letters (after signs text))) _ links.1 in
           rw (both) (inr (
             links.0,
             record {
@@ -152,7 +152,7 @@ separator_is l text first =
 pub record IsNameText (l : Language) (v : List ℕ) : Type 0 where
   pub no_digit : all_in others v ≡ true
   pub last : ends_in letters v ≡ true
-  pub no_back_link : has_links l ≡ true → (u w : List ℕ) → v ≡ u ++ w → is_link w ≡ false
+  pub no_back_link : has_links l ≡ true → (u w : List ℕ) → v ≡ u ++ w → is_link_word w ≡ false
 
 one_letter : (c : Class) → others c ≡ true → signs c ≡ false → letters c ≡ true
 one_letter Digit o s = absurd (cc)
@@ -192,8 +192,8 @@ inside l v t h stop =
       | inl both ↦
           let parts = and_parts (has_links l) _ both in
           let linked : is_linked (rest ++ t) ≡ true = sym (ap is_linked stops.1) ∙ parts.1 in
-          let link : is_link (run letters rest) ≡ true =
-          sym (ap is_link word) ∙ (and_parts (is_link (run letters (rest ++ t))) _ linked).0 in
+          let link : is_link_word (run letters rest) ≡ true =
+          sym (ap is_link_word word) ∙ (and_parts (is_link_word (run letters (rest ++ t))) _ linked).0 in
           elim (cases_nil later) [
             | inl none ↦
                 let whole : rest ≡ run letters rest =

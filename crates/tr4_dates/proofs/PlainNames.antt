@@ -7,7 +7,7 @@ use Rattle.std.proofs.lemmas.Str.{chars-nil}
 use Rattle.caseless.specs.Caseless.{canonical_key}
 use Rattle.tr4_dates.specs.declared.format.Language.{Language}
 use Rattle.tr4_dates.specs.Runs.{Class, Digit, Letter, Sign, class_of, letters, others, alphanumerics, all_in, run, after}
-use Rattle.tr4_dates.specs.Parts.{IsName, is_link}
+use Rattle.tr4_dates.specs.Parts.{IsName, is_link_word}
 use Rattle.tr4_dates.specs.Languages.{has_links}
 use Rattle.tr4_dates.proofs.RunLemmas.{run_after, all_in-run}
 use Rattle.tr4_dates.proofs.Keys.{key_word, key-nil}
@@ -50,7 +50,7 @@ letters_from_low (b ∷ bs) all =
     let parts = and_parts (is_ascii_lowercase (to_ascii_lowercase b)) _ all in
     and_from (letters (class_of b)) _ (letter_from_low b parts.0) (letters_from_low bs parts.1)
 
-pub link_words : (w : List ℕ) → is_link w ≡ true
+pub link_words : (w : List ℕ) → is_link_word w ≡ true
     → (map to_ascii_lowercase w ≡ codes "de") ⊎ (map to_ascii_lowercase w ≡ codes "del")
 link_words w h =
     elim (or_cases (bytes_eq (map to_ascii_lowercase w) (codes "de")) _ h) [
@@ -66,7 +66,7 @@ low_del : all_low (codes "del") ≡ true
 unfolding all_low
 low_del = refl
 
-pub link_letters : (w : List ℕ) → is_link w ≡ true → all_in letters w ≡ true
+pub link_letters : (w : List ℕ) → is_link_word w ≡ true → all_in letters w ≡ true
 link_letters w h =
     elim (link_words w h) [
       | inl de ↦ letters_from_low w (ap all_low de ∙ low_de)
@@ -77,7 +77,7 @@ some_from_word : (w : List ℕ) (c : ℕ) (cs : List ℕ) → map to_ascii_lower
 some_from_word [] c cs e = absurd (cc)
 some_from_word (b ∷ bs) c cs e = omega arith
 
-pub link_some : (w : List ℕ) → is_link w ≡ true → 1 ≤ length w
+pub link_some : (w : List ℕ) → is_link_word w ≡ true → 1 ≤ length w
 link_some w h =
     elim (link_words w h) [
       | inl de ↦ some_from_word w _ _ de
@@ -88,8 +88,8 @@ link_some w h =
 
 pub record IsPlainName (l : Language) (piece : List ℕ) : Type 0 where
   pub no_digit : all_in others piece ≡ true
-  pub no_front_link : has_links l ≡ true → is_link (run letters piece) ≡ false
-  pub no_back_link : has_links l ≡ true → (u w : List ℕ) → piece ≡ u ++ w → is_link w ≡ false
+  pub no_front_link : has_links l ≡ true → is_link_word (run letters piece) ≡ false
+  pub no_back_link : has_links l ≡ true → (u w : List ℕ) → piece ≡ u ++ w → is_link_word w ≡ false
 
 module _ (l : Language) (piece : List ℕ) (month : ℕ) (name : IsName l piece month) where
   plain_key : is_plain l (canonical_key (chars piece)) ≡ true
@@ -127,7 +127,7 @@ module _ (l : Language) (piece : List ℕ) (month : ℕ) (name : IsName l piece 
             absurd (true≢false (sym d.1 ∙ no))
       ]
 
-  front_link : has_links l ≡ true → is_link (run letters piece) ≡ true → ⊥
+  front_link : has_links l ≡ true → is_link_word (run letters piece) ≡ true → ⊥
   unfolding no_link
   front_link links h =
       let w = run letters piece in
@@ -142,7 +142,7 @@ module _ (l : Language) (piece : List ℕ) (month : ℕ) (name : IsName l piece 
       ] in
       absurd (false≢true (sym (ap not (bytes_eq-same _ _ two)) ∙ no))
 
-  back_link : has_links l ≡ true → (u w : List ℕ) → piece ≡ u ++ w → is_link w ≡ true → ⊥
+  back_link : has_links l ≡ true → (u w : List ℕ) → piece ≡ u ++ w → is_link_word w ≡ true → ⊥
   unfolding no_link
   back_link links u w e h =
       let k =

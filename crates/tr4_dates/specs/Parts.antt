@@ -52,8 +52,8 @@ pub record IsSigns (piece : List ℕ) : Type 0 where
   pub run : all_in signs piece ≡ true
 
 -- de or del, in any ASCII case
-abbrev pub is_link : List ℕ → Bool
-is_link word = bytes_eq (map to_ascii_lowercase word) (codes "de") || bytes_eq (map to_ascii_lowercase word) (codes "del")
+abbrev pub is_link_word : List ℕ → Bool
+is_link_word word = bytes_eq (map to_ascii_lowercase word) (codes "de") || bytes_eq (map to_ascii_lowercase word) (codes "del")
 
 -- signs, de or del, signs
 pub record IsLinked (piece : List ℕ) : Type 0 where
@@ -62,7 +62,7 @@ pub record IsLinked (piece : List ℕ) : Type 0 where
   pub back : List ℕ
   pub joined : piece ≡ front ++ (link ++ back)
   pub front_signs : IsSigns front
-  pub is_de : is_link link ≡ true
+  pub is_de : is_link_word link ≡ true
   pub back_signs : IsSigns back
 
 abbrev pub IsSeparator : Language → List ℕ → Type 0

@@ -8,14 +8,14 @@ use Rattle.tr4_dates.specs.declared.part.Part.{Part}
 use Rattle.tr4_dates.specs.declared.part.Part.TheVariants.{Day, Month, Year, Gap, Tail, Signs, Edge, Ordinal, Name}
 use Rattle.tr4_dates.specs.Languages.{Row, names, has_links}
 use Rattle.tr4_dates.specs.Runs.{class_of, digits, letters, others, signs, alphanumerics, begins_in, ends_in, number, run, after}
-use Rattle.tr4_dates.specs.Parts.{is_year_size, year_of, is_ordinal, is_link, nothing, put}
+use Rattle.tr4_dates.specs.Parts.{is_year_size, year_of, is_ordinal, is_link_word, nothing, put}
 use Rattle.tr4_dates.specs.declared.part.Fields.{Fields}
 
 -- ---- the piece that a part takes from the front of a text
 
 -- de or del with a sign behind it is at the front
 abbrev pub is_linked : List ℕ → Bool
-is_linked text = is_link (run letters text) && begins_in signs (after letters text)
+is_linked text = is_link_word (run letters text) && begins_in signs (after letters text)
 
 abbrev pub link_and_signs : List ℕ → List ℕ
 link_and_signs text = run letters text ++ run signs (after letters text)

@@ -2,7 +2,7 @@
 ghost use Rattle.std.specs.Prelude.{◌+◌, ◌-◌, ◌≡◌, ◌≤◌, ◌&&◌, nat_le, if◌then◌else◌, length, drop, take, map, bytes_eq, IfOk, IfSome, Some, None, Option, true, false};
 ghost use Rattle.std.specs.Char.{to_ascii_lowercase};
 ghost use Rattle.tr4_dates.specs.Languages.{has_links};
-ghost use Rattle.tr4_dates.specs.Parts.{is_link, is_ordinal, is_year_size};
+ghost use Rattle.tr4_dates.specs.Parts.{is_link_word, is_ordinal, is_year_size};
 ghost use Rattle.tr4_dates.specs.Reading.{separator, closes, name_at, piece_at, says, read, small, year, when, is_number};
 ghost use Rattle.tr4_dates.specs.Runs.{class_of, digits, letters, all_in, begins_in, number};
 
@@ -25,7 +25,7 @@ fn has_links_in(language: Language) -> bool
 
 /// Whether the word is de or del.
 fn is_link_word(word: &[u8]) -> bool
-    ensures { result ≡ is_link word.now }
+    ensures { result ≡ is_link_word word.now }
 {
     word.eq_ignore_ascii_case(b"de") || word.eq_ignore_ascii_case(b"del")
 }

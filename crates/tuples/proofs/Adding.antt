@@ -20,26 +20,26 @@ use Rattle.tuples.specs.declared.fact.Fact.{Fact}
 use Rattle.tuples.specs.declared.rules.Test.{Test}
 use Rattle.tuples.specs.declared.rules.Test.TheVariants as test
 use Rattle.tuples.specs.Known.{all_seen, seen}
-use Rattle.tuples.specs.Tests.{rule_of}
+use Rattle.tuples.specs.Tests.{tuple_rule}
 
 -- the breaches of a rule by the facts from this index on
 abbrev pub from_on : Asks Located → Test → List Fact → ℕ → List Found
-from_on a t facts i = flat_map (broken_at a (rule_of t)) (all_seen (drop i facts))
+from_on a t facts i = flat_map (broken_at a (tuple_rule t)) (all_seen (drop i facts))
 
 -- those of one more fact were added
 pub one-more : (a : Asks Located) (t : Test) (facts : List Fact) (i : ℕ) (fact : Fact) (old now new all : List Found)
-    → i < length facts → fact ≡ get_or facts i fact → Grows old now (from_on a t facts i) all → new ≡ now ++ broken_at a (rule_of t) (seen fact)
+    → i < length facts → fact ≡ get_or facts i fact → Grows old now (from_on a t facts i) all → new ≡ now ++ broken_at a (tuple_rule t) (seen fact)
     → Grows old new (from_on a t facts (i + 1)) all
 one-more a t facts i fact old now new all h e g n =
-    grows-more old now new (broken_at a (rule_of t) (seen fact)) _ (from_on a t facts (i + 1)) all g
-    (flat_map-next (broken_at a (rule_of t)) seen facts i fact h e) n
+    grows-more old now new (broken_at a (tuple_rule t) (seen fact)) _ (from_on a t facts (i + 1)) all g
+    (flat_map-next (broken_at a (tuple_rule t)) seen facts i fact h e) n
 
 -- those of the next fact weren't added
 pub no-more : (a : Asks Located) (t : Test) (facts : List Fact) (i : ℕ) (fact : Fact) (old now new all : List Found)
     → i < length facts → fact ≡ get_or facts i fact → Grows old now (from_on a t facts i) all → new ≡ now → AppendsFront all old new
 no-more a t facts i fact old now new all h e g n =
-    grows-front old now new (broken_at a (rule_of t) (seen fact)) _ (from_on a t facts (i + 1)) all g
-    (flat_map-next (broken_at a (rule_of t)) seen facts i fact h e) (front-none _ _ _ n)
+    grows-front old now new (broken_at a (tuple_rule t) (seen fact)) _ (from_on a t facts (i + 1)) all g
+    (flat_map-next (broken_at a (tuple_rule t)) seen facts i fact h e) (front-none _ _ _ n)
 
 -- a kind that is none of a fact isn't that of a tuple
 no-tuple : (k : Kind) → kinds.is_fact k ≡ false → same_kind k kind.Tuple ≡ false
@@ -70,28 +70,28 @@ and-left true c h = absurd (cc)
 and-left false c h = refl
 
 -- only facts break the rules on tuples
-breaks-no : (a : Asks Located) (t : Test) (e : Located) → is_fact e ≡ false → breaks_link a e (rule_of t) ≡ false
+breaks-no : (a : Asks Located) (t : Test) (e : Located) → is_fact e ≡ false → breaks_link a e (tuple_rule t) ≡ false
 breaks-no a test.Lacking e h = and-left (is_fact e) _ h
 breaks-no a test.Deep e h = and-left (is_tuple e) _ (no-tuple (kind_of e.placed) h)
 breaks-no a test.Leaving e h = and-left (is_fact e) _ h
 breaks-no a test.Tied e h = and-left (is_fact e) _ h
 breaks-no a test.Unordered e h = and-left (is_fact e && is_some (owner a e)) _ (and-left (is_fact e) _ h)
 
-facts-only : (a : Asks Located) (t : Test) (e : Located) → is_fact e ≡ false → broken_at a (rule_of t) e ≡ []
-facts-only a t e h = ap (λ b. row b (found_at e (rule_of t))) (breaks-no a t e h)
+facts-only : (a : Asks Located) (t : Test) (e : Located) → is_fact e ≡ false → broken_at a (tuple_rule t) e ≡ []
+facts-only a t e h = ap (λ b. row b (found_at e (tuple_rule t))) (breaks-no a t e h)
 
 next : (a : Asks Located) (t : Test) (e : Located) (es : List Located) (b : Bool) → is_fact e ≡ b
-    → flat_map (broken_at a (rule_of t)) (filter is_fact es) ≡ flat_map (broken_at a (rule_of t)) es
-    → flat_map (broken_at a (rule_of t)) (cond b (e ∷ filter is_fact es) (filter is_fact es)) ≡ broken_at a (rule_of t) e ++ flat_map (broken_at a (rule_of t)) es
-next a t e es true h rest = ap (λ l. broken_at a (rule_of t) e ++ l) rest
-next a t e es false h rest = rest ∙ ap (λ l. l ++ flat_map (broken_at a (rule_of t)) es) (sym (facts-only a t e h))
+    → flat_map (broken_at a (tuple_rule t)) (filter is_fact es) ≡ flat_map (broken_at a (tuple_rule t)) es
+    → flat_map (broken_at a (tuple_rule t)) (cond b (e ∷ filter is_fact es) (filter is_fact es)) ≡ broken_at a (tuple_rule t) e ++ flat_map (broken_at a (tuple_rule t)) es
+next a t e es true h rest = ap (λ l. broken_at a (tuple_rule t) e ++ l) rest
+next a t e es false h rest = rest ∙ ap (λ l. l ++ flat_map (broken_at a (tuple_rule t)) es) (sym (facts-only a t e h))
 
-by-facts : (a : Asks Located) (t : Test) (es : List Located) → flat_map (broken_at a (rule_of t)) (filter is_fact es) ≡ flat_map (broken_at a (rule_of t)) es
+by-facts : (a : Asks Located) (t : Test) (es : List Located) → flat_map (broken_at a (tuple_rule t)) (filter is_fact es) ≡ flat_map (broken_at a (tuple_rule t)) es
 by-facts a t [] = refl
 by-facts a t (e ∷ es) = next a t e es (is_fact e) refl (by-facts a t es)
 
-pub all-left : (t : Test) (es : List Located) (facts : List Fact) → all_seen facts ≡ filter is_fact es → from_on (asks es) t facts 0 ≡ breaking (rule_of t) es
-all-left t es facts e = ap (flat_map (broken_at (asks es) (rule_of t))) e ∙ by-facts (asks es) t es
+pub all-left : (t : Test) (es : List Located) (facts : List Fact) → all_seen facts ≡ filter is_fact es → from_on (asks es) t facts 0 ≡ breaking (tuple_rule t) es
+all-left t es facts e = ap (flat_map (broken_at (asks es) (tuple_rule t))) e ∙ by-facts (asks es) t es
 
 -- what was added part by part
 joined : (old now new part more : List Found) → now ≡ old ++ part → new ≡ now ++ more → new ≡ old ++ (part ++ more)

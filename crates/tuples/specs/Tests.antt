@@ -4,10 +4,10 @@ use Rattle.ix_base.specs.declared.rule.Rule.TheVariants.{L8, L9, L10, L12, L13}
 use Rattle.tuples.specs.declared.rules.Test.{Test}
 use Rattle.tuples.specs.declared.rules.Test.TheVariants as test
 
--- the rule for which a test looks
-abbrev pub rule_of : Test → Rule
-rule_of test.Lacking = L8
-rule_of test.Deep = L9
-rule_of test.Leaving = L10
-rule_of test.Tied = L12
-rule_of test.Unordered = L13
+-- the rule on tuples for which a test looks
+abbrev pub tuple_rule : Test → Rule
+tuple_rule test.Lacking = L8
+tuple_rule test.Deep = L9
+tuple_rule test.Leaving = L10
+tuple_rule test.Tied = L12
+tuple_rule test.Unordered = L13

@@ -5,28 +5,9 @@ ghost use Rattle.ix_base.specs.Forms as forms;
 ghost use Rattle.ix_base.specs.Orders as orders;
 ghost use Rattle.tuples.specs.DecimalOrder as spec;
 
+use ix_base::{has_minus, unsigned_of};
 use scale_sign::{is_negative, parts_of, stripped, trimmed};
 use std::cmp::Ordering;
-
-/// A text without the sign that may stand in front.
-fn unsigned_of(text: &[u8]) -> &[u8]
-    ensures { result.now ≡ forms.unsigned_of text.now }
-{
-    match text {
-        [b'+' | b'-', rest @ ..] => rest,
-        _ => text,
-    }
-}
-
-/// Whether a minus stands in front.
-fn has_minus(text: &[u8]) -> bool
-    ensures { result ≡ forms.is_negative text.now }
-{
-    match text {
-        [b'-', ..] => true,
-        _ => false,
-    }
-}
 
 /// Two decimals without a sign, by their digits in front of the point and behind it.
 fn size_cmp(front: &[u8], back: &[u8], other_front: &[u8], other_back: &[u8]) -> Ordering

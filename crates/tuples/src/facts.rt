@@ -11,14 +11,8 @@ ghost use Rattle.tuples.specs.Known.{seen, all_seen, IsKnown};
 use crate::fact::Fact;
 use crate::owners::owner_of;
 use id_table::Index;
-use ix_base::{NoMemory, Spot, kind_of, token_at};
+use ix_base::{NoMemory, Spot, is_fact, token_at};
 use std::alloc::Global;
-
-pub(crate) fn is_fact(spot: &Spot<'_>) -> bool
-    ensures { result ≡ kinds.is_fact (located spot.now) }
-{
-    ix_base::is_fact(kind_of(spot))
-}
 
 fn order_of<'a>(spot: &Spot<'a>) -> Option<&'a str>
     ensures { option_map (λ s. s.now) result ≡ spec.order_of (located spot.now) }

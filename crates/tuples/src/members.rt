@@ -16,12 +16,12 @@ ghost use Rattle.tuples.specs.Slices.{members_in, slice_at};
 
 use crate::fact::Fact;
 use crate::groups::Groups;
-use crate::owners::{is_tuple, nearest_tuple, tuple_ref};
+use crate::owners::nearest_tuple;
 use crate::slice::Slice;
 use crate::slices::{Slices, slices_of};
 use bumpalo::Bump;
-use id_table::{Holders, Index, enter};
-use ix_base::{NoMemory, Spot, token_at};
+use id_table::{Holders, Index, enter, one_in};
+use ix_base::{NoMemory, Spot, tuple_id_at, tuple_ref};
 use std::alloc::Global;
 use std::marker::Model;
 
@@ -47,16 +47,6 @@ impl<'a> Model for Members<'a> {
     ghost invariant = { λ m. AreAllOnOwnPages m.tuples };
 }
 
-/// The tuple id of a tuple.
-fn tuple_id_of<'a>(spot: &Spot<'a>) -> Option<&'a str>
-    ensures { option_map (λ s. s.now) result ≡ ids.tuple_id_of (located spot.now) }
-{
-    if !is_tuple(spot) {
-        return None;
-    }
-    token_at(spot.element, "tupleID")
-}
-
 /// The tuples by their tuple ids.
 fn tuples_of<'a>(alloc: Global, index: &Index<'a>) -> Result<Holders<'a>, NoMemory>
     ensures tuples { IfOk result (λ m. (id : List ℕ)
@@ -65,19 +55,9 @@ fn tuples_of<'a>(alloc: Global, index: &Index<'a>) -> Result<Holders<'a>, NoMemo
 {
     let mut tuples = Holders::new(alloc);
     for spot in index.spots() {
-        enter(&mut tuples, tuple_id_of(spot), *spot)?;
+        enter(&mut tuples, tuple_id_at(spot), *spot)?;
     }
     Ok(tuples)
-}
-
-/// The one tuple at a tuple id.
-fn one_in<'a>(tuples: &Holders<'a>, id: &str) -> Option<&'a Spot<'a>>
-    ensures { result ≡ only (spots_at tuples.now id.now) }
-{
-    match tuples.get(id) {
-        Some(spots) if spots.len() == 1 => Some(spots[0]),
-        _ => None,
-    }
 }
 
 /// The members that are kept at a place, if there are any.

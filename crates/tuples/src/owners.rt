@@ -2,7 +2,6 @@
 ghost use Rattle.std.specs.Prelude.{◌≡◌, All, IfSome, option_map};
 ghost use Rattle.ix_base.specs.Elements.{placed, path_above};
 ghost use Rattle.ix_base.specs.Ids as ids;
-ghost use Rattle.ix_base.specs.Located as kinds;
 ghost use Rattle.ix_base.specs.Located.{located, on_page, offset_of};
 ghost use Rattle.ix_base.specs.Membership as spec;
 ghost use Rattle.ix_base.specs.Spots.{IsOn, IsOnOnePage};
@@ -12,20 +11,7 @@ ghost use Rattle.tuples.specs.Known.{owner_seen};
 
 use crate::fact::Owner;
 use id_table::Index;
-use ix_base::{Kind, Spot, kind_of, token_at};
-
-pub(crate) fn is_tuple(spot: &Spot<'_>) -> bool
-    ensures { result ≡ kinds.is_tuple (located spot.now) }
-{
-    kind_of(spot) == Kind::Tuple
-}
-
-/// The tuple id that a fact refers to.
-pub(crate) fn tuple_ref<'a>(spot: &Spot<'a>) -> Option<&'a str>
-    ensures { option_map (λ s. s.now) result ≡ spec.tuple_ref_of (located spot.now) }
-{
-    token_at(spot.element, "tupleRef")
-}
+use ix_base::{Spot, is_tuple, tuple_ref};
 
 /// The place of an owner.
 pub(crate) fn place_of(owner: Owner<'_>) -> (u32, u64)

@@ -11,15 +11,16 @@ ghost use Rattle.id_table.specs.Held.{asked};
 ghost use Rattle.tuples.specs.Grouping.{AreGrouped};
 ghost use Rattle.tuples.specs.Known.{all_seen, owner_seen, seen, IsKnown};
 ghost use Rattle.tuples.specs.Owners.{are_above};
-ghost use Rattle.tuples.specs.Tests.{rule_of};
+ghost use Rattle.tuples.specs.Tests.{tuple_rule};
 
 use crate::fact::{Fact, Owner};
 use crate::groups::Groups;
-use crate::owners::{is_tuple, owner_on, tuple_ref};
+use crate::owners::owner_on;
 use crate::ties::repeats_order;
 use fact_view::target_of;
 use id_table::Index;
-use ix_base::{Breaches, NoMemory, Rule};
+use ix_base::limits::DEEPEST_TUPLE;
+use ix_base::{Breaches, NoMemory, Rule, is_tuple, tuple_ref};
 use value_forms::is_nil;
 
 /// What is asked of each fact.
@@ -38,9 +39,9 @@ pub(crate) enum Test {
 }
 
 impl Test {
-    /// The rule for which a test looks.
-    fn rule(self) -> Rule
-        ensures { result ≡ rule_of self }
+    /// The rule on tuples for which a test looks.
+    fn tuple_rule(self) -> Rule
+        ensures { result ≡ tuple_rule self }
     {
         match self {
             Test::Lacking => Rule::L8,
@@ -79,9 +80,6 @@ fn lacks_tuple(index: &Index<'_>, fact: &Fact<'_>) -> bool
     misses_tuple(index, fact) || has_nil_owner(index, fact)
 }
 
-/// How many owners above a tuple are too many.
-const DEEPEST: usize = 100;
-
 /// Whether so many owners stand above, from this one on.
 fn are_above<'a>(index: &Index<'a>, most: usize, first: Option<Owner<'a>>) -> bool
     ensures { result ≡ are_above (asked index.now) most (option_map owner_seen first.entry) }
@@ -100,7 +98,7 @@ fn has_many_owners<'a>(index: &Index<'a>, fact: &Fact<'a>) -> bool
     requires { IsKnown (asked index.now) fact.now }
     ensures { result ≡ (length (spec.owners (asked index.now) spec.deepest (seen fact.now)) == spec.deepest) }
 {
-    are_above(index, DEEPEST, fact.owner)
+    are_above(index, DEEPEST_TUPLE as usize, fact.owner)
 }
 
 /// Whether a tuple has too many owners above it.
@@ -134,7 +132,7 @@ fn lacks_order(index: &Index<'_>, fact: &Fact<'_>) -> bool
 fn is_broken<'a>(index: &Index<'a>, groups: &Groups<'a>, fact: &Fact<'a>, test: Test) -> bool
     requires known { IsKnown (asked index.now) fact.now }
     requires groups { AreGrouped groups.now index.now.spots }
-    ensures { result ≡ breaks_link (asked index.now) (seen fact.now) (rule_of test) }
+    ensures { result ≡ breaks_link (asked index.now) (seen fact.now) (tuple_rule test) }
 {
     match test {
         Test::Lacking => lacks_tuple(index, fact),
@@ -155,11 +153,11 @@ fn add_if_broken<'a>(
 ) -> Result<(), NoMemory>
     requires known { IsKnown (asked index.now) fact.now }
     requires groups { AreGrouped groups.now index.now.spots }
-    ensures ok { OnOk result (breaches.new ≡ breaches.old ++ broken_at (asked index.now) (rule_of test) (seen fact.now)) }
+    ensures ok { OnOk result (breaches.new ≡ breaches.old ++ broken_at (asked index.now) (tuple_rule test) (seen fact.now)) }
     ensures err { OnErr result (breaches.new ≡ breaches.old) }
 {
     let is_broken = is_broken(index, groups, fact, test);
-    breaches.add_if(fact.spot.element.place, test.rule(), is_broken)
+    breaches.add_if(fact.spot.element.place, test.tuple_rule(), is_broken)
 }
 
 /// Adds exactly the facts that break a rule.
@@ -173,8 +171,8 @@ pub(crate) fn add_broken<'a>(
     requires seen { all_seen facts.now ≡ filter kinds.is_fact index.now.spots }
     requires known { All (IsKnown (asked index.now)) facts.now }
     requires groups { AreGrouped groups.now index.now.spots }
-    ensures ok { OnOk result (breaches.new ≡ breaches.old ++ breaking (rule_of test) index.now.spots) }
-    ensures err { OnErr result (AppendsFront (breaking (rule_of test) index.now.spots) breaches.old breaches.new) }
+    ensures ok { OnOk result (breaches.new ≡ breaches.old ++ breaking (tuple_rule test) index.now.spots) }
+    ensures err { OnErr result (AppendsFront (breaking (tuple_rule test) index.now.spots) breaches.old breaches.new) }
 {
     for fact in facts {
         add_if_broken(index, groups, fact, test, breaches)?;

@@ -1,9 +1,11 @@
 //! Objects in memory that stand in for the outside.
 ghost use Rattle.std.specs.Prelude.{◌≡◌, ◌≤◌, length};
+ghost use Rattle.ix_base.specs.declared.limits.TheConstants.{LONGEST_NAME};
 ghost use Rattle.ix_base.specs.MemPages.{pages_faults};
 ghost use Rattle.ix_base.specs.MemTargets.{sink_faults};
 
 use anyhow::{Context, Result, bail, ensure};
+use ix_base::limits::LONGEST_NAME;
 use ix_base::{
     Failed, List, MemPage, MemPages, MemTargets, MemText, PageSource, TargetSink, Text, TextSink,
 };
@@ -31,7 +33,7 @@ fn read_three_times(
     bufs: &mut [[u8; 8]; 3],
 ) -> Result<[usize; 3], Failed>
     requires fresh { pages_faults pages.old ≡ 0 }
-    requires name { length name.now ≤ 4096 }
+    requires name { length name.now ≤ LONGEST_NAME }
 {
     pages.start(name)?;
     let first = pages.read(&mut bufs[0])?;
@@ -48,7 +50,7 @@ pub(crate) fn pages(alloc: Global, cells: &[Cell]) -> Result<String> {
     let step = step.number()? as usize;
     ensure!(0 < step, "no step");
     let name = name.text()?;
-    ensure!(name.len() <= 4096, "a long name");
+    ensure!(name.len() <= LONGEST_NAME, "a long name");
     let mut held = Vec::new(alloc);
     held.push(page(alloc, "a", b"xyz")?)?;
     held.push(page(alloc, "a", b"no")?)?;

@@ -1,10 +1,13 @@
 //! Pages in memory.
 ghost use Rattle.std.specs.Prelude.{◌≡◌, ◌+◌, ◌^◌, ◌<◌, ◌≤◌, Some, None, true, false, IsTrue, MatchOption, take, drop, is_none, is_ok, OnOk, OnErr, IfOk, IfSome, is_err, option_map, vec_len, length};
+ghost use Rattle.ix_base.specs.declared.limits.TheConstants.{LONGEST_NAME};
 ghost use Rattle.ix_base.specs.Causes.{Shows};
 ghost use Rattle.ix_base.specs.Outside.{HasCause, ReadsFrom, TellsAlso};
 ghost use Rattle.ix_base.specs.Pages.{page_of, bytes_at};
 
 use super::Calls;
+use crate::buffer::keep_name;
+use crate::limits::LONGEST_NAME;
 use crate::outside::{Failed, PageSource};
 use crate::{List, Text};
 
@@ -24,10 +27,10 @@ pub struct MemPages {
     started: bool,
     index: usize,
     offset: usize,
-    asked: [u8; 4096],
+    asked: [u8; LONGEST_NAME],
     asked_len: usize,
     ghost steps: { 0 < step },
-    ghost kept: { asked_len ≤ 4096 },
+    ghost kept: { asked_len ≤ LONGEST_NAME },
     ghost there: { started ≡ true → index < vec_len pages },
     ghost within: { started ≡ true → offset ≤ length (bytes_at pages.items index) },
     ghost shown: { Shows calls.failed calls.fails.items (is_none (page_of pages.items (take asked_len asked))) },
@@ -54,7 +57,7 @@ impl MemPages {
             started: false,
             index: 0,
             offset: 0,
-            asked: [0; 4096],
+            asked: [0; LONGEST_NAME],
             asked_len: 0,
         }
     }
@@ -108,15 +111,6 @@ fn copy_from(page: &[u8], offset: usize, step: usize, buf: &mut [u8]) -> usize
     n
 }
 
-/// Keeps a name at the front of a buffer.
-fn keep(asked: &mut [u8; 4096], name: &str)
-    requires { length name.now ≤ 4096 }
-    ensures { take (length name.now) asked.new ≡ name.now }
-{
-    let n = name.len();
-    asked[..n].copy_from_slice(name.as_bytes());
-}
-
 impl PageSource for MemPages {
     ghost use Rattle.ix_base.specs.Calls.{called};
     ghost use Rattle.ix_base.specs.MemPages.{pages_faults, pages_page, pages_left, pages_started, pages_asked, pages_starts, start_fails, read_fails, pages_calls, pages_step, pages_failed, pages_numbers};
@@ -139,7 +133,7 @@ impl PageSource for MemPages {
 
     fn start(&mut self, name: &str) -> Result<(), Failed>
         requires count { pages_faults self.old + 1 < 2 ^ 64 }
-        requires name { length name.now ≤ 4096 }
+        requires name { length name.now ≤ LONGEST_NAME }
         ensures cause { HasCause (pages_faults self.old) (pages_faults self.new) result }
         ensures failed { pages_failed self.new ≡ is_err result }
         ensures numbers { pages_numbers self.new ≡ pages_numbers self.old }
@@ -154,7 +148,7 @@ impl PageSource for MemPages {
         ensures calls { pages_calls self.new ≡ called (pages_calls self.old) (is_err result) }
         ensures step { pages_step self.new ≡ pages_step self.old }
     {
-        keep(&mut self.asked, name);
+        keep_name(&mut self.asked, name);
         self.asked_len = name.len();
         self.started = false;
         if self.calls.enter() {

@@ -1,31 +1,23 @@
 //! Which words name pages.
 ghost use Rattle.std.specs.Prelude.{◌≡◌, bytes_eq};
 ghost use Rattle.std.specs.List.{list_any, list_all};
-ghost use Rattle.page_session.specs.Names.{has_repeat, is_page_name as is_name};
+ghost use Rattle.page_session.specs.Names.{has_repeat, is_page_name};
 ghost use Rattle.ixds_run.specs.Names.{are_pages};
 
 use ix_base::Text;
+use ix_base::limits::MOST_PAGES;
 use page_session::is_page_name;
 
-/// The most pages.
-const MOST_PAGES: usize = 64;
-
 fn are_page_names(names: &[Text]) -> bool
-    ensures { result ≡ list_all is_name names.now }
+    ensures { result ≡ list_all is_page_name names.now }
 {
     names.iter().all(|name| is_page_name(name.as_str()))
-}
-
-fn is_equal(a: &Text, b: &Text) -> bool
-    ensures { result ≡ bytes_eq a.now b.now }
-{
-    a.as_str() == b.as_str()
 }
 
 fn is_among(name: &Text, names: &[Text]) -> bool
     ensures { result ≡ list_any (bytes_eq name.now) names.now }
 {
-    names.iter().any(|other| is_equal(name, other))
+    names.iter().any(|other| name.is_same(other))
 }
 
 /// Whether a name stands twice.
@@ -39,7 +31,7 @@ fn has_repeat(names: &[Text]) -> bool
     }
 }
 
-/// Whether these are names of pages: one at least, at most 64, and all different.
+/// Whether these are names of pages: one at least, not more than a set may have, and all different.
 pub fn are_pages(names: &[Text]) -> bool
     ensures { result ≡ are_pages names.now }
 {

@@ -7,8 +7,8 @@ ghost use Rattle.page_tree.specs.Values.{digit as digit_of, below, number_in as 
 ghost use Rattle.page_tree.specs.Spans.{up_to_beyond, after_char};
 ghost use Rattle.page_tree.specs.Stops.{begins_special};
 
+use crate::kind::behind_first;
 use crate::meaning::span::{Stop, split};
-use crate::size::behind_first;
 use bumpalo::Bump;
 use ix_base::{NoMemory, is_allowed};
 use std::alloc::Global;

@@ -1,7 +1,7 @@
 use Rattle.std.proofs.Common.{◌≡◌, ◌∙◌, ◌+◌, ◌-◌, ◌++◌, map, ap, sym, append_assoc, append-nil, refl, arith}
 use Rattle.fact_trace.specs.Spans.{heard, is_among, muted_in, span_of}
 use Rattle.fact_trace.specs.Walks.{heard_at_step}
-use Rattle.fact_trace.proofs.WayLaws.{ahead, further, is-off, is-on, muted-less, stands-room, way-closes, way-ends, way-opens, way-passes, way-says}
+use Rattle.fact_trace.proofs.WayLaws.{ahead, further, is-off, is-on, muted-less, nearer, stands-room, way-closes, way-ends, way-opens, way-passes, way-says}
 use Rattle.fact_trace.proofs.walk.push_way.Goals as goal
 
 pub way-init : goal.way-init
@@ -21,11 +21,7 @@ is_next-is_left_out-requires-clause-passed c =
     further c.args.left_out.now c.way.next c.way.at c.in-Opens.start (omega arith) c.way.invariant.passed
 
 pub way-smaller-in-Opens : goal.way-smaller-in-Opens
-way-smaller-in-Opens c =
-    let o = is-on c.args.page.now.bytes.now c.way.at c.in-Some.step c.requires.whole c.in-Some.ensures in
-    let above = o.above in
-    let fits = o.fits in
-    omega arith
+way-smaller-in-Opens c = nearer c.args.page.now.bytes.now c.way.at c.in-Some.step c.requires.whole c.in-Some.ensures
 
 pub way-preserved-in-Opens : goal.way-preserved-in-Opens
 way-preserved-in-Opens c =
@@ -62,11 +58,7 @@ returns-then-open-eq0 c =
     ∙ ap (λ l. c.way.spans ++ l) (sym (way-ends name b offsets c.way.open c.way.muted c.way.at c.in-Some.step o c.in-Closes.is c.if-open-eq0.true)) ∙ c.way.invariant.spans
 
 pub way-smaller-else-open-eq0 : goal.way-smaller-else-open-eq0
-way-smaller-else-open-eq0 c =
-    let o = is-on c.args.page.now.bytes.now c.way.at c.in-Some.step c.requires.whole c.in-Some.ensures in
-    let above = o.above in
-    let fits = o.fits in
-    omega arith
+way-smaller-else-open-eq0 c = nearer c.args.page.now.bytes.now c.way.at c.in-Some.step c.requires.whole c.in-Some.ensures
 
 pub way-preserved-else-open-eq0 : goal.way-preserved-else-open-eq0
 way-preserved-else-open-eq0 c =
@@ -91,11 +83,7 @@ way-preserved-else-open-eq0 c =
     }
 
 pub way-smaller-in_ok-push_heard-in-Says : goal.way-smaller-in_ok-push_heard-in-Says
-way-smaller-in_ok-push_heard-in-Says c =
-    let o = is-on c.args.page.now.bytes.now c.way.at c.in-Some.step c.requires.whole c.in-Some.ensures in
-    let above = o.above in
-    let fits = o.fits in
-    omega arith
+way-smaller-in_ok-push_heard-in-Says c = nearer c.args.page.now.bytes.now c.way.at c.in-Some.step c.requires.whole c.in-Some.ensures
 
 pub way-preserved-in_ok-push_heard-in-Says : goal.way-preserved-in_ok-push_heard-in-Says
 way-preserved-in_ok-push_heard-in-Says c =
@@ -118,11 +106,7 @@ way-preserved-in_ok-push_heard-in-Says c =
     }
 
 pub way-smaller : goal.way-smaller
-way-smaller c =
-    let o = is-on c.args.page.now.bytes.now c.way.at c.in-Some.step c.requires.whole c.in-Some.ensures in
-    let above = o.above in
-    let fits = o.fits in
-    omega arith
+way-smaller c = nearer c.args.page.now.bytes.now c.way.at c.in-Some.step c.requires.whole c.in-Some.ensures
 
 pub way-preserved : goal.way-preserved
 way-preserved c =

@@ -12,7 +12,7 @@ pub returns-then-is_empty-clause-made : goal.returns-then-is_empty-clause-made
 returns-then-is_empty-clause-made c bs read none =
     trees_made c.args.base.now c.args.names.now bs c.args.forest c.as_slice.result.now c.made.result c.as_slice.ensures.value read none c.made.ensures.made
 
-pub reported-requires : goal.reported-requires
-reported-requires c =
+pub broken-requires : goal.broken-requires
+broken-requires c =
     let read = c.requires.read in
     found_below read.0 c.args.forest (length c.args.names.now) read.1 read.2

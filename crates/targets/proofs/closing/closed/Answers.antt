@@ -24,8 +24,8 @@ returns-then-is_empty-clause-comes c =
       subst (λ (ns : List (List ℕ)). FirstOf ns (link_faults s) (ComesOfValues s) o) same h,
     )) c.comes_of_links.ensures.comes
 
-pub reported-requires : goal.reported-requires
-reported-requires c =
+pub broken-requires : goal.broken-requires
+broken-requires c =
     let s = set_of c.args.pages.now in
     let m = length c.as_slice-2.result.now in
     let same = c.as_slice-2.ensures.value ∙ c.in_ok-names.ensures ∙ names-are c.args.pages.now.pages.now in
@@ -37,8 +37,8 @@ returns-clause-comes c =
     let s = set_of c.args.pages.now in
     let same = c.as_slice-2.ensures.value ∙ c.in_ok-names.ensures ∙ names-are c.args.pages.now.pages.now in
     let some = some-is c.in_ok-found.found c.is_empty.result c.is_empty.ensures c.if-is_empty.false in
-    IfOk-weaker c.reported.result _ _ (λ o h. inl (
+    IfOk-weaker c.broken.result _ _ (λ o h. inl (
       λ none. some (c.in_ok-found.ensures ∙ none),
       subst (λ (found : List Found). IsReport (names s) found o) c.in_ok-found.ensures
           (subst (λ (ns : List (List ℕ)). IsReport ns c.in_ok-found.found o) same h),
-    )) c.reported.ensures.report
+    )) c.broken.ensures.report

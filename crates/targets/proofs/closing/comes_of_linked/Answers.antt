@@ -21,8 +21,8 @@ returns-then-is_empty-clause-comes c =
     (none-is c.args.found c.is_empty.result c.is_empty.ensures c.if-is_empty.true) in
     IfOk-weaker c.comes_of_values.result _ _ (λ o h. inr (none, h)) c.comes_of_values.ensures.comes
 
-pub reported-requires : goal.reported-requires
-reported-requires c =
+pub broken-requires : goal.broken-requires
+broken-requires c =
     let s = set_of c.args.pages.now in
     let m = length c.args.names.now in
     same-below m c.args.found (link_faults s) c.requires.found
@@ -35,4 +35,4 @@ pub returns-clause-comes : goal.returns-clause-comes
 returns-clause-comes c =
     let s = set_of c.args.pages.now in
     let some = some-same c.args.found (link_faults s) c.requires.found (some-is c.args.found c.is_empty.result c.is_empty.ensures c.if-is_empty.false) in
-    IfOk-weaker c.reported.result _ _ (λ o h. inl (some, report-alike c.args.names.now c.args.found (link_faults s) c.requires.found o h)) c.reported.ensures.report
+    IfOk-weaker c.broken.result _ _ (λ o h. inl (some, report-alike c.args.names.now c.args.found (link_faults s) c.requires.found o h)) c.broken.ensures.report

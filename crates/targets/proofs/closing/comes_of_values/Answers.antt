@@ -15,8 +15,8 @@ whole-requires-clause-valued c =
     no-faults (base_in (bases_of c.args.linked.now)) (all_of c.args.linked.now) c.in_ok-found.found c.in_ok-found.ensures
     (none-is c.in_ok-found.found c.is_empty.result c.is_empty.ensures c.if-is_empty.true)
 
-pub reported-requires : goal.reported-requires
-reported-requires c =
+pub broken-requires : goal.broken-requires
+broken-requires c =
     let es = all_of c.args.linked.now in
     let m = length c.args.names.now in
     values-below m (IsItem (base_in (bases_of c.args.linked.now)) (asks es)) (filter is_item es) c.in_ok-found.found

@@ -1,9 +1,7 @@
-use Rattle.std.proofs.Common.{◌≡◌, ◌∙◌, ap, sym, rules, true, false, Some, None, option_map}
+use Rattle.std.proofs.Common.{◌≡◌, ◌∙◌, ap, sym, subst, rules, true, false, IfOk, option_map}
 use Rattle.ix_base.specs.declared.kind.Kind.TheVariants as kind
 use Rattle.ix_base.specs.UnitForm.{unit}
 use Rattle.ix_base.specs.Located.{Located, is_kind, located}
-use Rattle.ix_base.specs.Trees.{tree_of}
-use Rattle.ix_base.specs.declared.tree.Spot.{out-Spot}
 use Rattle.id_table.specs.declared.entries.Entry.{Entry}
 use Rattle.targets.proofs.SaidLaws.{unit_given, found-said, said, tree-at}
 use Rattle.targets.proofs.parts.unit_with.Goals as goal
@@ -16,22 +14,13 @@ returns-then-ne c =
     sym (found-said kind.Unit form e false kind_is) ∙ sym (ap (λ o. said kind.Unit form (option_map (λ (x : Entry). located x.spot.now) o)) c.in-Some.is)
     ∙ unit_given c.args.index.now c.args.id.now c.one.result c.one.ensures.element c.one.ensures.held c.requires
 
-pub returns-in-Ok : goal.returns-in-Ok
-returns-in-Ok c =
+pub returns : goal.returns
+returns c =
     let form = λ (x : Located). unit x.placed.tree in
     let e : Located = located c.in-Some.entry.spot.now in
     let kind_is : is_kind kind.Unit e ≡ true = search rules in
-    let made : unit (tree_of (out-Spot c.in-Some.entry.spot.now).element.now) ≡ Some c.in-Ok.unit = search rules in
-    let formed : unit e.placed.tree ≡ Some c.in-Ok.unit = ap unit (tree-at c.in-Some.entry.spot.now) ∙ made in
-    sym formed ∙ sym (found-said kind.Unit form e true kind_is) ∙ sym (ap (λ o. said kind.Unit form (option_map (λ (x : Entry). located x.spot.now) o)) c.in-Some.is)
-    ∙ unit_given c.args.index.now c.args.id.now c.one.result c.one.ensures.element c.one.ensures.held c.requires
-
-pub returns-in-Err-Breach : goal.returns-in-Err-Breach
-returns-in-Err-Breach c =
-    let form = λ (x : Located). unit x.placed.tree in
-    let e : Located = located c.in-Some.entry.spot.now in
-    let kind_is : is_kind kind.Unit e ≡ true = search rules in
-    let made : unit (tree_of (out-Spot c.in-Some.entry.spot.now).element.now) ≡ None = search rules in
-    let formless : unit e.placed.tree ≡ None = ap unit (tree-at c.in-Some.entry.spot.now) ∙ made in
-    sym formless ∙ sym (found-said kind.Unit form e true kind_is) ∙ sym (ap (λ o. said kind.Unit form (option_map (λ (x : Entry). located x.spot.now) o)) c.in-Some.is)
-    ∙ unit_given c.args.index.now c.args.id.now c.one.result c.one.ensures.element c.one.ensures.held c.requires
+    subst (λ z. IfOk c.read_unit.result (λ o. o ≡ z))
+    (sym (ap unit (tree-at c.in-Some.entry.spot.now)) ∙ sym (found-said kind.Unit form e true kind_is)
+    ∙ sym (ap (λ o. said kind.Unit form (option_map (λ (x : Entry). located x.spot.now) o)) c.in-Some.is)
+    ∙ unit_given c.args.index.now c.args.id.now c.one.result c.one.ensures.element c.one.ensures.held c.requires)
+    c.read_unit.ensures

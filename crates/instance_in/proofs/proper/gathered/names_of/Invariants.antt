@@ -1,6 +1,0 @@
-use Rattle.std.proofs.Common.{◌≡◌, map, take}
-use Rattle.instance_out.specs.Tables.{values_of}
-use Rattle.instance_in.proofs.proper.gathered.names_of.Given as goal
-
-abbrev pub invariant-loop-thing : goal.invariant-loop-thing
-invariant-loop-thing g l = values_of l.names.items ≡ map g.T.Named.name (take l.thing-index l.things)

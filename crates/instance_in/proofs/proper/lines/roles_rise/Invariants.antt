@@ -1,6 +1,0 @@
-use Rattle.std.proofs.Common.{◌≡◌, map, take}
-use Rattle.instance_out.specs.Canonical.{line, role_markup}
-use Rattle.instance_in.proofs.proper.lines.roles_rise.Given as goal
-
-abbrev pub invariant-loop-role : goal.invariant-loop-role
-invariant-loop-role l = l.lines.items ≡ map (λ x. line (role_markup x)) (take l.role-index l.roles)

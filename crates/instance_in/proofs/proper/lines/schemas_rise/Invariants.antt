@@ -1,6 +1,0 @@
-use Rattle.std.proofs.Common.{◌≡◌, map, take}
-use Rattle.instance_out.specs.Canonical.{line, schema_markup}
-use Rattle.instance_in.proofs.proper.lines.schemas_rise.Given as goal
-
-abbrev pub invariant-loop-href : goal.invariant-loop-href
-invariant-loop-href l = l.lines.items ≡ map (λ x. line (schema_markup x)) (take l.href-index l.hrefs)

@@ -1,6 +1,0 @@
-use Rattle.std.proofs.Common.{◌≡◌, map, take}
-use Rattle.instance_out.specs.Tables.{values_of}
-use Rattle.instance_in.proofs.proper.parts.contexts_named.Given as goal
-
-abbrev pub invariant-loop-item : goal.invariant-loop-item
-invariant-loop-item l = values_of l.ids.items ≡ map (λ i. i.context) (values_of (take l.item-index l.items))

@@ -1,8 +1,0 @@
-use Rattle.std.proofs.Common.{◌≡◌, ◌++◌, drop}
-use Rattle.std.specs.Prelude.{flat_map}
-use Rattle.instance_out.specs.Lists.{of_option}
-use Rattle.instance_out.specs.Tables.{values_of}
-use Rattle.instance_in.proofs.proper.parts.units_named.Given as goal
-
-abbrev pub invariant-loop-item : goal.invariant-loop-item
-invariant-loop-item l = values_of l.ids.items ++ flat_map (λ i. of_option i.unit) (values_of (drop l.item-index l.items)) ≡ flat_map (λ i. of_option i.unit) (values_of l.items)

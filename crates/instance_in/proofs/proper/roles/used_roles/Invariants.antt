@@ -1,6 +1,0 @@
-use Rattle.std.proofs.Common.{◌≡◌, ◌++◌, map, take}
-use Rattle.instance_out.specs.Tables.{values_of}
-use Rattle.instance_in.proofs.proper.roles.used_roles.Given as goal
-
-abbrev pub invariant-loop-note : goal.invariant-loop-note
-invariant-loop-note l = values_of l.roles.items ≡ map (λ k. k.role) l.links ++ map (λ f. f.role) (values_of (take l.note-index l.notes))

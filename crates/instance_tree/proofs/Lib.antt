@@ -1,0 +1,4 @@
+mod EndLaws
+mod FactSteps
+mod ItemLaws
+mod NodeLaws

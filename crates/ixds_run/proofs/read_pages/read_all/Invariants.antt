@@ -1,0 +1,18 @@
+use Rattle.std.proofs.Common.{◌≡◌, ◌⊎◌, ◌≤◌, ◌++◌, vec_len, drop, take, option_map}
+use Rattle.ixds_run.specs.Reading.{HasReadSome, IsLast}
+use Rattle.ixds_run.proofs.read_pages.read_all.Given as goal
+
+abbrev pub invariant-loop-number : goal.invariant-loop-number
+invariant-loop-number g l = record {
+  faults : g.P.PageSource.faults l.pages ≡ g.P.PageSource.faults l.fn.pages;
+  numbers : g.P.PageSource.numbers l.pages ≡ g.P.PageSource.numbers l.fn.pages;
+  page : g.P.PageSource.page l.pages ≡ g.P.PageSource.page l.fn.pages;
+  room : vec_len l.buffer ≡ 65536;
+  most : l.forest.sums.bytes ≤ 268435456;
+  tags : l.forest.sums.tags ≤ l.forest.sums.bytes;
+  read : HasReadSome (g.P.PageSource.page l.fn.pages) l.names (drop l.number l.names) l.number l.forest;
+  starts : g.P.PageSource.starts l.pages ≡ option_map (λ starts. starts ++ take l.number l.names) (g.P.PageSource.starts l.fn.pages);
+  keeps : l.forest.keeps ≡ l.keeps;
+  same : l.number ≡ 0 → l.pages ≡ l.fn.pages;
+  stops : (l.number ≡ 0) ⊎ IsLast (g.P.PageSource.page l.fn.pages) l.names (drop l.number l.names) (g.P.PageSource.left l.pages) (g.P.PageSource.asked l.pages);
+}

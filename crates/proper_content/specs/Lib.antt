@@ -1,0 +1,5 @@
+pub mod Fits
+pub mod Held
+pub mod InOrder
+pub mod Notes
+pub mod TextTests
