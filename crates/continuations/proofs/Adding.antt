@@ -8,7 +8,7 @@ use Rattle.ix_base.proofs.FrontLemmas.{Grows, grows-more, grows-front, front-non
 use Rattle.ix_base.specs.Asks.{Asks}
 use Rattle.ix_base.specs.Fronts.{AppendsFront}
 use Rattle.ix_base.specs.LinkRules.{broken_at}
-use Rattle.ix_base.specs.Located.{Located, located}
+use Rattle.ix_base.specs.LocatedElements.{Located, located}
 use Rattle.ix_base.specs.declared.breach.Found.{Found}
 use Rattle.ix_base.specs.declared.rule.Rule.{Rule}
 use Rattle.ix_base.specs.declared.tree.Spot.{Spot}

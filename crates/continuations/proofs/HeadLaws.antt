@@ -4,9 +4,9 @@ use Rattle.std.specs.Prelude.{ℕ, Contains}
 use Rattle.ix_base.proofs.OnceLemmas.{Contains-nil, Contains-cases, Contains-same, Contains-later}
 use Rattle.ix_base.specs.Asks.{asks}
 use Rattle.ix_base.specs.Chain.{chain}
-use Rattle.ix_base.specs.Located.{Located, is_start, offset_of}
-use Rattle.continuations.specs.Kept.{chain_at, AreChainsOf, StartsAlone}
-use Rattle.continuations.proofs.SliceLaws.{IsAmong, first-is}
+use Rattle.ix_base.specs.LocatedElements.{Located, is_start, offset_of}
+use Rattle.continuations.specs.Model.{chain_at, AreChainsOf, StartsAlone}
+use Rattle.continuations.proofs.StartLaws.{IsAmong, first-is}
 
 among : (es : List Located) (e : Located) → Contains es e → IsAmong es e
 among [] e h = Contains-nil e h

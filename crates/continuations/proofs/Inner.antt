@@ -14,12 +14,12 @@ use Rattle.indexmap.specs.IndexSet.{IndexSet}
 use Rattle.ix_base.specs.Asks.{asks}
 use Rattle.ix_base.specs.Chain.{chain_of}
 use Rattle.ix_base.specs.LinkRules.{is_at, stands_inside, inner_along}
-use Rattle.ix_base.specs.Located.{Located, is_start}
+use Rattle.ix_base.specs.LocatedElements.{Located, is_start}
 use Rattle.ix_base.specs.Trees.{Tree}
-use Rattle.continuations.specs.Berths.{Shared}
-use Rattle.continuations.specs.Inside.{numbers_at, ArePlaced, AnyOf, SharesAny, IsInner, AreInner}
+use Rattle.continuations.specs.Visits.{Shared}
+use Rattle.continuations.specs.InnerElements.{numbers_at, ArePlaced, AnyOf, SharesAny, IsInner, AreInner}
 use Rattle.continuations.specs.Places.{holds, StandsFor, HoldsMarked}
-use Rattle.continuations.specs.Seen.{inner_by, most_of}
+use Rattle.continuations.specs.ChainReach.{inner_by, most_of}
 use Rattle.continuations.specs.Walks.{Reaches, is_marked}
 use Rattle.continuations.proofs.Numbering.{IsIn}
 use Rattle.continuations.proofs.Reaching.{chain-found, any-flat, flat-any, same-bool}

@@ -1,12 +1,12 @@
 -- Marks on the numbers at which elements go on.
-use Rattle.std.proofs.Common.{◌≡◌, ◌∙◌, ◌+◌, ◌<◌, ◌≤◌, ℕ, Bool, true, false, List, length, refl, ap, sym, subst, arith, Option, Some, None, ◌⊎◌, inl, inr, ⊎_elim, get_or-set_same, get_or-set_other}
+use Rattle.std.proofs.Common.{◌≡◌, ◌∙◌, ◌+◌, ◌<◌, ◌≤◌, ℕ, Bool, true, false, List, length, ap, sym, arith, Option, Some, None, ◌⊎◌, inl, inr, ⊎_elim, get_or-set_same, get_or-set_other}
 use Rattle.std.proofs.Math.ListN.{get_or-eq_default, set}
 use Rattle.std.proofs.lemmas.Bool.{cases_eq, cases_lt, true≢false}
 use Rattle.continuations.specs.Walks.{next_at, is_marked, Joined}
 use Rattle.continuations.proofs.Walking.{some-inj}
 
 -- the marks are on the numbers at which the first so many go on, each at one of its own
-pub record Noted (ns : List (Option ℕ)) (upto : ℕ) (marks : List Bool) : Type 0 where
+pub record AreNextsMarked (ns : List (Option ℕ)) (upto : ℕ) (marks : List Bool) : Type 0 where
   pub found : (k : ℕ) → is_marked marks k ≡ true → (i : ℕ) × (i < upto) × (next_at ns i ≡ Some k)
   pub kept : (i k : ℕ) → i < upto → next_at ns i ≡ Some k → is_marked marks k ≡ true
   pub apart : (i j k : ℕ) → i < j → j < upto → next_at ns i ≡ Some k → next_at ns j ≡ Some k → ⊥
@@ -14,8 +14,8 @@ pub record Noted (ns : List (Option ℕ)) (upto : ℕ) (marks : List Bool) : Typ
 some-none : {X Y : Type 0} (x : X) → None ≡ Some x → Y
 some-none x e = absurd cc
 
-pub noted-begins : (ns : List (Option ℕ)) (marks : List Bool) → ((k : ℕ) → is_marked marks k ≡ false) → Noted ns 0 marks
-noted-begins ns marks none = record {
+pub marked-begins : (ns : List (Option ℕ)) (marks : List Bool) → ((k : ℕ) → is_marked marks k ≡ false) → AreNextsMarked ns 0 marks
+marked-begins ns marks none = record {
   found = λ k m. absurd (true≢false (sym m ∙ none k));
   kept = λ i k l e. absurd (omega (arith, l));
   apart = λ i j k l m a b. omega (arith, m);
@@ -24,16 +24,16 @@ noted-begins ns marks none = record {
 below : (i n : ℕ) → i < n + 1 → (i ≡ n → ⊥) → i < n
 below i n l d = omega (arith, l, d)
 
-pub noted-none : (ns : List (Option ℕ)) (n : ℕ) (marks : List Bool) → next_at ns n ≡ None → Noted ns n marks → Noted ns (n + 1) marks
-noted-none ns n marks none h = record {
+pub marked-none : (ns : List (Option ℕ)) (n : ℕ) (marks : List Bool) → next_at ns n ≡ None → AreNextsMarked ns n marks → AreNextsMarked ns (n + 1) marks
+marked-none ns n marks none h = record {
   found = λ k m. let f : (i : ℕ) × (i < n) × (next_at ns i ≡ Some k) = h.found k m in (f.0, omega (arith, f.1), f.2);
   kept = λ i k l e. ⊎_elim (λ (same : i ≡ n). some-none k (sym none ∙ ap (next_at ns) (sym same) ∙ e)) (λ d. h.kept i k (below i n l d) e) (cases_eq i n);
   apart = λ i j k l m a b. ⊎_elim (λ (same : j ≡ n). some-none k (sym none ∙ ap (next_at ns) (sym same) ∙ b)) (λ d. h.apart i j k l (below j n m d) a b) (cases_eq j n);
 }
 
-pub noted-more : (ns : List (Option ℕ)) (n k : ℕ) (marks : List Bool) → next_at ns n ≡ Some k → k < length marks → is_marked marks k ≡ false
-    → Noted ns n marks → Noted ns (n + 1) (set marks k true)
-noted-more ns n k marks here within new h = record {
+pub marked-more : (ns : List (Option ℕ)) (n k : ℕ) (marks : List Bool) → next_at ns n ≡ Some k → k < length marks → is_marked marks k ≡ false
+    → AreNextsMarked ns n marks → AreNextsMarked ns (n + 1) (set marks k true)
+marked-more ns n k marks here within new h = record {
   found = λ x m. found x m (cases_eq x k);
   kept = λ i x l e. kept i x l e (cases_eq i n);
   apart = λ i j x l m a b. apart i j x l m a b (cases_eq j n);
@@ -61,13 +61,13 @@ noted-more ns n k marks here within new h = record {
   apart i j x l m a b (inr d) = h.apart i j x l (below j n m d) a b
 
 -- one goes on at a number that is marked
-pub noted-joined : (ns : List (Option ℕ)) (n k : ℕ) (marks : List Bool) → next_at ns n ≡ Some k → is_marked marks k ≡ true → Noted ns n marks → Joined ns
-noted-joined ns n k marks here m h =
+pub marked-joined : (ns : List (Option ℕ)) (n k : ℕ) (marks : List Bool) → next_at ns n ≡ Some k → is_marked marks k ≡ true → AreNextsMarked ns n marks → Joined ns
+marked-joined ns n k marks here m h =
     let f : (i : ℕ) × (i < n) × (next_at ns i ≡ Some k) = h.found k m in
     (f.0, n, k, f.1, f.2, here)
 
-pub noted-apart : (ns : List (Option ℕ)) (n : ℕ) (marks : List Bool) → length ns ≤ n → Noted ns n marks → Joined ns → ⊥
-noted-apart ns n marks all h j = by (cases_lt j.1 n) where
+pub marked-apart : (ns : List (Option ℕ)) (n : ℕ) (marks : List Bool) → length ns ≤ n → AreNextsMarked ns n marks → Joined ns → ⊥
+marked-apart ns n marks all h j = by (cases_lt j.1 n) where
   by : (j.1 < n) ⊎ (n ≤ j.1) → ⊥
   by (inl l) = h.apart j.0 j.1 j.2 j.3 l j.4 j.5
   by (inr l) = some-none j.2 (sym (get_or-eq_default ns None (omega (arith, all, l))) ∙ j.5)

@@ -1,5 +1,4 @@
 pub mod Adding
-pub mod Berthing
 pub mod Chaining
 pub mod HeadLaws
 pub mod Inner
@@ -15,6 +14,7 @@ pub mod ReachLaws
 pub mod Reaching
 pub mod SeenLaws
 pub mod Sharing
-pub mod SliceLaws
 pub mod Standing
+pub mod StartLaws
+pub mod VisitLaws
 pub mod Walking

@@ -13,7 +13,7 @@ use Rattle.ix_base.specs.Asks.{Asks, asks}
 use Rattle.ix_base.specs.declared.tree.Spot.{Spot}
 use Rattle.ix_base.specs.Chain.{continuation, continued_at}
 use Rattle.ix_base.specs.LinkRules.{breaking, breaks_link, broken_at, found_at, lacks_continuation}
-use Rattle.ix_base.specs.Located.{Located, located, is_continuation, is_start}
+use Rattle.ix_base.specs.LocatedElements.{Located, located, is_continuation, is_start}
 use Rattle.ix_base.specs.Rows.{row}
 use Rattle.ix_base.specs.Spots.{IsOnOnePage}
 use Rattle.id_table.specs.Tables.{all_located, AreOnOwnPages}
@@ -25,7 +25,7 @@ use Rattle.continuations.proofs.Numbering.{IsIn, in-filter, filter-in, links-are
 use Rattle.continuations.proofs.Inner.{any-in, in-any}
 use Rattle.continuations.proofs.Reaching.{same-bool}
 use Rattle.continuations.proofs.SeenLaws.{any-append}
-use Rattle.continuations.proofs.SliceLaws.{located-take}
+use Rattle.id_table.proofs.RowLemmas.{located-take}
 
 or-false : (b : Bool) → (b || false) ≡ b
 or-false true = refl

@@ -1,21 +1,21 @@
 -- Where each element that goes on does so at a continuation of its own, none is named twice.
-use Rattle.std.proofs.Common.{◌≡◌, ◌∙◌, ◌++◌, ◌+◌, ◌<◌, ◌≤◌, ℕ, zero, suc, Bool, true, false, cond, List, [], ◌∷◌, length, refl, ap, sym, subst, arith, Option, Some, None, option_map, ◌⊎◌, inl, inr, ⊎_elim, bytes_eq}
+use Rattle.std.proofs.Common.{◌≡◌, ◌∙◌, ◌++◌, ◌+◌, ◌<◌, ◌≤◌, ℕ, zero, suc, Bool, true, false, cond, List, [], ◌∷◌, length, refl, ap, sym, subst, arith, Option, Some, None, ◌⊎◌, inl, inr, ⊎_elim, bytes_eq}
 use Rattle.std.proofs.lemmas.Bool.{true≢false, false_from_ne_true, and_parts, cases_lt, ltb-true}
 use Rattle.std.proofs.lemmas.List.{length-append}
 use Rattle.std.proofs.lemmas.List.Elements.{filter-append}
 use Rattle.std.proofs.lemmas.Slice.Eq.{bytes_eq-Decides}
-use Rattle.std.specs.Prelude.{◌&&◌, ◌||◌, is_some, is_none, nat_lt, option_and_then}
+use Rattle.std.specs.Prelude.{◌||◌, is_none, option_and_then}
 use Rattle.std.specs.List.{filter, list_any, slice_get}
 use Rattle.std.specs.Option.{option_map_or}
 use Rattle.ix_base.specs.Asks.{Asks, asks, only, are_many}
 use Rattle.ix_base.specs.Chain.{continuation, continued_at, next}
 use Rattle.ix_base.specs.Ids.{holds_id, id_of}
 use Rattle.ix_base.specs.LinkRules.{goes_on_at, is_named_twice, lacks_continuation}
-use Rattle.ix_base.specs.Located.{Located, is_continuation, is_start, is_text}
+use Rattle.ix_base.specs.LocatedElements.{Located, is_continuation, is_start, is_text}
 use Rattle.id_table.specs.Tables.{all_located}
 use Rattle.continuations.specs.Links.{AreLinks}
 use Rattle.continuations.specs.declared.links.Links.{Links}
-use Rattle.continuations.specs.Walks.{next_at, AreNexts, Joined}
+use Rattle.continuations.specs.Walks.{next_at, Joined}
 use Rattle.continuations.proofs.Numbering.{IsIn, in-got, only-in, such-is, in-filter}
 use Rattle.continuations.proofs.Inner.{any-in, in-any}
 use Rattle.continuations.proofs.Reaching.{next-number}

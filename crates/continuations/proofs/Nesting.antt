@@ -14,10 +14,10 @@ use Rattle.std.proofs.lemmas.List.Folds.{list_any_at, list_any_none}
 use Rattle.std.proofs.lemmas.List.Sorted.{searchable_from_sorted}
 use Rattle.ix_base.specs.declared.tree.Spot.{Spot}
 use Rattle.ix_base.specs.LinkRules.{is_at, stands_inside}
-use Rattle.ix_base.specs.Located.{Located, located}
+use Rattle.ix_base.specs.LocatedElements.{Located, located}
 use Rattle.id_table.specs.Tables.{all_located}
-use Rattle.continuations.specs.Nested.{is_around, is_nested, key_cmp}
-use Rattle.continuations.specs.Slices.{is_key}
+use Rattle.continuations.specs.Nesting.{is_around, is_nested, key_cmp}
+use Rattle.id_table.specs.Slices.{is_key}
 use Rattle.continuations.proofs.Inner.{in-any}
 use Rattle.continuations.proofs.Numbering.{in-got, located-at}
 use Rattle.continuations.proofs.Reaching.{same-bool}
@@ -26,35 +26,35 @@ use Rattle.continuations.proofs.SeenLaws.{any-same}
 key_total : IsTotalOrder key_cmp
 key_total = then_total (on_total (λ (k : ℕ × ℕ). k.0) nat_cmp_total) (on_total (λ (k : ℕ × ℕ). k.1) nat_cmp_total)
 
-both-tie : (r s : Ordering) → is_eq (ordering_then r s) ≡ (is_eq r && is_eq s)
-both-tie Less s = refl
-both-tie Equal s = refl
-both-tie Greater s = refl
+both-equal : (r s : Ordering) → is_eq (ordering_then r s) ≡ (is_eq r && is_eq s)
+both-equal Less s = refl
+both-equal Equal s = refl
+both-equal Greater s = refl
 
 flip : (m n : ℕ) → (m == n) ≡ (n == m)
 flip m n = same-bool (m == n) (n == m) ((λ h. eq-eqb n m (sym (eqb-true m n h))), (λ h. eq-eqb m n (sym (eqb-true n m h))))
 
-tie-by : (m n : ℕ) (b c : Bool) → nat_lt m n ≡ b → (m == n) ≡ c → is_eq (cond b Less (cond c Equal Greater)) ≡ c
-tie-by m n true true h k = let l : m < n = ltb-true m n h in let e : m ≡ n = eqb-true m n k in absurd (omega (arith, l, e))
-tie-by m n true false h k = refl
-tie-by m n false true h k = refl
-tie-by m n false false h k = refl
+equal-by : (m n : ℕ) (b c : Bool) → nat_lt m n ≡ b → (m == n) ≡ c → is_eq (cond b Less (cond c Equal Greater)) ≡ c
+equal-by m n true true h k = let l : m < n = ltb-true m n h in let e : m ≡ n = eqb-true m n k in absurd (omega (arith, l, e))
+equal-by m n true false h k = refl
+equal-by m n false true h k = refl
+equal-by m n false false h k = refl
 
-tie : (m n : ℕ) → is_eq (nat_cmp m n) ≡ (m == n)
-tie m n = tie-by m n (nat_lt m n) (m == n) refl refl
+equal-nat : (m n : ℕ) → is_eq (nat_cmp m n) ≡ (m == n)
+equal-nat m n = equal-by m n (nat_lt m n) (m == n) refl refl
 
--- a place that ties is the place
-tied : (page offset : ℕ) (k : ℕ × ℕ) → is_eq (key_cmp k (page, offset)) ≡ is_key page offset k
-tied page offset k =
-    both-tie (nat_cmp k.0 page) (nat_cmp k.1 offset)
-    ∙ (λ i. (tie k.0 page ∙ flip k.0 page) i && (tie k.1 offset ∙ flip k.1 offset) i)
+-- a key that compares equal is the place
+equal-key : (page offset : ℕ) (k : ℕ × ℕ) → is_eq (key_cmp k (page, offset)) ≡ is_key page offset k
+equal-key page offset k =
+    both-equal (nat_cmp k.0 page) (nat_cmp k.1 offset)
+    ∙ (λ i. (equal-nat k.0 page ∙ flip k.0 page) i && (equal-nat k.1 offset ∙ flip k.1 offset) i)
 
 there : (page offset : ℕ) (xs : List (ℕ × ℕ)) (i : ℕ) → i < length xs → ((d : ℕ × ℕ) → key_cmp (get_or xs i d) (page, offset) ≡ Equal) → list_any (is_key page offset) xs ≡ true
 there page offset [] i h e = absurd (omega arith)
-there page offset (z ∷ zs) i h e = list_any_at (is_key page offset) (z ∷ zs) i z h (sym (tied page offset (get_or (z ∷ zs) i z)) ∙ ap is_eq (e z))
+there page offset (z ∷ zs) i h e = list_any_at (is_key page offset) (z ∷ zs) i z h (sym (equal-key page offset (get_or (z ∷ zs) i z)) ∙ ap is_eq (e z))
 
 other : (page offset : ℕ) (k : ℕ × ℕ) (r : Ordering) → key_cmp k (page, offset) ≡ r → is_eq r ≡ false → is_key page offset k ≡ false
-other page offset k r e n = sym (tied page offset k) ∙ ap is_eq e ∙ n
+other page offset k r e n = sym (equal-key page offset k) ∙ ap is_eq e ∙ n
 
 pub key-found : (page offset : ℕ) (xs : List (ℕ × ℕ)) (r : Result ℕ ℕ) → IsSorted key_cmp xs → IsSearchInRange r (length xs)
     → IsBinarySearchResult (λ y. key_cmp y (page, offset)) xs r → is_ok r ≡ list_any (is_key page offset) xs

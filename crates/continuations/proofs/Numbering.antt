@@ -10,7 +10,7 @@ use Rattle.std.specs.List.{filter, slice_get}
 use Rattle.ix_base.specs.Asks.{Asks, asks, only, if_such}
 use Rattle.ix_base.specs.Chain.{next, continuation}
 use Rattle.ix_base.specs.Ids.{holds_id}
-use Rattle.ix_base.specs.Located.{Located, located, is_continuation}
+use Rattle.ix_base.specs.LocatedElements.{Located, located, is_continuation}
 use Rattle.text_map.specs.Texts.{Texts}
 use Rattle.ix_base.specs.declared.tree.Spot.{Spot}
 use Rattle.id_table.specs.Tables.{all_located}

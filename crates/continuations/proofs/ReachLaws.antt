@@ -2,14 +2,14 @@
 use Rattle.std.proofs.Common.{◌≡◌, ◌∙◌, ◌++◌, ◌+◌, ◌<◌, ◌≤◌, ℕ, Bool, true, false, cond, List, [], ◌∷◌, length, refl, ap, sym, subst, arith, Option, Some}
 use Rattle.std.proofs.lemmas.Bool.{true≢false, false_from_ne_true, not-true, and_parts, and_from, eq-eqb}
 use Rattle.std.proofs.lemmas.Option.{slice_get_within}
-use Rattle.std.specs.Prelude.{◌&&◌, ◌||◌, ◌==◌, not}
+use Rattle.std.specs.Prelude.{◌||◌, ◌==◌, not}
 use Rattle.std.specs.List.{filter, flat_map, list_any, slice_get}
 use Rattle.ix_base.specs.Asks.{asks, are_some}
 use Rattle.ix_base.specs.Chain.{chain, chain_of}
 use Rattle.ix_base.specs.LinkRules.{inner_along, is_at, is_inside_chain, is_reached_from, is_unreached, stands_inside}
-use Rattle.ix_base.specs.Located.{Located, is_continuation, is_start, offset_of}
-use Rattle.continuations.specs.Nested.{is_nested}
-use Rattle.continuations.specs.Seen.{inner_by, most_of, reached_by}
+use Rattle.ix_base.specs.LocatedElements.{Located, is_continuation, is_start, offset_of}
+use Rattle.continuations.specs.Nesting.{is_nested}
+use Rattle.continuations.specs.ChainReach.{inner_by, most_of}
 use Rattle.continuations.specs.Walks.{AreReached, Reaches, is_marked}
 use Rattle.continuations.proofs.Numbering.{IsIn, filter-in, got-behind, got-in, got-left, got-right}
 use Rattle.continuations.proofs.Inner.{any-in, in-any}

@@ -7,7 +7,7 @@ use Rattle.std.specs.List.{flat_map, list_any, slice_get}
 use Rattle.std.specs.Option.{option_map_or}
 use Rattle.ix_base.specs.Asks.{Asks}
 use Rattle.ix_base.specs.Chain.{next, chain_of}
-use Rattle.ix_base.specs.Located.{Located}
+use Rattle.ix_base.specs.LocatedElements.{Located}
 use Rattle.continuations.specs.Walks.{next_at, walk, Reaches, AreNexts}
 use Rattle.continuations.proofs.Numbering.{IsIn}
 use Rattle.continuations.proofs.Walking.{some-inj, first-step, reaches-self}

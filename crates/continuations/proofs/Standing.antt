@@ -8,12 +8,12 @@ use Rattle.indexmap.specs.IndexSet.{IndexSet}
 use Rattle.ix_base.specs.Asks.{asks}
 use Rattle.ix_base.specs.Chain.{chain_of}
 use Rattle.ix_base.specs.LinkRules.{is_at}
-use Rattle.ix_base.specs.Located.{Located, is_start, is_continuation}
+use Rattle.ix_base.specs.LocatedElements.{Located, is_start, is_continuation}
 use Rattle.id_table.specs.Tables.{all_located}
 use Rattle.continuations.specs.Links.{AreLinks}
 use Rattle.continuations.specs.declared.links.Links.{Links}
 use Rattle.continuations.specs.Places.{holds, StandsFor, HoldsMarked}
-use Rattle.continuations.specs.Seen.{reached_by, most_of}
+use Rattle.continuations.specs.ChainReach.{reached_by, most_of}
 use Rattle.continuations.specs.Walks.{walk, Reaches, AreNexts, AreReached, is_marked}
 use Rattle.continuations.proofs.Numbering.{IsIn, got-in, got-right, got-behind, got-at}
 use Rattle.continuations.proofs.Reaching.{chain-has, chain-found, any-flat, flat-any, same-bool}

@@ -3,7 +3,7 @@ use Rattle.std.specs.Prelude.{◌≡◌, ◌↔◌, true, ◌++◌, List, filter
 use Rattle.std.specs.List.{list_any}
 use Rattle.ix_base.specs.Asks.{asks}
 use Rattle.ix_base.specs.LinkRules.{lacks_continuation}
-use Rattle.ix_base.specs.Located.{Located, is_continuation, is_start}
+use Rattle.ix_base.specs.LocatedElements.{Located, is_continuation, is_start}
 use Rattle.id_table.specs.Tables.{all_located, AreOnOwnPages}
 use Rattle.continuations.specs.declared.links.Links.{Links}
 use Rattle.continuations.specs.Walks.{AreNexts, Joined}

@@ -3,7 +3,7 @@ use Rattle.std.specs.Prelude.{ℕ, ◌≡◌, ◌<◌, true, false, List, Option
 use Rattle.ix_base.specs.Asks.{Asks}
 use Rattle.ix_base.specs.Chain.{next}
 use Rattle.ix_base.specs.Ids.{holds_id}
-use Rattle.ix_base.specs.Located.{Located}
+use Rattle.ix_base.specs.LocatedElements.{Located}
 use Rattle.text_map.specs.Texts.{Texts, get_in}
 use Rattle.continuations.specs.Walks.{next_at}
 

@@ -1,13 +1,14 @@
 -- Places that are kept, and the elements for which they stand.
-use Rattle.std.specs.Prelude.{ℕ, ◌≡◌, ◌<◌, Bool, true, ◌&&◌, ◌==◌, List, Some, slice_get}
+use Rattle.std.specs.Prelude.{ℕ, ◌≡◌, ◌<◌, Bool, true, List, Some, slice_get}
 use Rattle.std.specs.List.{list_any}
 use Rattle.indexmap.specs.IndexSet.{IndexSet, contains_by}
 use Rattle.ix_base.specs.LinkRules.{is_at}
-use Rattle.ix_base.specs.Located.{Located}
+use Rattle.ix_base.specs.LocatedElements.{Located}
+use Rattle.id_table.specs.Slices.{is_key}
 use Rattle.continuations.specs.Walks.{is_marked}
 
 abbrev pub holds : {S : Type 0} → IndexSet (ℕ × ℕ) S → ℕ → ℕ → Bool
-holds places page offset = contains_by (λ k. (page == k.0) && (offset == k.1)) places
+holds places page offset = contains_by (is_key page offset) places
 
 -- the places are those of these elements
 abbrev pub StandsFor : {S : Type 0} → IndexSet (ℕ × ℕ) S → List Located → Type 0

@@ -2,7 +2,7 @@
 use Rattle.std.specs.Prelude.{ℕ, zero, suc, ◌≡◌, ◌<◌, ◌≤◌, Bool, true, false, List, length, Option, Some, None, option_map, option_and_then, slice_index_or, slice_get}
 use Rattle.ix_base.specs.Asks.{Asks}
 use Rattle.ix_base.specs.Chain.{next}
-use Rattle.ix_base.specs.Located.{Located}
+use Rattle.ix_base.specs.LocatedElements.{Located}
 
 -- the number of the element at which one goes on
 abbrev pub next_at : List (Option ℕ) → ℕ → Option ℕ

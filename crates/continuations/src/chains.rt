@@ -1,27 +1,23 @@
 //! Chains as slices of an arena.
-ghost use Rattle.std.specs.Prelude.{◌≡◌, ◌<◌, ◌==◌, ◌&&◌, ℕ, [], OnOk, IfOk, Some, option_map, is_some, length, slice_get, true};
+ghost use Rattle.std.specs.Prelude.{◌≡◌, ◌<◌, ℕ, [], OnOk, IfOk, Some, option_map, is_some, length, slice_get, true};
 ghost use Rattle.ix_base.specs.Chain as spec;
 ghost use Rattle.ix_base.specs.LinkRules.{is_at};
-ghost use Rattle.ix_base.specs.Located.{Located, located, offset_of};
-ghost use Rattle.id_table.specs.Held.{asked};
+ghost use Rattle.ix_base.specs.LocatedElements.{Located, located, offset_of};
+ghost use Rattle.id_table.specs.Model.{asked};
+ghost use Rattle.id_table.specs.Slices.{put_first, slice_at, spots_in};
 ghost use Rattle.id_table.specs.Tables.{all_located, AreOnOwnPages};
-ghost use Rattle.continuations.specs.Kept.{chain_at, AreChainsOf};
+ghost use Rattle.continuations.specs.ChainStarts.{first_start};
 ghost use Rattle.continuations.specs.Links.{AreLinks};
-ghost use Rattle.continuations.specs.Slices.{chain_in, slice_at, first_start, put_first};
+ghost use Rattle.continuations.specs.Model.{chain_at, AreChainsOf};
 
 use crate::links::Links;
-use crate::slice::Slice;
 use crate::trail::put_chain;
 use bumpalo::Bump;
 use bumpalo::collections::into_bump_slice;
-use id_table::Index;
-use indexmap::IndexMap;
-use ix_base::{NoMemory, Place, Spot};
+use id_table::{Index, Slice, Slices, enter_slice, slice_in};
+use ix_base::{NoMemory, Spot};
 use std::alloc::Global;
 use std::marker::Model;
-
-/// The chains of elements, by the places of these.
-type Slices<'a> = IndexMap<(u32, u64), Slice<'a>>;
 
 /// The chains of a set, each found by the place of its first element.
 ///
@@ -33,42 +29,28 @@ pub struct Chains<'a> {
 
 impl<'a> Model for Chains<'a> {
     ghost use Rattle.std.specs.Prelude.{ℕ, List as Items};
-    ghost use Rattle.ix_base.specs.Located.{Located};
-    ghost use Rattle.continuations.specs.Kept.{kept_code};
-    ghost use Rattle.continuations.specs.Slices.{chains_in};
+    ghost use Rattle.ix_base.specs.LocatedElements.{Located};
+    ghost use Rattle.id_table.specs.Slices.{lists_in};
+    ghost use Rattle.continuations.specs.Model.{kept_code};
 
     ghost Value = { Items ((ℕ × ℕ) × Items Located) };
 
     ghost coded = { kept_code };
 
-    ghost view = { λ c. chains_in c.slices };
+    ghost view = { λ c. lists_in c.slices };
 }
 
-/// Enters a chain at a place, unless there is one.
-fn enter_at<'a>(slices: &mut Slices<'a>, key: (u32, u64), slice: Slice<'a>) -> Result<(), NoMemory>
-    ensures { OnOk result ((page offset : ℕ) → slice_at slices.new page offset
-        ≡ put_first (slice_at slices.old page offset) ((key.0 == page) && (key.1 == offset))
-        (all_located slice.entry.spots.now)) }
-{
-    if slices.contains_key(&key) {
-        return Ok(());
-    }
-    slices.insert(key, slice)?;
-    Ok(())
-}
-
-/// Enters a chain at the place of an element, unless there is one.
-fn enter_slice<'a>(
+/// Enters a chain at the place of its first element, unless there is one.
+fn enter_at_head<'a>(
     slices: &mut Slices<'a>,
-    spot: &Spot<'_>,
-    slice: Slice<'a>,
+    head: &Spot<'_>,
+    chain: Slice<'a>,
 ) -> Result<(), NoMemory>
     ensures { OnOk result ((page offset : ℕ) → slice_at slices.new page offset
-        ≡ put_first (slice_at slices.old page offset) (is_at page offset (located spot.now))
-        (all_located slice.entry.spots.now)) }
+        ≡ put_first (slice_at slices.old page offset) (is_at page offset (located head.now)) (spots_in chain.entry)) }
 {
-    let place = spot.element.place;
-    enter_at(slices, (place.page, place.offset), slice)
+    let place = head.element.place;
+    enter_slice(slices, (place.page, place.offset), chain)
 }
 
 /// A chain, in the arena.
@@ -100,7 +82,7 @@ fn enter_chain<'a>(
 {
     put_chain(index, links, number, chain)?;
     let slice = slice_of(arena, chain.as_slice())?;
-    enter_slice(slices, links.spots[number], slice)
+    enter_at_head(slices, links.spots[number], slice)
 }
 
 /// The chains from all elements with which one begins.
@@ -115,7 +97,7 @@ fn slices_of<'a>(
 {
     let first = links.continuations;
     let mut chain = Vec::new(links.alloc);
-    let mut slices = IndexMap::with_capacity(links.alloc, links.spots.len() - first)?;
+    let mut slices = Slices::with_capacity(links.alloc, links.spots.len() - first)?;
     for number in first..links.spots.len() {
         enter_chain(arena, index, links, number, &mut chain, &mut slices)?;
     }
@@ -140,23 +122,16 @@ pub(crate) fn no_chains<'a>(alloc: Global) -> Chains<'a>
     ensures { result ≡ [] }
 {
     Chains {
-        slices: IndexMap::new(alloc),
+        slices: Slices::new(alloc),
     }
 }
 
 /// The chain that begins with an element.
 fn find<'a>(slices: &Slices<'a>, head: &Spot<'_>) -> Option<Slice<'a>>
-    ensures { option_map chain_in result ≡ slice_at slices.now (located head.now).page (offset_of (located head.now)) }
+    ensures { option_map spots_in result ≡ slice_at slices.now (located head.now).page (offset_of (located head.now)) }
 {
-    find_at(slices, head.element.place)
-}
-
-/// The chain at a place.
-fn find_at<'a>(slices: &Slices<'a>, place: Place) -> Option<Slice<'a>>
-    ensures { option_map chain_in result ≡ slice_at slices.now place.page place.offset }
-{
-    let key = (place.page, place.offset);
-    slices.get(&key).copied()
+    let place = head.element.place;
+    slice_in(slices, (place.page, place.offset))
 }
 
 impl<'a> Chains<'a> {

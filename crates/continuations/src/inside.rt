@@ -2,10 +2,10 @@
 ghost use Rattle.std.specs.Prelude.{◌≡◌, ◌↔◌, ◌∷◌, ◌++◌, [], ◌&&◌, ◌==◌, ◌<◌, ℕ, true, false, OnOk, IfOk, length, if◌then◌else◌};
 ghost use Rattle.ix_base.specs.Elements.{placed, place_of};
 ghost use Rattle.ix_base.specs.LinkRules.{is_at};
-ghost use Rattle.ix_base.specs.Located.{located};
+ghost use Rattle.ix_base.specs.LocatedElements.{located};
 ghost use Rattle.id_table.specs.Tables.{all_located};
 ghost use Rattle.continuations.specs.Courses.{AreCourses};
-ghost use Rattle.continuations.specs.Inside.{numbers_at, AnyOf, AreInner, ArePlaced, IsInner, SharesAny};
+ghost use Rattle.continuations.specs.InnerElements.{numbers_at, AnyOf, AreInner, ArePlaced, IsInner, SharesAny};
 
 use crate::walks::{Courses, share};
 use indexmap::IndexMap;

@@ -2,8 +2,8 @@
 ghost use Rattle.std.specs.Prelude.{◌≡◌, ℕ, List, true, Some, Contains};
 ghost use Rattle.ix_base.specs.Asks.{asks};
 ghost use Rattle.ix_base.specs.Chain.{chain};
-ghost use Rattle.ix_base.specs.Located.{Located, is_start, offset_of};
-ghost use Rattle.continuations.specs.Kept.{chain_at, AreChainsOf, StartsAlone};
+ghost use Rattle.ix_base.specs.LocatedElements.{Located, is_start, offset_of};
+ghost use Rattle.continuations.specs.Model.{chain_at, AreChainsOf, StartsAlone};
 
 /// Where chains were made from some elements, and no other one of these with which a chain begins is at the place of a
 /// nonNumeric or footnote among them, `Chains::of` may be asked for it, and what stands at its place is its chain. Pages of

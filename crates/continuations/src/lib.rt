@@ -13,7 +13,6 @@
 //! and takes no memory.
 #![tactic(auto)]
 
-mod berths;
 mod chains;
 mod inside;
 pub mod laws;
@@ -25,8 +24,8 @@ mod nested;
 mod places;
 mod reached;
 mod seen;
-mod slice;
 mod trail;
+mod visits;
 mod walk;
 mod walks;
 

@@ -3,7 +3,7 @@ ghost use Rattle.std.specs.Prelude.{◌≡◌, ◌++◌, OnOk, OnErr, IfOk};
 ghost use Rattle.ix_base.specs.Fronts.{AppendsFront};
 ghost use Rattle.ix_base.specs.declared.rule.Rule.TheVariants.{L4, L5, L6, L7};
 ghost use Rattle.ix_base.specs.LinkRules.{breaking};
-ghost use Rattle.continuations.specs.Kept.{AreChainsOf};
+ghost use Rattle.continuations.specs.Model.{AreChainsOf};
 ghost use Rattle.continuations.specs.Links.{AreLinks};
 
 use crate::chains::{Chains, chains_of, no_chains};

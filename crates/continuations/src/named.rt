@@ -4,15 +4,16 @@ ghost use Rattle.ix_base.specs.Fronts.{AppendsFront};
 ghost use Rattle.ix_base.specs.declared.rule.Rule.TheVariants.{L4, L5};
 ghost use Rattle.ix_base.specs.LinkRules as rules_of;
 ghost use Rattle.ix_base.specs.LinkRules.{breaking, broken_at};
-ghost use Rattle.ix_base.specs.Located.{located};
-ghost use Rattle.id_table.specs.Held.{asked};
+ghost use Rattle.ix_base.specs.LocatedElements.{located};
+ghost use Rattle.id_table.specs.Model.{asked};
 ghost use Rattle.continuations.specs.Links.{AreLinks};
-ghost use Rattle.continuations.specs.Seen.{AreNamers};
+ghost use Rattle.continuations.specs.ChainReach.{AreNamers};
 
 use crate::links::Links;
 use crate::walk::continuation;
 use id_table::{Holders, Index, count_in, enter};
-use ix_base::{Breaches, NoMemory, Rule, Spot, continued_at, id_at, is_continuation};
+use ix_base::{Breaches, NoMemory, Rule, Spot, is_continuation};
+use link_ids::{continued_at, id_at};
 use std::alloc::Global;
 
 /// Whether the element goes on at an id that isn't the one id of a continuation.

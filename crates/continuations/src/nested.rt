@@ -4,12 +4,12 @@ ghost use Rattle.std.specs.List.{list_any};
 ghost use Rattle.std.specs.List.Sorted.{IsSorted};
 ghost use Rattle.ix_base.specs.Chain as spec;
 ghost use Rattle.ix_base.specs.LinkRules.{is_at};
-ghost use Rattle.ix_base.specs.Located.{located, is_start as spec_is_start};
-ghost use Rattle.id_table.specs.Held.{asked};
+ghost use Rattle.ix_base.specs.LocatedElements.{located, is_start as spec_is_start};
+ghost use Rattle.id_table.specs.Model.{asked};
+ghost use Rattle.id_table.specs.Slices.{is_key};
 ghost use Rattle.id_table.specs.Tables.{all_located};
 ghost use Rattle.continuations.specs.Links.{AreLinks};
-ghost use Rattle.continuations.specs.Nested.{is_around, is_nested, key_cmp};
-ghost use Rattle.continuations.specs.Slices.{is_key};
+ghost use Rattle.continuations.specs.Nesting.{is_around, is_nested, key_cmp};
 
 use crate::links::Links;
 use crate::trail::put_chain;

@@ -4,7 +4,7 @@ ghost use Rattle.std.specs.List.{list_any};
 ghost use Rattle.std.specs.Prelude.{◌||◌};
 ghost use Rattle.ix_base.specs.Elements.{placed, place_of};
 ghost use Rattle.ix_base.specs.LinkRules.{inner_along, is_at};
-ghost use Rattle.ix_base.specs.Located.{located, offset_of};
+ghost use Rattle.ix_base.specs.LocatedElements.{located, offset_of};
 ghost use Rattle.std.specs.Prelude.{filter};
 ghost use Rattle.id_table.specs.Tables.{all_located};
 ghost use Rattle.continuations.specs.Places.{HoldsMarked, holds};

@@ -4,11 +4,11 @@ ghost use Rattle.ix_base.specs.Fronts.{AppendsFront};
 ghost use Rattle.ix_base.specs.declared.rule.Rule.TheVariants.{L6, L7};
 ghost use Rattle.ix_base.specs.LinkRules as rules_of;
 ghost use Rattle.ix_base.specs.LinkRules.{breaking, broken_at};
-ghost use Rattle.ix_base.specs.Located.{located};
-ghost use Rattle.id_table.specs.Held.{asked};
+ghost use Rattle.ix_base.specs.LocatedElements.{located};
+ghost use Rattle.id_table.specs.Model.{asked};
 ghost use Rattle.continuations.specs.Links.{AreLinks};
 ghost use Rattle.continuations.specs.Places.{StandsFor};
-ghost use Rattle.continuations.specs.Seen.{inner_by, most_of, reached_by};
+ghost use Rattle.continuations.specs.ChainReach.{inner_by, most_of, reached_by};
 
 use crate::links::Links;
 use crate::marks::{are_marked, reached_from};

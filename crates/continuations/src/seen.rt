@@ -1,15 +1,15 @@
 //! What chains reach, and what of it stands inside another element of its chain.
 ghost use Rattle.std.specs.Prelude.{◌≡◌, IfOk, length};
-ghost use Rattle.id_table.specs.Held.{asked};
+ghost use Rattle.id_table.specs.Model.{asked};
 ghost use Rattle.continuations.specs.Links.{AreLinks};
 ghost use Rattle.continuations.specs.Places.{StandsFor};
-ghost use Rattle.continuations.specs.Seen.{inner_by, most_of, reached_by};
+ghost use Rattle.continuations.specs.ChainReach.{inner_by, most_of, reached_by};
 ghost use Rattle.continuations.specs.Walks.{AreReached};
 
-use crate::berths::walks_of;
 use crate::inside::{inner_marks, placed_by};
 use crate::links::Links;
 use crate::places::{Places, marked_places};
+use crate::visits::walks_of;
 use crate::walks::{Courses, fars_of};
 use id_table::Index;
 use ix_base::NoMemory;
@@ -38,14 +38,14 @@ pub(crate) fn inner_places<'a>(index: &Index<'a>, links: &Links<'a>) -> Result<P
     let spots = links.spots.as_slice();
     let first = links.continuations;
     let walked = walks_of(alloc, nexts, first)?;
-    let berths = walked.berths.as_slice();
+    let visits = walked.visits.as_slice();
     let meets = walked.meets.as_slice();
-    let fars = fars_of(alloc, nexts, first, berths, meets)?;
+    let fars = fars_of(alloc, nexts, first, visits, meets)?;
     let numbers = placed_by(alloc, spots)?;
     let courses = Courses {
         nexts,
         first,
-        berths,
+        visits,
         meets,
         fars: fars.as_slice(),
     };

@@ -1,8 +1,8 @@
 //! Chains, along the numbers of their elements.
 ghost use Rattle.std.specs.Prelude.{◌≡◌, ◌<◌, OnOk, Some, length, slice_get};
 ghost use Rattle.ix_base.specs.Chain as spec;
-ghost use Rattle.ix_base.specs.Located.{Located};
-ghost use Rattle.id_table.specs.Held.{asked};
+ghost use Rattle.ix_base.specs.LocatedElements.{Located};
+ghost use Rattle.id_table.specs.Model.{asked};
 ghost use Rattle.id_table.specs.Tables.{all_located, AreOnOwnPages};
 ghost use Rattle.continuations.specs.Links.{AreLinks};
 

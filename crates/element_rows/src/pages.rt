@@ -1,6 +1,6 @@
 //! Pages, their trees, and what they break.
 ghost use Rattle.std.specs.Prelude.{◌≡◌, ◌≤◌, ◌<◌, length};
-ghost use Rattle.page_tree.specs.Standing.{fed_bytes};
+ghost use Rattle.page_tree.specs.Model.{fed_bytes};
 
 use anyhow::{Context, Result, bail};
 use bumpalo::Bump;

@@ -6,7 +6,7 @@ use Rattle.ix_base.specs.declared.tree.Node.{Node}
 use Rattle.ix_base.specs.declared.tree.Node.TheOpen.{Node-F}
 use Rattle.ix_base.specs.declared.tree.Node.TheFolds.{fold_out-Node}
 use Rattle.ix_base.specs.declared.tree.Spot.{Spot}
-use Rattle.ix_base.specs.Located.{located}
+use Rattle.ix_base.specs.LocatedElements.{located}
 use Rattle.ix_base.specs.Markup.{plain, plain_along, plain_by, manner}
 use Rattle.ix_base.specs.Trees.{Nodes, none, Tree, before, nodes_of, node_step}
 

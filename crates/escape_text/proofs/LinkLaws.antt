@@ -3,11 +3,11 @@ use Rattle.std.proofs.Common.{◌≡◌, ◌∙◌, ◌++◌, ℕ, Bool, true, f
 use Rattle.std.specs.Prelude.{◌&&◌, ◌||◌, filter}
 use Rattle.std.specs.List.{list_any}
 use Rattle.ix_base.specs.Markup.{Manner, LeftOut, Opened, Kept, manner, is_silent, is_link_of, is_written, value_by, written_name, attribute_of, attribute_cmp, declaration, own_attributes, base_below, ends_short, element_by, put_words, body, markup}
-use Rattle.ix_base.specs.Sorted.{sorted}
+use Rattle.ix_base.specs.SortedLists.{sorted}
 use Rattle.ix_base.specs.Trees.{Named, Valued, Head, Nodes, none, chars, elem, Tree}
-use Rattle.ix_base.specs.Written.{Attribute, Markup, nothing, written, attrs_text}
-use Rattle.escape_text.specs.Kept.{shown_markup, rest_text, is_short}
-use Rattle.escape_text.specs.Linked.{has_link, has_links, is_linked}
+use Rattle.ix_base.specs.WrittenMarkup.{Attribute, Markup, nothing, written, attrs_text}
+use Rattle.escape_text.specs.ElementMarkup.{shown_markup, rest_text, is_short}
+use Rattle.escape_text.specs.LinkPlaces.{has_link, has_links, is_linked}
 use Rattle.escape_text.specs.Manners.{is_left_out}
 use Rattle.escape_text.proofs.MarkupLaws.{by_manner, same-manner}
 

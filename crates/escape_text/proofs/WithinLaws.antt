@@ -17,7 +17,7 @@ use Rattle.ix_base.specs.Spots.{IsOn, IsOnOnePage, elements_up}
 use Rattle.ix_base.specs.Spaces.{AreNumbered, IsOuter, Space, space_of, spaces_in, spaces_of}
 use Rattle.ix_base.proofs.OnceLemmas.{Contains-later}
 use Rattle.ix_base.proofs.SpaceParts.{IsPart, numbered-part, outer-part, part-children, part-inside, part-name, part-node}
-use Rattle.escape_text.specs.Around.{IsWithin}
+use Rattle.escape_text.specs.Surroundings.{IsWithin}
 use Rattle.escape_text.specs.declared.marked_text.Around.{Around}
 
 within-part : (a : Around) (xs ys : List Space) → IsPart xs ys → IsWithin a xs → IsWithin a ys

@@ -2,9 +2,9 @@
 ghost use Rattle.std.specs.Prelude.{◌≡◌, ◌++◌, ◌∷◌, ℕ, List, bytes_eq, map, IfOk, OnOk, option_map, []};
 ghost use Rattle.ix_base.specs.Markup as spec;
 ghost use Rattle.ix_base.specs.Trees.{named, valued, tree_of};
-ghost use Rattle.ix_base.specs.Written.{attrs_text};
-ghost use Rattle.ix_base.specs.Sorted.{sorted};
-ghost use Rattle.escape_text.specs.Owned.{own, own_cmp, written_of};
+ghost use Rattle.ix_base.specs.WrittenMarkup.{attrs_text};
+ghost use Rattle.ix_base.specs.SortedLists.{sorted};
+ghost use Rattle.escape_text.specs.OwnedAttributes.{own, own_cmp, written_of};
 
 use crate::names::is_link_of;
 use ix_base::namespaces::XML;

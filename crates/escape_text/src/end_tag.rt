@@ -1,6 +1,6 @@
 //! End tags.
 ghost use Rattle.std.specs.Prelude.{◌≡◌, ◌++◌, OnOk};
-ghost use Rattle.ix_base.specs.Written.{close_text};
+ghost use Rattle.ix_base.specs.WrittenMarkup.{close_text};
 
 use ix_base::{NoMemory, Text};
 

@@ -1,7 +1,7 @@
 //! Where links stand.
 ghost use Rattle.std.specs.Prelude.{◌≡◌};
 ghost use Rattle.ix_base.specs.Trees.{nodes_of, tree_of};
-ghost use Rattle.escape_text.specs.Linked as spec;
+ghost use Rattle.escape_text.specs.LinkPlaces as spec;
 
 use crate::names::{is_left_out, is_link_of};
 use ix_base::{Element, Node};

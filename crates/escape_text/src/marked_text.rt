@@ -2,14 +2,14 @@
 ghost use Rattle.std.specs.Prelude.{◌≡◌, ◌++◌, ◌∷◌, ◌<◌, List, true, flat_map, map, IfOk, OnOk, OnErr, option_map, Some, None, length, All};
 ghost use Rattle.ix_base.specs.Address.{joined_or};
 ghost use Rattle.ix_base.specs.Elements.{place_of};
-ghost use Rattle.ix_base.specs.Located.{located, base_in};
+ghost use Rattle.ix_base.specs.LocatedElements.{located, base_in};
 ghost use Rattle.ix_base.specs.Markup as spec;
 ghost use Rattle.ix_base.specs.Spaces.{AreNumbered, IsOuter, Space, space_of, spaces_in, spaces_of};
 ghost use Rattle.ix_base.specs.Spots.{IsOnOnePage};
 ghost use Rattle.ix_base.specs.Trees.{nodes_of, tree_of};
-ghost use Rattle.escape_text.specs.Kept.{element_markup, shown_by, open_text, rest_text, is_short};
-ghost use Rattle.escape_text.specs.Linked.{has_links as links_in};
-ghost use Rattle.escape_text.specs.Around.{IsWithin, base_of};
+ghost use Rattle.escape_text.specs.ElementMarkup.{element_markup, shown_by, open_text, rest_text, is_short};
+ghost use Rattle.escape_text.specs.LinkPlaces.{has_links as links_in};
+ghost use Rattle.escape_text.specs.Surroundings.{IsWithin, base_of};
 
 use crate::attributes::{push_attributes, push_declaration};
 use crate::end_tag::push_close;

@@ -1,10 +1,10 @@
 //! Plain texts.
 ghost use Rattle.std.specs.Prelude.{◌≡◌, ◌++◌, map, OnOk, OnErr};
 ghost use Rattle.ix_base.specs.Fronts.{AppendsFront};
-ghost use Rattle.ix_base.specs.Located.{located};
+ghost use Rattle.ix_base.specs.LocatedElements.{located};
 ghost use Rattle.ix_base.specs.Markup.{plain, plain_along};
 ghost use Rattle.ix_base.specs.Trees.{none, before, nodes_of, tree_of};
-ghost use Rattle.escape_text.specs.Kept.{plain_of};
+ghost use Rattle.escape_text.specs.ElementMarkup.{plain_of};
 
 use crate::names::is_left_out;
 use ix_base::{Element, NoMemory, Node, Spot, Text};

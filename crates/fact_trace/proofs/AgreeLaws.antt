@@ -5,7 +5,7 @@ use Rattle.ix_base.specs.Elements.{Placed, below}
 use Rattle.ix_base.specs.Sound.{offsets_of}
 use Rattle.ix_base.specs.Trees.{Nodes, none, chars, elem, Tree}
 use Rattle.page_tree.proofs.RisingOffsets.{Climb}
-use Rattle.page_tree.proofs.SizeLaws.{other-number, same-number}
+use Rattle.page_constructs.proofs.SizeLaws.{other-number, same-number}
 use Rattle.fact_trace.specs.Spans.{is_left_out, left_out, is_among}
 use Rattle.fact_trace.proofs.HeardLaws.{Agrees}
 

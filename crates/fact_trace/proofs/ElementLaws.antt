@@ -7,7 +7,7 @@ use Rattle.ix_base.specs.declared.tree.Element.{Element}
 use Rattle.ix_base.specs.declared.tree.Node.TheFolds.{fold_out-Element}
 use Rattle.ix_base.proofs.OnceLemmas.{Contains-cases, Contains-later, Contains-nil, Contains-same}
 use Rattle.page_text.specs.Characters.{stop}
-use Rattle.page_tree.specs.Constructs.{cut, text_of}
+use Rattle.page_constructs.specs.Constructs.{cut, text_of}
 use Rattle.page_tree.specs.Page.{page}
 use Rattle.page_tree.specs.Reaches.{Reach, StandsAt, reaches}
 use Rattle.page_tree.proofs.PageMarks.{page-climbs}

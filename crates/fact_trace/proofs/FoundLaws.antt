@@ -7,15 +7,15 @@ use Rattle.ix_base.specs.Scope.{outermost}
 use Rattle.ix_base.specs.Sound.{offsets_of}
 use Rattle.ix_base.specs.Trees.{Bound, Head, Nodes, none, chars, elem, Tree}
 use Rattle.page_text.specs.Characters.{stop}
-use Rattle.page_tree.specs.Constructs.{Construct, cut, text_of}
-use Rattle.page_tree.specs.Forms.{HasForm}
+use Rattle.page_constructs.specs.Constructs.{Construct, cut, text_of}
+use Rattle.page_constructs.specs.Forms.{HasForm}
 use Rattle.page_tree.specs.Page.{HasTags, Spells, SpellsPage, page}
-use Rattle.page_tree.specs.Tokens.{Tag, Token, start, empty, close}
-use Rattle.page_tree.specs.declared.kind.Kind.{Kind}
-use Rattle.page_tree.specs.declared.kind.Kind.TheVariants.{StartTag}
+use Rattle.page_constructs.specs.Tokens.{Tag, Token, start, empty, close}
+use Rattle.page_constructs.specs.declared.kind.Kind.{Kind}
+use Rattle.page_constructs.specs.declared.kind.Kind.TheVariants.{StartTag}
 use Rattle.page_tree.proofs.PageMarks.{page-climbs}
 use Rattle.page_tree.proofs.RisingOffsets.{Climb, starts_of, cut-climbs, tokens-climb, page-offsets}
-use Rattle.page_tree.proofs.SizeLaws.{other-number, same-number}
+use Rattle.page_constructs.proofs.SizeLaws.{other-number, same-number}
 use Rattle.page_tree.proofs.TagLaws.{opened-fair}
 use Rattle.page_tree.specs.Reaches.{Reach, reaches_to, reaches}
 use Rattle.fact_trace.specs.Spans.{move_by, move, heard, held_by, heard_at, left_out, is_among, element_spans, says}

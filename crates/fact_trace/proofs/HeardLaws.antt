@@ -4,11 +4,11 @@ use Rattle.std.specs.List.{flat_map}
 use Rattle.ix_base.specs.Markup.{Manner, LeftOut, Opened, Kept, manner, plain_by, plain}
 use Rattle.ix_base.specs.Namespaces.{ix_namespace}
 use Rattle.ix_base.specs.Trees.{Named, Bound, Nodes, none, chars, elem}
-use Rattle.page_tree.specs.Constructs.{Construct}
-use Rattle.page_tree.specs.Forms.{Means}
-use Rattle.page_tree.specs.Meanings.{meant}
+use Rattle.page_constructs.specs.Constructs.{Construct}
+use Rattle.page_constructs.specs.Forms.{Means}
+use Rattle.page_constructs.specs.Meanings.{meant}
 use Rattle.page_tree.specs.Page.{AreRuns, HasTags, Spells, AllMean}
-use Rattle.page_tree.specs.Tokens.{Tag, Token, start, empty, close, words, refer, section, declaration, doctype, silent}
+use Rattle.page_constructs.specs.Tokens.{Tag, Token, start, empty, close, words, refer, section, declaration, doctype, silent}
 use Rattle.page_tree.proofs.FormLaws.{form-meant}
 use Rattle.page_tree.proofs.TagLaws.{opened-fair}
 use Rattle.page_tree.specs.Reaches.{Reach, reaches_to}

@@ -2,14 +2,14 @@
 use Rattle.std.proofs.Common.{◌≡◌, ◌≢◌, ◌∙◌, ◌⊎◌, inl, inr, ℕ, ◌-◌, ◌≤◌, ◌==◌, Bool, true, false, List, [], ◌∷◌, length, get_or, Option, Some, None, option_map, refl, sym, ap, arith, if◌then◌else◌}
 use Rattle.std.specs.Option.{option_map_or}
 use Rattle.page_tree.specs.Break.{w}
-use Rattle.page_tree.specs.Constructs.{Construct, cut}
-use Rattle.page_tree.specs.Forms.{Means}
+use Rattle.page_constructs.specs.Constructs.{Construct, cut}
+use Rattle.page_constructs.specs.Forms.{Means}
 use Rattle.page_tree.specs.Page.{AllMean}
 use Rattle.page_tree.specs.Reaches.{Reach, reach_at, reaches, told}
-use Rattle.page_tree.specs.Tokens.{Token}
+use Rattle.page_constructs.specs.Tokens.{Token}
 use Rattle.page_tree.specs.declared.construct.Construct.{Construct as Told}
-use Rattle.page_tree.specs.declared.kind.Kind.{Kind}
-use Rattle.page_tree.specs.declared.kind.Kind.TheVariants.{Declaration, Instruction, Comment, Cdata, Doctype, Unknown, EndTag, StartTag, Reference, Text}
+use Rattle.page_constructs.specs.declared.kind.Kind.{Kind}
+use Rattle.page_constructs.specs.declared.kind.Kind.TheVariants.{Declaration, Instruction, Comment, Cdata, Doctype, Unknown, EndTag, StartTag, Reference, Text}
 use Rattle.page_tree.proofs.PageLaws.{unbroken}
 use Rattle.fact_trace.specs.Spans.{move_by, move}
 use Rattle.fact_trace.specs.Walks.{IsConstruct, IsWhole, move_there, stepped, tag_move}

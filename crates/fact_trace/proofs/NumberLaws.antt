@@ -11,21 +11,21 @@ use Rattle.ix_base.specs.Asks.{asks}
 use Rattle.ix_base.specs.ElementRules.{breaks_as, holds_number, is_number}
 use Rattle.ix_base.specs.Forms.{is_empty}
 use Rattle.ix_base.specs.Elements.{Placed, below, elements_of, placed_at, tree_at}
-use Rattle.ix_base.specs.Holding.{are_blank, element_alone, elements_in, is_blank, is_of}
+use Rattle.ix_base.specs.ElementContent.{are_blank, element_alone, elements_in, is_blank, is_of}
 use Rattle.ix_base.specs.Kinds.{ix_rows, kind_of, same_kind}
-use Rattle.ix_base.specs.Located.{Located, is_marked, marked_from, on_page, page_marked}
-use Rattle.ix_base.specs.Located as located
+use Rattle.ix_base.specs.LocatedElements.{Located, is_marked, marked_from, on_page, page_marked}
+use Rattle.ix_base.specs.LocatedElements as located
 use Rattle.ix_base.specs.Markup.{plain}
 use Rattle.ix_base.specs.Namespaces.{ix_namespace}
 use Rattle.ix_base.specs.Readers.{is_nil}
 use Rattle.ix_base.specs.Trees.{Nodes, none, chars, elem, Tree}
 use Rattle.ix_base.proofs.OnceLemmas.{Contains-cases, Contains-filter, Contains-first, Contains-later, Contains-nil}
 use Rattle.facts.specs.NumberValue.{nested_in, nested_text, number_text, own_text}
-use Rattle.page_tree.proofs.SpanLaws.{bytes-one}
+use Rattle.page_constructs.proofs.SpanLaws.{bytes-one}
 use Rattle.targets.proofs.UnbrokenLaws.{element-unbroken}
-use Rattle.fact_trace.specs.Held.{AreNew}
+use Rattle.fact_trace.specs.Model.{AreNew}
 use Rattle.fact_trace.specs.Spans.{Source, elements, paged, said_on, source_at, spans, text_elements_as}
-use Rattle.fact_trace.specs.Unbroken.{BreakNoRule, HaveTrees, names_of}
+use Rattle.fact_trace.specs.ValidPages.{BreakNoRule, HaveTrees, names_of}
 use Rattle.fact_trace.proofs.SayingLaws.{items-say}
 use Rattle.fact_trace.proofs.TextLaws.{element-stands, inside}
 use Rattle.fact_trace.proofs.TracerLaws.{as_set, clean-of, have-trees}

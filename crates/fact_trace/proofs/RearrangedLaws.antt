@@ -15,10 +15,10 @@ use Rattle.ix_base.specs.Asks.{Asks, asks}
 use Rattle.ix_base.specs.Chain.{chain}
 use Rattle.ix_base.specs.Elements.{elements_of}
 use Rattle.ix_base.specs.Kinds.{kind_of}
-use Rattle.ix_base.specs.Located.{Located, is_item, is_marked, is_nil, marked_from, offset_of, on_page, page_marked, same_place}
+use Rattle.ix_base.specs.LocatedElements.{Located, is_item, is_marked, is_nil, marked_from, offset_of, on_page, page_marked, same_place}
 use Rattle.ix_base.specs.OwnNames.{own}
 use Rattle.ix_base.specs.Readers.{fact_name}
-use Rattle.ix_base.specs.Sorted.{text_cmp}
+use Rattle.ix_base.specs.SortedLists.{text_cmp}
 use Rattle.ix_base.specs.Trees.{Tree}
 use Rattle.ix_base.proofs.ExchangeLemmas.{by_exchanges}
 use Rattle.ix_base.proofs.OnceLemmas.{Contains-cases, Contains-first, Contains-from_filter, Contains-later, Contains-nil}
@@ -26,14 +26,14 @@ use Rattle.ix_base.proofs.OnceOrdered.{same_text}
 use Rattle.ix_base.proofs.SortedLemmas.{sorted-same}
 use Rattle.facts.specs.FractionValue.{part_in}
 use Rattle.footnotes.proofs.NotesSame.{filter-moved}
-use Rattle.id_table.specs.Moved.{moved}
+use Rattle.id_table.specs.Renumbering.{moved}
 use Rattle.id_table.proofs.Asking.{map-filter}
 use Rattle.id_table.proofs.Rearranged.{asks-same}
 use Rattle.id_table.proofs.Renumbered.{chain-moved, map-same, map-twice}
-use Rattle.page_tree.proofs.SizeLaws.{same-number}
-use Rattle.targets.specs.Linked.{AreApart}
+use Rattle.page_constructs.proofs.SizeLaws.{same-number}
+use Rattle.targets.specs.LinkedSets.{AreApart}
 use Rattle.targets.proofs.Exchanged.{exchanged, numbered, stay_apart, swap_at}
-use Rattle.fact_trace.specs.Held.{AreNew}
+use Rattle.fact_trace.specs.Model.{AreNew}
 use Rattle.fact_trace.specs.Spans.{Lying, Source, element_spans, elements, lying_at, paged, part_of, source_at, span_of, spans, spans_in, text_elements, text_elements_as, there, traced_cmp, traced_of, traces}
 use Rattle.fact_trace.specs.declared.span.Traced.{Traced}
 use Rattle.fact_trace.proofs.OrderLaws.{traced-total}

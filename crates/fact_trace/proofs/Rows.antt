@@ -6,9 +6,9 @@ use Rattle.ix_base.specs.NcName.{is_ncname, is_name_start, is_name_char, is_allo
 use Rattle.ix_base.specs.Namespaces.{ix_namespace, xml_namespace, xmlns_namespace}
 use Rattle.std.specs.Str.{chars as chars_of, is_utf8}
 use Rattle.ix_base.specs.Trees.{Head, none, chars, elem}
-use Rattle.page_tree.specs.Constructs.{size_by, kind_of, cut_from}
-use Rattle.page_tree.specs.Meanings.{attributes_in, meant_by}
-use Rattle.page_tree.specs.Values.{meant_in, referred}
+use Rattle.page_constructs.specs.Constructs.{size_by, kind_of, cut_from}
+use Rattle.page_constructs.specs.Meanings.{attributes_in, meant_by}
+use Rattle.page_constructs.specs.Values.{meant_in, referred}
 use Rattle.fact_trace.specs.Spans.{element_spans, span_of}
 use Rattle.fact_trace.specs.declared.span.Span.{Span}
 

@@ -5,11 +5,11 @@ use Rattle.ix_base.specs.Elements.{elements_of}
 use Rattle.ix_base.specs.Markup.{plain}
 use Rattle.ix_base.specs.Trees.{Tree}
 use Rattle.page_text.specs.Characters.{stop}
-use Rattle.page_tree.specs.Constructs.{cut, text_of}
+use Rattle.page_constructs.specs.Constructs.{cut, text_of}
 use Rattle.page_tree.specs.Page.{page}
 use Rattle.page_tree.proofs.PageMarks.{page-climbs}
 use Rattle.page_tree.proofs.RisingOffsets.{Climb, cut-climbs}
-use Rattle.page_tree.proofs.SizeLaws.{other-number, same-number}
+use Rattle.page_constructs.proofs.SizeLaws.{other-number, same-number}
 use Rattle.page_tree.specs.Reaches.{Reach, reaches}
 use Rattle.fact_trace.specs.Spans.{move, muted_in, fewer, heard, held_by, heard_at, left_out, is_among, element_spans, says, span_of, said_in, said}
 use Rattle.fact_trace.specs.declared.moves.Move.{Move}

@@ -8,14 +8,14 @@ use Rattle.ix_base.specs.Asks.{asks}
 use Rattle.ix_base.specs.Chain.{chain}
 use Rattle.ix_base.specs.Elements.{Placed, elements_of, placed_at}
 use Rattle.ix_base.specs.Kinds.{kind_of}
-use Rattle.ix_base.specs.Located.{Located, is_nil}
+use Rattle.ix_base.specs.LocatedElements.{Located, is_nil}
 use Rattle.ix_base.specs.Markup.{plain, plain_along}
 use Rattle.page_tree.specs.Page.{page}
 use Rattle.page_tree.specs.Reaches.{Reach}
-use Rattle.page_tree.proofs.SpanLaws.{bytes-apart, bytes-same}
-use Rattle.fact_trace.specs.Held.{AreNew, IsText}
+use Rattle.page_constructs.proofs.SpanLaws.{bytes-apart, bytes-same}
+use Rattle.fact_trace.specs.Model.{AreNew, IsText}
 use Rattle.fact_trace.specs.Spans.{Lying, Source, bytes_of, element_spans, elements, lying_at, said, said_on, source_at, span_of, spans, spans_in, text_elements, text_elements_as}
-use Rattle.fact_trace.specs.Unbroken.{HaveTrees, names_of}
+use Rattle.fact_trace.specs.ValidPages.{HaveTrees, names_of}
 use Rattle.fact_trace.proofs.RearrangedLaws.{name-there}
 use Rattle.fact_trace.proofs.SaidLaws.{spans-text}
 use Rattle.fact_trace.proofs.TextLaws.{ArePages, texts-of}

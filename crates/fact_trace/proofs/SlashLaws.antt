@@ -5,15 +5,15 @@ use Rattle.std.proofs.lemmas.Bool.{and_parts}
 use Rattle.std.proofs.lemmas.Bool.Decides.{nat_tests}
 use Rattle.std.proofs.lemmas.List.{length-drop}
 use Rattle.ix_base.specs.NcName.{is_white, is_name_start, is_name_char}
-use Rattle.page_tree.specs.Constructs.{Byte, values}
-use Rattle.page_tree.specs.Forms.{AreAttributes, IsInTag, is_quote, HasForm}
+use Rattle.page_constructs.specs.Constructs.{Byte, values}
+use Rattle.page_constructs.specs.Forms.{AreAttributes, IsInTag, is_quote, HasForm}
 use Rattle.page_tree.specs.Raw.{raw}
-use Rattle.page_tree.specs.Tokens.{Attribute, Tag, Token, start, empty, close, words, refer, section, declaration, doctype, silent}
-use Rattle.page_tree.specs.declared.kind.Kind.{Kind}
-use Rattle.page_tree.specs.declared.kind.Kind.TheVariants.{Declaration, Instruction, Comment, Cdata, Doctype, EndTag, StartTag, Reference, Text}
-use Rattle.page_tree.proofs.NameBytes.{is_name_byte, is_qname_byte, name-not, qname-bytes}
+use Rattle.page_constructs.specs.Tokens.{Attribute, Tag, Token, start, empty, close, words, refer, section, declaration, doctype, silent}
+use Rattle.page_constructs.specs.declared.kind.Kind.{Kind}
+use Rattle.page_constructs.specs.declared.kind.Kind.TheVariants.{Declaration, Instruction, Comment, Cdata, Doctype, EndTag, StartTag, Reference, Text}
+use Rattle.page_constructs.proofs.NameBytes.{is_name_byte, is_qname_byte, name-not, qname-bytes}
 use Rattle.page_tree.proofs.RawLaws.{byte-case, Byte_case, returns, skips, stays, raw-returns, raw-skips, raw-stays}
-use Rattle.page_tree.proofs.SpanLaws.{one_number}
+use Rattle.page_constructs.proofs.SpanLaws.{one_number}
 use Rattle.fact_trace.specs.Spans.{move_by}
 use Rattle.fact_trace.specs.declared.moves.Move.{Move}
 use Rattle.fact_trace.specs.declared.moves.Move.TheVariants.{Opens, Closes, Says, Passes}

@@ -2,19 +2,19 @@
 use Rattle.std.proofs.Common.{◌≡◌, ◌∙◌, ℕ, zero, suc, ◌+◌, ◌-◌, ◌<◌, ◌≤◌, ◌==◌, Bool, true, false, ◌&&◌, if◌then◌else◌, List, [], ◌∷◌, ◌++◌, Contains, length, take, drop, get_or, map, Option, Some, None, refl, sym, ap, subst, append_assoc, length-append, arith}
 use Rattle.std.proofs.lemmas.List.{length-drop, length-take, get_or-drop, take-append-drop}
 use Rattle.page_tree.specs.Break.{w}
-use Rattle.page_tree.specs.Constructs.{Construct, values, offset_of, kind_of, size_by, whole_size, construct, cut_at, cut_from, cut, text_of}
+use Rattle.page_constructs.specs.Constructs.{Construct, values, offset_of, kind_of, size_by, whole_size, construct, cut_at, cut_from, cut, text_of}
 use Rattle.page_tree.specs.Raw.{raw, mark_size}
 use Rattle.page_tree.specs.Reaches.{Reach, reaches_to, reaches, reach_at}
-use Rattle.page_tree.specs.declared.kind.Kind.TheVariants.{StartTag}
-use Rattle.page_tree.specs.Ends.{HasEnds}
+use Rattle.page_constructs.specs.declared.kind.Kind.TheVariants.{StartTag}
+use Rattle.page_constructs.specs.Ends.{HasEnds}
 use Rattle.page_tree.proofs.AtLaws.{whole-cut, starts-there}
 use Rattle.page_tree.proofs.EndLaws.{whole-ends}
 use Rattle.page_tree.proofs.PieceLaws.{whole-takes}
 use Rattle.page_tree.proofs.PlacingLaws.{drop-behind}
 use Rattle.page_tree.proofs.RawLaws.{IsPast, whole-past, kind-raw, same-length}
 use Rattle.ix_base.proofs.OnceLemmas.{Contains-later, Contains-same}
-use Rattle.page_tree.proofs.SpanLaws.{one_number}
-use Rattle.page_tree.proofs.SizeLaws.{other-number}
+use Rattle.page_constructs.proofs.SpanLaws.{one_number}
+use Rattle.page_constructs.proofs.SizeLaws.{other-number}
 use Rattle.fact_trace.proofs.AgreeLaws.{Each, each-mapped}
 use Rattle.fact_trace.proofs.SlashLaws.{last_or, slashes, slashes-raw}
 

@@ -9,14 +9,14 @@ use Rattle.ix_base.specs.declared.kind.Kind.TheVariants as kind
 use Rattle.ix_base.specs.Asks.{asks}
 use Rattle.ix_base.specs.Chain.{chain}
 use Rattle.ix_base.specs.Elements.{Placed, below, elements_of, placed_at, tree_at}
-use Rattle.ix_base.specs.Holding.{is_of}
+use Rattle.ix_base.specs.ElementContent.{is_of}
 use Rattle.ix_base.specs.Kinds.{kind_of, same_kind}
 use Rattle.ix_base.specs.LinkRules.{is_at}
-use Rattle.continuations.specs.Kept.{AreChainsOf, chain_at}
+use Rattle.continuations.specs.Model.{AreChainsOf, chain_at}
 use Rattle.continuations.proofs.HeadLaws.{chain_at-start}
-use Rattle.targets.specs.Linked.{AreApart}
+use Rattle.targets.specs.LinkedSets.{AreApart}
 use Rattle.std.proofs.lemmas.Bool.{and_parts}
-use Rattle.ix_base.specs.Located.{Located, is_marked, is_start, located, marked_from, offset_of, on_page, page_marked}
+use Rattle.ix_base.specs.LocatedElements.{Located, is_marked, is_start, located, marked_from, offset_of, on_page, page_marked}
 use Rattle.ix_base.specs.Namespaces.{ix_namespace}
 use Rattle.ix_base.specs.Trees.{Nodes, none, chars, elem, Tree, nodes_of, tree_of}
 use Rattle.ix_base.specs.declared.tree.Element.{Element}
@@ -29,7 +29,7 @@ use Rattle.ix_base.proofs.OnceLemmas.{Contains-cases, Contains-first, Contains-l
 use Rattle.facts.specs.FractionValue.{part_in}
 use Rattle.facts.specs.NumberValue.{nested_in}
 use Rattle.page_tree.specs.Page.{page}
-use Rattle.fact_trace.specs.Held.{ArePagesFrom, IsText, sources_of}
+use Rattle.fact_trace.specs.Model.{ArePagesFrom, IsText, sources_of}
 use Rattle.fact_trace.specs.Spans.{Source, elements, lying_at, number_in, paged, part_of, source_at, text_elements, text_elements_as, there}
 use Rattle.fact_trace.specs.Walks.{IsOfPage}
 use Rattle.fact_trace.specs.declared.page.Page.{Page}

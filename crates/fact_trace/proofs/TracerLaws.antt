@@ -12,17 +12,17 @@ use Rattle.std.proofs.lemmas.List.Folds.{flat_map-map}
 use Rattle.ix_base.specs.Asks.{asks}
 use Rattle.ix_base.specs.Elements.{pages_in, pages_of}
 use Rattle.ix_base.specs.LinkRules.{breaking, breaks_link, found_at, link_rules}
-use Rattle.ix_base.specs.Located.{Located, Paged, marked_from, page_marked}
+use Rattle.ix_base.specs.LocatedElements.{Located, Paged, marked_from, page_marked}
 use Rattle.ix_base.specs.Rows.{row}
 use Rattle.ix_base.specs.Sound.{IsSoundTree}
 use Rattle.ix_base.specs.Trees.{Tree, tree_of}
 use Rattle.ix_base.proofs.OnceLemmas.{Contains-first, Contains-later, Contains-nil}
-use Rattle.id_table.specs.Held.{Held as HeldIndex}
+use Rattle.id_table.specs.Model.{Held as HeldIndex}
 use Rattle.page_tree.specs.Page.{page}
 use Rattle.page_tree.proofs.PageLaws.{one}
 use Rattle.page_tree.proofs.SoundPages.{page-sound}
 use Rattle.targets.specs.Breaches.{PagesComeTo}
-use Rattle.targets.specs.Clean.{IsClean}
+use Rattle.targets.specs.ValidSets.{IsClean}
 use Rattle.targets.specs.Forest.{AreTrees}
 use Rattle.targets.specs.Forest as forest
 use Rattle.targets.specs.PageSet.{PageSet}
@@ -30,11 +30,11 @@ use Rattle.targets.specs.PageSet as set
 use Rattle.targets.specs.SetOutcomes.{ComesTo}
 use Rattle.targets.specs.declared.outcome.Outcome.TheVariants.{Whole}
 use Rattle.targets.proofs.UnbrokenLaws.{elements-apart, link-unbroken}
-use Rattle.fact_trace.specs.Held.{AreNew, ArePagesFrom, Keeps, source_of, sources_of}
+use Rattle.fact_trace.specs.Model.{AreNew, ArePagesFrom, Keeps, source_of, sources_of}
 use Rattle.fact_trace.specs.Spans.{Source, elements, paged, traces}
-use Rattle.fact_trace.specs.Unbroken.{BreakNoRule, HaveTrees, names_of}
+use Rattle.fact_trace.specs.ValidPages.{BreakNoRule, HaveTrees, names_of}
 use Rattle.fact_trace.proofs.RearrangedLaws.{rearranged}
-use Rattle.targets.specs.Linked.{AreApart}
+use Rattle.targets.specs.LinkedSets.{AreApart}
 use Rattle.std.specs.List.Sorted.{IsPermutation}
 use Rattle.fact_trace.specs.declared.page.Page.{Page}
 use Rattle.fact_trace.proofs.AgreeLaws.{Each}

@@ -6,13 +6,13 @@ use Rattle.ix_base.specs.Sound.{Rise}
 use Rattle.ix_base.proofs.OnceLemmas.{Contains-cases, Contains-later, Contains-nil, Contains-same}
 use Rattle.page_text.specs.Characters.{stop}
 use Rattle.page_tree.specs.Break.{w}
-use Rattle.page_tree.specs.Constructs.{Construct, cut, text_of}
+use Rattle.page_constructs.specs.Constructs.{Construct, cut, text_of}
 use Rattle.page_tree.specs.Raw.{mark_size}
 use Rattle.page_tree.specs.Reaches.{Reach, StandsAt, reach_at, reaches, reaches_to}
 use Rattle.page_tree.proofs.PageMarks.{page-climbs}
 use Rattle.page_tree.proofs.PieceLaws.{whole-takes}
 use Rattle.page_tree.proofs.RisingOffsets.{Climb, cut-climbs, starts_of}
-use Rattle.page_tree.proofs.SizeLaws.{other-number, same-number}
+use Rattle.page_constructs.proofs.SizeLaws.{other-number, same-number}
 use Rattle.fact_trace.specs.Spans.{closing, fewer, heard, heard_by, is_among, muted_in, span_of}
 use Rattle.fact_trace.specs.Walks.{IsFrontPassed, IsWhole, from_on, heard_at_step, stepped}
 use Rattle.fact_trace.specs.declared.moves.Move.{Move}

@@ -1,5 +1,5 @@
-pub mod Held
+pub mod Model
 pub mod Parts
 pub mod Spans
-pub mod Unbroken
+pub mod ValidPages
 pub mod Walks

@@ -8,17 +8,17 @@ use Rattle.ix_base.specs.declared.kind.Kind.TheVariants as kind
 use Rattle.ix_base.specs.Asks.{Asks, asks}
 use Rattle.ix_base.specs.Chain.{chain}
 use Rattle.ix_base.specs.Kinds.{kind_of}
-use Rattle.ix_base.specs.Located.{Located, Paged, is_item, is_nil, marked, offset_of}
+use Rattle.ix_base.specs.LocatedElements.{Located, Paged, is_item, is_nil, marked, offset_of}
 use Rattle.ix_base.specs.Namespaces.{ix_namespace}
 use Rattle.ix_base.specs.OwnNames.{own}
 use Rattle.ix_base.specs.Readers.{fact_name}
-use Rattle.ix_base.specs.Sorted.{sorted, text_cmp}
+use Rattle.ix_base.specs.SortedLists.{sorted, text_cmp}
 use Rattle.ix_base.specs.Trees.{Named, Nodes, none, chars, elem, Tree}
 use Rattle.facts.specs.FractionValue.{part_in}
 use Rattle.facts.specs.NumberValue.{nested_in}
-use Rattle.page_tree.specs.Meanings.{meant}
+use Rattle.page_constructs.specs.Meanings.{meant}
 use Rattle.page_tree.specs.Reaches.{Reach, reaches}
-use Rattle.page_tree.specs.Tokens.{Token, start, close, words, refer, section}
+use Rattle.page_constructs.specs.Tokens.{Token, start, close, words, refer, section}
 use Rattle.fact_trace.specs.declared.moves.Move.{Move}
 use Rattle.fact_trace.specs.declared.moves.Move.TheVariants.{Opens, Closes, Says, Passes}
 use Rattle.fact_trace.specs.declared.span.Span.{Span}

@@ -2,15 +2,15 @@
 ghost use Rattle.std.specs.Prelude.{◌≡◌, ◌++◌, ◌<◌, All, Contains, IfOk, OnOk, codes, length, map, filter};
 ghost use Rattle.std.specs.List.{flat_map};
 ghost use Rattle.ix_base.specs.Asks.{asks};
-ghost use Rattle.ix_base.specs.Located as kinds;
-ghost use Rattle.ix_base.specs.Located.{located};
+ghost use Rattle.ix_base.specs.LocatedElements as kinds;
+ghost use Rattle.ix_base.specs.LocatedElements.{located};
 ghost use Rattle.ix_base.specs.Trees.{tree_of};
-ghost use Rattle.continuations.specs.Kept.{AreChainsOf};
+ghost use Rattle.continuations.specs.Model.{AreChainsOf};
 ghost use Rattle.id_table.specs.Tables.{all_located};
-ghost use Rattle.targets.specs.Linked.{AreApart};
+ghost use Rattle.targets.specs.LinkedSets.{AreApart};
 ghost use Rattle.fact_trace.specs.Spans as spec;
 ghost use Rattle.fact_trace.specs.Spans.{elements, lying_at, number_in, part_of, source_at, spans_in, text_elements};
-ghost use Rattle.fact_trace.specs.Held.{ArePagesFrom, IsText, sources_of};
+ghost use Rattle.fact_trace.specs.Model.{ArePagesFrom, IsText, sources_of};
 
 use crate::elements::push_element;
 use crate::page::Page;

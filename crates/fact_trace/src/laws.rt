@@ -7,14 +7,14 @@ ghost use Rattle.ix_base.specs.Asks.{asks};
 ghost use Rattle.ix_base.specs.Chain.{chain};
 ghost use Rattle.ix_base.specs.Elements.{elements_of};
 ghost use Rattle.ix_base.specs.Kinds.{kind_of};
-ghost use Rattle.ix_base.specs.Located.{Located, is_nil};
+ghost use Rattle.ix_base.specs.LocatedElements.{Located, is_nil};
 ghost use Rattle.ix_base.specs.Markup.{plain, plain_along};
 ghost use Rattle.ix_base.specs.Trees.{Tree};
 ghost use Rattle.facts.specs.NumberValue.{number_text};
 ghost use Rattle.page_tree.specs.Page.{page};
-ghost use Rattle.fact_trace.specs.Held.{AreNew};
+ghost use Rattle.fact_trace.specs.Model.{AreNew};
 ghost use Rattle.fact_trace.specs.Spans.{Source, element_spans, elements, said, said_on, span_of, spans, text_elements, traces};
-ghost use Rattle.fact_trace.specs.Unbroken.{BreakNoRule, HaveTrees, names_of};
+ghost use Rattle.fact_trace.specs.ValidPages.{BreakNoRule, HaveTrees, names_of};
 
 /// What the spans of an element say, joined, is the plain text of what it holds.
 pub fn spans_say_the_text()

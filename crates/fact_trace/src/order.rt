@@ -1,6 +1,6 @@
 //! Items in the order of their places.
 ghost use Rattle.std.specs.Prelude.{◌≡◌, OnOk};
-ghost use Rattle.ix_base.specs.Sorted.{sorted};
+ghost use Rattle.ix_base.specs.SortedLists.{sorted};
 ghost use Rattle.fact_trace.specs.Spans.{traced_cmp};
 
 use crate::span::Traced;

@@ -6,12 +6,12 @@ ghost use Rattle.ix_base.specs.LinkRules.{breaking};
 ghost use Rattle.ix_base.specs.Spaces.{AreNumbered, spaces_of};
 ghost use Rattle.ix_base.specs.Trees.{tree_of};
 ghost use Rattle.ix_base.specs.declared.rule.Rule.TheVariants as rules;
-ghost use Rattle.continuations.specs.Kept.{AreChainsOf};
+ghost use Rattle.continuations.specs.Model.{AreChainsOf};
 ghost use Rattle.page_tree.specs.Page.{page as page_of};
-ghost use Rattle.targets.specs.Linked.{AreApart};
-ghost use Rattle.fact_trace.specs.Held.{ArePagesFrom, sources_of};
+ghost use Rattle.targets.specs.LinkedSets.{AreApart};
+ghost use Rattle.fact_trace.specs.Model.{ArePagesFrom, sources_of};
 ghost use Rattle.fact_trace.specs.Spans.{Source, elements, traces};
-ghost use Rattle.fact_trace.specs.Unbroken.{BreakNoRule, names_of};
+ghost use Rattle.fact_trace.specs.ValidPages.{BreakNoRule, names_of};
 
 use crate::items::traced_items;
 use crate::order::sort_items;
@@ -38,7 +38,7 @@ pub struct Tracer<'a> {
 
 impl<'a> Model for Tracer<'a> {
     ghost use Rattle.std.specs.Prelude.{◌≡◌, false};
-    ghost use Rattle.fact_trace.specs.Held.{Held, Keeps, held_code, sources_of};
+    ghost use Rattle.fact_trace.specs.Model.{Held, Keeps, held_code, sources_of};
 
     ghost Value = { Held };
 

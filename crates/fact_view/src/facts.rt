@@ -4,8 +4,8 @@ ghost use Rattle.ix_base.specs.Elements.{placed};
 ghost use Rattle.ix_base.specs.Kinds.{is_fact, ix_kind};
 ghost use Rattle.ix_base.specs.Readers as reader;
 ghost use Rattle.ix_base.specs.Trees.{tree_of, named};
-ghost use Rattle.ix_base.specs.Viewed as spec;
-ghost use Rattle.fact_view.specs.Seen.{seen};
+ghost use Rattle.ix_base.specs.FactViews as spec;
+ghost use Rattle.fact_view.specs.Model.{seen};
 
 use ix_base::{Element, Name, Spot, attr_of, ix_kind, token_at};
 use scopes::name_at;

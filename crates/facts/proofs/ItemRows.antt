@@ -9,7 +9,7 @@ use Rattle.ix_base.specs.Asks.{asks}
 use Rattle.ix_base.specs.Elements.{placed_at, tree_at}
 use Rattle.ix_base.specs.Kinds.{ix_rows}
 use Rattle.ix_base.specs.LinkRules.{breaking, found_at}
-use Rattle.ix_base.specs.Located.{Located, on_page}
+use Rattle.ix_base.specs.LocatedElements.{Located, on_page}
 use Rattle.ix_base.specs.declared.rule.Rule.TheVariants.{L2, L3}
 use Rattle.ix_base.specs.Namespaces.{ix_namespace, xbrli_namespace, link_namespace, xsi_namespace}
 use Rattle.ix_base.specs.NcName.{is_ncname, is_name_start, is_name_char}

@@ -10,13 +10,13 @@ use Rattle.ix_base.specs.Asks.{Asks}
 use Rattle.ix_base.specs.Chain.{chain}
 use Rattle.ix_base.specs.Elements.{Placed}
 use Rattle.ix_base.specs.Kinds.{kind_of, same_kind}
-use Rattle.ix_base.specs.Located.{Located}
+use Rattle.ix_base.specs.LocatedElements.{Located}
 use Rattle.ix_base.specs.Markup.{markup_along, plain_along}
 use Rattle.ix_base.specs.Namespaces.{xhtml_namespace}
 use Rattle.ix_base.specs.Readers.{escapes, is_nil}
 use Rattle.ix_base.specs.Trees.{Named, Tree}
-use Rattle.ix_base.specs.Viewed.{view}
-use Rattle.facts.specs.Along.{raw_along, text_along}
+use Rattle.ix_base.specs.FactViews.{view}
+use Rattle.facts.specs.ChainTexts.{raw_along, text_along}
 use Rattle.facts.specs.FractionValue.{IsFractionValue, IsPart, fraction, part_in, part_number}
 use Rattle.facts.specs.ItemValue.{ItemText, item_text, IsTextBy, IsPlain, IsValueAs, IsValueBy, IsValueOf, IsItemOf, item_with}
 use Rattle.facts.specs.NumberValue.{IsNumberValue, number_by, number_text}

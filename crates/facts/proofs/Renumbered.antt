@@ -4,14 +4,14 @@ use Rattle.ix_base.specs.declared.content.Item.{Item}
 use Rattle.ix_base.specs.declared.rule.Rule.{Rule}
 use Rattle.ix_base.specs.Asks.{asks}
 use Rattle.ix_base.specs.Chain.{chain}
-use Rattle.ix_base.specs.Located.{Located}
+use Rattle.ix_base.specs.LocatedElements.{Located}
 use Rattle.ix_base.specs.Markup.{body, body_along, plain, plain_along}
 use Rattle.ix_base.specs.Namespaces.{xhtml_namespace}
 use Rattle.ix_base.specs.Readers.{escapes}
-use Rattle.ix_base.specs.Written.{Markup, written}
+use Rattle.ix_base.specs.WrittenMarkup.{Markup, written}
 use Rattle.id_table.proofs.Renumbered.{chain-moved}
-use Rattle.id_table.specs.Moved.{moved, KeepsApart}
-use Rattle.facts.specs.Along.{raw_along, text_along}
+use Rattle.id_table.specs.Renumbering.{moved, KeepsApart}
+use Rattle.facts.specs.ChainTexts.{raw_along, text_along}
 use Rattle.facts.specs.ItemValue.{ItemText, IsItem, IsItemOf}
 use Rattle.facts.proofs.OneItem.{text-along}
 

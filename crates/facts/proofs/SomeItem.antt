@@ -12,7 +12,7 @@ use Rattle.ix_base.specs.Kinds.{kind_of}
 use Rattle.ix_base.specs.Readers.{is_nil}
 use Rattle.ix_base.specs.Token.{token_of}
 use Rattle.ix_base.specs.Trees.{Named, Tree}
-use Rattle.ix_base.specs.Viewed.{view}
+use Rattle.ix_base.specs.FactViews.{view}
 use Rattle.scale_sign.proofs.Laws.{some_number as some_scaled}
 use Rattle.facts.specs.Formats.{gives_number}
 use Rattle.facts.specs.FractionValue.{IsFractionValue, fraction, part_in, part_number}

@@ -12,7 +12,7 @@ use Rattle.ix_base.specs.Elements.{tree_at}
 use Rattle.ix_base.specs.Forms.{is_zero}
 use Rattle.ix_base.specs.Namespaces.{ix_namespace}
 use Rattle.ix_base.specs.Trees.{Nodes, none, chars, elem, Tree}
-use Rattle.ix_base.specs.Viewed.{view}
+use Rattle.ix_base.specs.FactViews.{view}
 use Rattle.facts.specs.NumberValue.{IsNumberValue, Number, number_at, number_by, own_text}
 
 -- the first element of the ix namespace that has this local name and whose nearest ix ancestor holds these nodes

@@ -11,12 +11,12 @@ use Rattle.ix_base.specs.Asks.{Asks}
 use Rattle.ix_base.specs.Chain.{chain}
 use Rattle.ix_base.specs.Elements.{Placed}
 use Rattle.ix_base.specs.Kinds.{kind_of}
-use Rattle.ix_base.specs.Located.{Located}
+use Rattle.ix_base.specs.LocatedElements.{Located}
 use Rattle.ix_base.specs.Markup.{plain_along, raw}
 use Rattle.ix_base.specs.OwnNames.{own}
-use Rattle.ix_base.specs.Readers.{fact_name, is_nil, token_at}
+use Rattle.ix_base.specs.Readers.{fact_name, is_nil, token_at, unit_of}
 use Rattle.ix_base.specs.Trees.{Named, Tree}
-use Rattle.ix_base.specs.Viewed.{view}
+use Rattle.ix_base.specs.FactViews.{view}
 use Rattle.facts.specs.Exactness.{accuracy_of}
 use Rattle.facts.specs.FractionValue.{IsFractionValue}
 use Rattle.facts.specs.NumberValue.{IsNumberValue, number_by, number_text}
@@ -54,12 +54,6 @@ IsValueBy false k text t r = IsValueAs k text t r
 
 abbrev pub IsValueOf : ItemText → Placed → Result Value Rule → Type 0
 IsValueOf text p r = IsValueBy (is_nil p.tree) (kind_of p) text p.tree r
-
--- the unit of an item: a nonNumeric has none
-abbrev pub unit_of : Kind → Tree → Option (List ℕ)
-unit_of kind.NonFraction t = token_at (codes "unitRef") t
-unit_of kind.Fraction t = token_at (codes "unitRef") t
-unit_of k t = None
 
 -- an item with a value
 abbrev pub item_with : Kind → Tree → Value → Item

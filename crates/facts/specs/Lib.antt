@@ -1,8 +1,8 @@
-pub mod Along
+pub mod ChainTexts
 pub mod Exactness
 pub mod Formats
 pub mod FractionValue
 pub mod ItemValue
 pub mod NumberValue
-pub mod Verdicts
 pub mod TextValue
+pub mod Verdicts

@@ -4,11 +4,11 @@ use Rattle.ix_base.specs.declared.rule.Rule.{Rule}
 use Rattle.ix_base.specs.declared.rule.Rule.TheVariants.{V3, V4}
 use Rattle.ix_base.specs.Decimals.{IsUnsigned}
 use Rattle.ix_base.specs.Elements.{tree_at}
-use Rattle.ix_base.specs.Holding.{is_of}
+use Rattle.ix_base.specs.ElementContent.{is_of}
 use Rattle.ix_base.specs.Namespaces.{ix_namespace}
 use Rattle.ix_base.specs.Token.{token_of}
 use Rattle.ix_base.specs.Trees.{Named, Nodes, none, chars, elem, Tree}
-use Rattle.ix_base.specs.Viewed.{View}
+use Rattle.ix_base.specs.FactViews.{View}
 use Rattle.scale_sign.specs.Scaled.{IsNumber}
 use Rattle.facts.specs.Formats.{IsFormat, Transforms, gives_number}
 use Rattle.facts.specs.TextValue.{IsTransformed}

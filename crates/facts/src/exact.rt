@@ -4,7 +4,8 @@ ghost use Rattle.ix_base.specs.Forms as form;
 ghost use Rattle.ix_base.specs.Trees.{tree_of};
 ghost use Rattle.facts.specs.Exactness as spec;
 
-use ix_base::{Accuracy, Element, Kind, NoMemory, Text, attr_of, has_minus, token};
+use ix_base::{Accuracy, Element, Kind, NoMemory, Text, attr_of, token};
+use scale_sign::has_minus;
 use std::alloc::Global;
 use value_forms::{is_nil, without_sign};
 

@@ -1,4 +1,4 @@
-//! Why an item says nothing.
+//! The faults of items.
 
 use ix_base::{NoMemory, Rule};
 use thiserror::Error;

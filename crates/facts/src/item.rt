@@ -3,14 +3,14 @@ ghost use Rattle.std.specs.Prelude.{◌≡◌, ◌<◌, [], true, All, codes, le
 ghost use Rattle.ix_base.specs.Asks.{Asks};
 ghost use Rattle.ix_base.specs.Chain as chains;
 ghost use Rattle.ix_base.specs.Elements.{place_of, placed};
-ghost use Rattle.ix_base.specs.Located.{Located, located, base_in, is_kind};
+ghost use Rattle.ix_base.specs.LocatedElements.{Located, located, base_in, is_kind};
 ghost use Rattle.ix_base.specs.Markup.{plain_along};
 ghost use Rattle.ix_base.specs.Readers as reader;
 ghost use Rattle.ix_base.specs.Spots.{IsOnOnePage};
 ghost use Rattle.ix_base.specs.Trees.{named, tree_of};
-ghost use Rattle.ix_base.specs.Viewed as viewed;
+ghost use Rattle.ix_base.specs.FactViews as viewed;
 ghost use Rattle.ix_base.specs.declared.kind.Kind.TheVariants as kinds;
-ghost use Rattle.facts.specs.Along.{raw_along, text_along};
+ghost use Rattle.facts.specs.ChainTexts.{raw_along, text_along};
 ghost use Rattle.facts.specs.ItemValue as spec;
 ghost use Rattle.facts.specs.NumberValue as numbers;
 ghost use Rattle.facts.specs.Verdicts.{as_plain, said};
@@ -180,7 +180,7 @@ fn context_of(alloc: Global, e: &Element<'_>) -> Result<Text, NoMemory>
 
 /// The id of the unit of an item of this kind.
 fn unit_of(alloc: Global, kind: Kind, e: &Element<'_>) -> Result<Option<Text>, NoMemory>
-    ensures { IfOk result (λ o. o ≡ spec.unit_of kind (tree_of e.now)) }
+    ensures { IfOk result (λ o. o ≡ reader.unit_of kind (tree_of e.now)) }
 {
     match kind {
         Kind::NonFraction | Kind::Fraction => own_token(alloc, e, "unitRef"),
@@ -191,7 +191,7 @@ fn unit_of(alloc: Global, kind: Kind, e: &Element<'_>) -> Result<Option<Text>, N
 /// The ids of the context and of the unit of an item of this kind.
 fn refs_in(alloc: Global, kind: Kind, e: &Element<'_>) -> Result<(Text, Option<Text>), NoMemory>
     ensures { IfOk result (λ refs. (refs.0 ≡ unwrap_or (reader.token_at (codes "contextRef") (tree_of e.now)) [])
-        × (refs.1 ≡ spec.unit_of kind (tree_of e.now))) }
+        × (refs.1 ≡ reader.unit_of kind (tree_of e.now))) }
 {
     let context = context_of(alloc, e)?;
     let unit = unit_of(alloc, kind, e)?;

@@ -1,11 +1,11 @@
 //! Laws of what items say.
 ghost use Rattle.std.specs.Prelude.{◌≡◌, ℕ, List, Result, map};
 ghost use Rattle.ix_base.specs.Asks.{Asks, asks};
-ghost use Rattle.ix_base.specs.Located.{Located};
+ghost use Rattle.ix_base.specs.LocatedElements.{Located};
 ghost use Rattle.ix_base.specs.Trees.{Named};
 ghost use Rattle.ix_base.specs.declared.content.Item.{Item};
 ghost use Rattle.ix_base.specs.declared.rule.Rule.{Rule};
-ghost use Rattle.id_table.specs.Moved.{moved, KeepsApart};
+ghost use Rattle.id_table.specs.Renumbering.{moved, KeepsApart};
 ghost use Rattle.facts.specs.ItemValue.{IsItem};
 ghost use Rattle.facts.specs.NumberValue.{IsNumberValue, Number};
 ghost use Rattle.facts.specs.TextValue.{IsTransformed};

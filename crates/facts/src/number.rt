@@ -1,10 +1,10 @@
 //! The values of numbers.
 ghost use Rattle.std.specs.Prelude.{◌≡◌, ◌+◌, ◌≤◌, Some, None, IfOk, IfSome, codes, length, option_map, unsigned_abs, unwrap_or};
 ghost use Rattle.ix_base.specs.Decimals.{IsUnsigned};
-ghost use Rattle.ix_base.specs.Holding.{is_of};
+ghost use Rattle.ix_base.specs.ElementContent.{is_of};
 ghost use Rattle.ix_base.specs.Namespaces.{ix_namespace};
 ghost use Rattle.ix_base.specs.Trees.{named, nodes_of, tree_of};
-ghost use Rattle.ix_base.specs.Viewed as viewed;
+ghost use Rattle.ix_base.specs.FactViews as viewed;
 ghost use Rattle.ix_base.specs.declared.limits.TheConstants.{LARGEST_SCALE};
 ghost use Rattle.scale_sign.specs.Scaled.{IsNumber};
 ghost use Rattle.facts.specs.NumberValue as spec;

@@ -7,34 +7,34 @@ use Rattle.ix_base.proofs.FrontLemmas.{Grows, grows-more, grows-front, front-fir
 use Rattle.ix_base.specs.Asks.{Asks, asks}
 use Rattle.ix_base.specs.Fronts.{AppendsFront}
 use Rattle.ix_base.specs.LinkRules.{breaking, broken_at, breaks_link, found_at, is_relationship}
-use Rattle.ix_base.specs.Located.{Located}
+use Rattle.ix_base.specs.LocatedElements.{Located}
 use Rattle.ix_base.specs.Rows.{row}
 use Rattle.ix_base.specs.declared.breach.Found.{Found}
 use Rattle.id_table.proofs.RowLemmas.{flat_map-next}
-use Rattle.footnotes.specs.declared.relation.Relation.{Relation}
+use Rattle.footnotes.specs.declared.relationships.Relationship.{Relationship}
 use Rattle.footnotes.specs.declared.rules.Test.{Test}
 use Rattle.footnotes.specs.declared.rules.Test.TheVariants as test
-use Rattle.footnotes.specs.Known.{all_seen, seen}
+use Rattle.footnotes.specs.NamedEnds.{all_seen, seen}
 use Rattle.footnotes.specs.Tests.{relationship_rule}
 
 -- the breaches of a rule by the relationships from this index on
-abbrev pub from_on : Asks Located → Test → List Relation → ℕ → List Found
-from_on a t relations i = flat_map (broken_at a (relationship_rule t)) (all_seen (drop i relations))
+abbrev pub from_on : Asks Located → Test → List Relationship → ℕ → List Found
+from_on a t relationships i = flat_map (broken_at a (relationship_rule t)) (all_seen (drop i relationships))
 
--- those of one more relation were added
-pub one-more : (a : Asks Located) (t : Test) (relations : List Relation) (i : ℕ) (relation : Relation) (old now new all : List Found)
-    → i < length relations → relation ≡ get_or relations i relation → Grows old now (from_on a t relations i) all → new ≡ now ++ broken_at a (relationship_rule t) (seen relation)
-    → Grows old new (from_on a t relations (i + 1)) all
-one-more a t relations i relation old now new all h e g n =
-    grows-more old now new (broken_at a (relationship_rule t) (seen relation)) _ (from_on a t relations (i + 1)) all g
-    (flat_map-next (broken_at a (relationship_rule t)) seen relations i relation h e) n
+-- those of one more relationship were added
+pub one-more : (a : Asks Located) (t : Test) (relationships : List Relationship) (i : ℕ) (relationship : Relationship) (old now new all : List Found)
+    → i < length relationships → relationship ≡ get_or relationships i relationship → Grows old now (from_on a t relationships i) all → new ≡ now ++ broken_at a (relationship_rule t) (seen relationship)
+    → Grows old new (from_on a t relationships (i + 1)) all
+one-more a t relationships i relationship old now new all h e g n =
+    grows-more old now new (broken_at a (relationship_rule t) (seen relationship)) _ (from_on a t relationships (i + 1)) all g
+    (flat_map-next (broken_at a (relationship_rule t)) seen relationships i relationship h e) n
 
--- those of the next relation weren't added
-pub no-more : (a : Asks Located) (t : Test) (relations : List Relation) (i : ℕ) (relation : Relation) (old now new all : List Found)
-    → i < length relations → relation ≡ get_or relations i relation → Grows old now (from_on a t relations i) all → new ≡ now → AppendsFront all old new
-no-more a t relations i relation old now new all h e g n =
-    grows-front old now new (broken_at a (relationship_rule t) (seen relation)) _ (from_on a t relations (i + 1)) all g
-    (flat_map-next (broken_at a (relationship_rule t)) seen relations i relation h e) (front-none _ _ _ n)
+-- those of the next relationship weren't added
+pub no-more : (a : Asks Located) (t : Test) (relationships : List Relationship) (i : ℕ) (relationship : Relationship) (old now new all : List Found)
+    → i < length relationships → relationship ≡ get_or relationships i relationship → Grows old now (from_on a t relationships i) all → new ≡ now → AppendsFront all old new
+no-more a t relationships i relationship old now new all h e g n =
+    grows-front old now new (broken_at a (relationship_rule t) (seen relationship)) _ (from_on a t relationships (i + 1)) all g
+    (flat_map-next (broken_at a (relationship_rule t)) seen relationships i relationship h e) (front-none _ _ _ n)
 
 and-left : (b c : Bool) → b ≡ false → (b && c) ≡ false
 and-left true c h = absurd (cc)
@@ -59,8 +59,8 @@ by-relationships : (a : Asks Located) (t : Test) (es : List Located) → flat_ma
 by-relationships a t [] = refl
 by-relationships a t (e ∷ es) = next a t e es (is_relationship e) refl (by-relationships a t es)
 
-pub all-left : (t : Test) (es : List Located) (relations : List Relation) → all_seen relations ≡ filter is_relationship es → from_on (asks es) t relations 0 ≡ breaking (relationship_rule t) es
-all-left t es relations e = ap (flat_map (broken_at (asks es) (relationship_rule t))) e ∙ by-relationships (asks es) t es
+pub all-left : (t : Test) (es : List Located) (relationships : List Relationship) → all_seen relationships ≡ filter is_relationship es → from_on (asks es) t relationships 0 ≡ breaking (relationship_rule t) es
+all-left t es relationships e = ap (flat_map (broken_at (asks es) (relationship_rule t))) e ∙ by-relationships (asks es) t es
 
 -- what was added part by part
 joined : (old now new part more : List Found) → now ≡ old ++ part → new ≡ now ++ more → new ≡ old ++ (part ++ more)

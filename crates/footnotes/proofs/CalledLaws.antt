@@ -6,12 +6,12 @@ use Rattle.std.specs.Borrow.{Bor}
 use Rattle.std.specs.List.{All, Contains, filter_map}
 use Rattle.std.specs.Prelude.{bytes_eq, if◌then◌else◌}
 use Rattle.ix_base.specs.declared.tree.Spot.{Spot}
-use Rattle.ix_base.specs.Located.{Located, located}
+use Rattle.ix_base.specs.LocatedElements.{Located, located}
 use Rattle.ix_base.proofs.OnceLemmas.{Contains-nil, Contains-cases}
 use Rattle.id_table.specs.Tables.{all_located}
-use Rattle.continuations.proofs.SliceLaws.{located-take}
+use Rattle.id_table.proofs.RowLemmas.{located-take}
 use Rattle.footnotes.specs.FootnoteLinks.{label}
-use Rattle.footnotes.specs.Linked.{last_called}
+use Rattle.footnotes.specs.ArcLinks.{last_called}
 
 last-more : (id : List ℕ) (xs : List Located) (e : Located) (found : Option Located)
     → last_called id (xs ++ e ∷ []) found ≡ (if bytes_eq id (label e) then Some e else last_called id xs found)

@@ -7,11 +7,11 @@ use Rattle.std.specs.Prelude.{IfSome}
 use Rattle.ix_base.specs.Asks.{asks}
 use Rattle.ix_base.specs.Chain.{chain, chain_of, continuation, continued_at, next}
 use Rattle.ix_base.specs.Ids.{one_such}
-use Rattle.ix_base.specs.Located.{Located, is_continuation}
+use Rattle.ix_base.specs.LocatedElements.{Located, is_continuation}
 use Rattle.ix_base.proofs.OnceLemmas.{Contains-first, Contains-later}
-use Rattle.continuations.specs.Kept.{AreChainsOf}
-use Rattle.continuations.specs.Slices.{first_start, starts_at}
-use Rattle.footnotes.specs.Kept.{AreOnPages}
+use Rattle.continuations.specs.Model.{AreChainsOf}
+use Rattle.continuations.specs.ChainStarts.{first_start, starts_at}
+use Rattle.footnotes.specs.Model.{AreOnPages}
 use Rattle.footnotes.proofs.NoteLaws.{named-is}
 
 next-among : (es : List Located) (o : Option (List ℕ)) → IfSome (option_and_then (continuation (asks es)) o) (Contains es)

@@ -8,10 +8,10 @@ use Rattle.std.specs.List.{cons_option, filter, filter_map, find, list_any}
 use Rattle.ix_base.specs.Asks.{Asks, if_such}
 use Rattle.ix_base.specs.Ids.{one_such, sole}
 use Rattle.ix_base.specs.LinkRules.{are_any, goes_to_nothing, is_end, is_footnote, is_relationship, named_by, same_target, target_of, to_ids}
-use Rattle.ix_base.specs.Located.{Located, is_fact}
+use Rattle.ix_base.specs.LocatedElements.{Located, is_fact}
 use Rattle.id_table.specs.Tables.{all_located}
-use Rattle.footnotes.specs.declared.relation.Relation.{Relation}
-use Rattle.footnotes.specs.Known.{seen, IsKnown}
+use Rattle.footnotes.specs.declared.relationships.Relationship.{Relationship}
+use Rattle.footnotes.specs.NamedEnds.{seen, IsKnown}
 
 -- one more id
 cons-nil : {Y : Type 0} (o : Option Y) → cons_option o [] ≡ option_to_list o
@@ -188,7 +188,7 @@ targets-none a to ends b e f =
     sym (ap (λ c. c && b) none)
 
 -- L15 of a relationship, from what stands with it
-pub ends-break : (a : Asks Located) (r : Relation) (b : Bool) → IsKnown a r → is_relationship (seen r) ≡ true
+pub ends-break : (a : Asks Located) (r : Relationship) (b : Bool) → IsKnown a r → is_relationship (seen r) ≡ true
     → b ≡ (is_some (find is_fact (all_located r.ends.spots.now)) && list_any is_footnote (all_located r.ends.spots.now))
     → (r.ends.is_missing || b) ≡ goes_to_nothing a (seen r)
 ends-break a r b k is e =

@@ -3,7 +3,7 @@ pub mod BelowLaws
 pub mod CalledLaws
 pub mod ChainLaws
 pub mod EndLaws
-pub mod FanLaws
+pub mod GroupLaws
 pub mod LangLaws
 pub mod LinkLaws
 mod LinkRows

@@ -1,4 +1,4 @@
--- Lists that are made of fans, part by part.
+-- Lists that are made of groups, part by part.
 use Rattle.std.proofs.Common.{◌≡◌, ◌∙◌, ◌++◌, ◌+◌, ◌<◌, ℕ, List, [], ◌∷◌, length, take, get_or, map, sym, ap, append_assoc}
 use Rattle.std.proofs.lemmas.List.{take_more, map-append}
 use Rattle.std.proofs.lemmas.List.Concat.{flat_map-append}
@@ -6,13 +6,13 @@ use Rattle.std.proofs.lemmas.List.Elements.{filter-append}
 use Rattle.std.specs.Borrow.{Bor}
 use Rattle.std.specs.List.{filter}
 use Rattle.ix_base.specs.LinkRules.{is_footnote}
-use Rattle.ix_base.specs.Located.{Located, located, is_fact}
+use Rattle.ix_base.specs.LocatedElements.{Located, located, is_fact}
 use Rattle.ix_base.specs.declared.tree.Spot.{Spot}
 use Rattle.id_table.specs.Tables.{all_located}
-use Rattle.footnotes.specs.declared.fans.Fan.{Fan}
-use Rattle.footnotes.specs.Fans.{arc_to, arcs_along, fan_arcs}
+use Rattle.footnotes.specs.declared.arcs.ArcGroup.{ArcGroup}
+use Rattle.footnotes.specs.ArcGroups.{arc_to, arcs_along, group_arcs}
 use Rattle.footnotes.specs.FootnoteLinks.{Between, ends, label}
-use Rattle.footnotes.specs.Linked.{noted}
+use Rattle.footnotes.specs.ArcLinks.{end_footnotes}
 
 -- what is made of a list is made of its parts
 abbrev pub Joins : {X Y : Type 0} → (List X → List Y) → Type 0
@@ -32,16 +32,16 @@ pub step-from : {X Y : Type 0} (f : List X → List Y) → Joins f → (xs : Lis
 step-from f j xs i x h e old now new n m =
     m ∙ ap (λ l. l ++ f (x ∷ [])) n ∙ append_assoc old (f (take i xs)) (f (x ∷ [])) ∙ ap (λ l. old ++ l) (sym (step f j xs i x h e))
 
--- the arcs of a fan to some ends
-abbrev pub arcs_to : Fan → List (Bor Spot) → List Between
+-- the arcs of a group to some ends
+abbrev pub arcs_to : ArcGroup → List (Bor Spot) → List Between
 arcs_to f ss = map (arc_to f) (all_located ss)
 
-arcs_to-joins : (f : Fan) → Joins (arcs_to f)
+arcs_to-joins : (f : ArcGroup) → Joins (arcs_to f)
 arcs_to-joins f xs ys =
     ap (map (arc_to f)) (map-append (λ (s : Bor Spot). located s.now) xs ys) ∙ map-append (arc_to f) (all_located xs) (all_located ys)
 
 arcs-joins : Joins arcs_along
-arcs-joins xs ys = flat_map-append fan_arcs xs ys
+arcs-joins xs ys = flat_map-append group_arcs xs ys
 
 -- one joining list of another
 both-join : {X Y Z : Type 0} (f : List X → List Y) (g : List Y → List Z) → Joins f → Joins g → Joins (λ xs. g (f xs))
@@ -55,38 +55,38 @@ ids-join xs ys =
     ap (λ l. map label (filter is_fact l)) (flat_map-append (λ (x : Between). x.from ∷ x.to ∷ []) xs ys)
     ∙ ap (map label) (filter-append is_fact (ends xs) (ends ys)) ∙ map-append label (filter is_fact (ends xs)) (filter is_fact (ends ys))
 
-noted-joins : Joins noted
-noted-joins xs ys = ap (filter is_footnote) (map-append (λ (x : Between). x.to) xs ys) ∙ filter-append is_footnote (map (λ x. x.to) xs) (map (λ x. x.to) ys)
+end_footnotes-joins : Joins end_footnotes
+end_footnotes-joins xs ys = ap (filter is_footnote) (map-append (λ (x : Between). x.to) xs ys) ∙ filter-append is_footnote (map (λ x. x.to) xs) (map (λ x. x.to) ys)
 
--- the ids of facts at the arcs of a fan to some ends
-abbrev pub facts_to : Fan → List (Bor Spot) → List (List ℕ)
+-- the ids of facts at the arcs of a group to some ends
+abbrev pub facts_to : ArcGroup → List (Bor Spot) → List (List ℕ)
 facts_to f ss = ids_of (arcs_to f ss)
 
-pub facts_to-joins : (f : Fan) → Joins (facts_to f)
+pub facts_to-joins : (f : ArcGroup) → Joins (facts_to f)
 facts_to-joins f = both-join (arcs_to f) ids_of (arcs_to-joins f) ids-join
 
--- those at the arcs of some fans
-abbrev pub facts_along : List Fan → List (List ℕ)
-facts_along fans = ids_of (arcs_along fans)
+-- those at the arcs of some groups
+abbrev pub facts_along : List ArcGroup → List (List ℕ)
+facts_along groups = ids_of (arcs_along groups)
 
 pub facts_along-joins : Joins facts_along
 facts_along-joins = both-join arcs_along ids_of arcs-joins ids-join
 
--- the footnotes among some ends of a fan
-abbrev pub notes_to : Fan → List (Bor Spot) → List Located
-notes_to f ss = noted (arcs_to f ss)
+-- the footnotes among some ends of a group
+abbrev pub notes_to : ArcGroup → List (Bor Spot) → List Located
+notes_to f ss = end_footnotes (arcs_to f ss)
 
-pub notes_to-joins : (f : Fan) → Joins (notes_to f)
-notes_to-joins f = both-join (arcs_to f) noted (arcs_to-joins f) noted-joins
+pub notes_to-joins : (f : ArcGroup) → Joins (notes_to f)
+notes_to-joins f = both-join (arcs_to f) end_footnotes (arcs_to-joins f) end_footnotes-joins
 
-pub notes_along-joins : Joins (λ fans. noted (arcs_along fans))
-notes_along-joins = both-join arcs_along noted arcs-joins noted-joins
+pub notes_along-joins : Joins (λ groups. end_footnotes (arcs_along groups))
+notes_along-joins = both-join arcs_along end_footnotes arcs-joins end_footnotes-joins
 
-pub drawn_to-joins : (f : Fan) → Joins (λ ss. map (λ (x : Between). x.arc) (arcs_to f ss))
-drawn_to-joins f = both-join (arcs_to f) (map (λ (x : Between). x.arc)) (arcs_to-joins f) (map-append (λ (x : Between). x.arc))
+pub arc_list_to-joins : (f : ArcGroup) → Joins (λ ss. map (λ (x : Between). x.arc) (arcs_to f ss))
+arc_list_to-joins f = both-join (arcs_to f) (map (λ (x : Between). x.arc)) (arcs_to-joins f) (map-append (λ (x : Between). x.arc))
 
-pub drawn_along-joins : Joins (λ fans. map (λ (x : Between). x.arc) (arcs_along fans))
-drawn_along-joins = both-join arcs_along (map (λ (x : Between). x.arc)) arcs-joins (map-append (λ (x : Between). x.arc))
+pub arc_list_along-joins : Joins (λ groups. map (λ (x : Between). x.arc) (arcs_along groups))
+arc_list_along-joins = both-join arcs_along (map (λ (x : Between). x.arc)) arcs-joins (map-append (λ (x : Between). x.arc))
 
 -- the two ends of an arc, one after the other
 pub two-facts : (x y : Located) (old now new : List (List ℕ)) → now ≡ old ++ map label (filter is_fact (x ∷ [])) → new ≡ now ++ map label (filter is_fact (y ∷ []))

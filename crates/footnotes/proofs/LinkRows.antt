@@ -4,10 +4,10 @@ use Rattle.std.specs.Prelude.{codes}
 use Rattle.ix_base.specs.declared.rule.Rule.TheVariants.{L11, L15, L16}
 use Rattle.ix_base.specs.Kinds.{ix_rows, reference_rows, role_rows, part_rows}
 use Rattle.ix_base.specs.LinkRules.{broken}
-use Rattle.ix_base.specs.Located.{Paged, marked}
+use Rattle.ix_base.specs.LocatedElements.{Paged, marked}
 use Rattle.ix_base.specs.Namespaces.{xhtml_namespace, ix_namespace, xbrli_namespace, link_namespace, xlink_namespace, xsi_namespace, xml_namespace}
 use Rattle.ix_base.specs.Once.{in_order}
-use Rattle.ix_base.specs.Sorted.{sorted}
+use Rattle.ix_base.specs.SortedLists.{sorted}
 use Rattle.ix_base.specs.Token.{token_of, is_token}
 use Rattle.ix_base.specs.Trees.{none, chars}
 use Rattle.footnotes.specs.FootnoteLinks.{canonical_order, notes}
@@ -38,18 +38,18 @@ unfolding ix_rows reference_rows role_rows part_rows token_of is_token ix_namesp
 an_arc_between_facts = refl
 
 -- a relationship from facts of two targets to a footnote that goes on elsewhere
-abbrev noted : Paged
-noted = page (codes "a.html") xhtml_namespace 0 (codes "html") [] (tag xhtml_namespace 431 (codes "body") [] (tag ix_namespace 437 (codes "header") [] (tag ix_namespace 448 (codes "references") [] (tag link_namespace 463 (codes "schemaRef") (attr_in xlink_namespace (codes "type") (codes "simple") ∷ attr_in xlink_namespace (codes "href") (codes "e.xsd") ∷ []) none none) (tag ix_namespace 535 (codes "references") (attr (codes "target") (codes "x") ∷ []) (tag link_namespace 561 (codes "schemaRef") (attr_in xlink_namespace (codes "type") (codes "simple") ∷ attr_in xlink_namespace (codes "href") (codes "x.xsd") ∷ []) none none) (tag ix_namespace 633 (codes "resources") [] (tag xbrli_namespace 647 (codes "context") (attr (codes "id") (codes "c1") ∷ []) (tag xbrli_namespace 670 (codes "entity") [] (tag xbrli_namespace 684 (codes "identifier") (attr (codes "scheme") (codes "http://example.com/ids") ∷ []) (chars (codes "42") none) none) (tag xbrli_namespace 770 (codes "period") [] (tag xbrli_namespace 784 (codes "instant") [] (chars (codes "2023-12-31") none) none) none)) (tag xbrli_namespace 856 (codes "unit") (attr (codes "id") (codes "u1") ∷ []) (tag xbrli_namespace 876 (codes "measure") [] (chars (codes "iso4217:EUR") none) none) (tag ix_namespace 931 (codes "relationship") (attr (codes "fromRefs") (codes "f1 f2") ∷ attr (codes "toRefs") (codes "n1") ∷ []) none none))) none))) (tag ix_namespace 1005 (codes "nonNumeric") (attr (codes "name") (codes "e:A") ∷ attr (codes "contextRef") (codes "c1") ∷ attr (codes "id") (codes "f1") ∷ []) (chars (codes "x") none) (tag ix_namespace 1072 (codes "nonNumeric") (attr (codes "name") (codes "e:A") ∷ attr (codes "contextRef") (codes "c1") ∷ attr (codes "id") (codes "f2") ∷ attr (codes "target") (codes "x") ∷ []) (chars (codes "y") none) (tag ix_namespace 1150 (codes "footnote") (attr (codes "id") (codes "n1") ∷ attr_in xml_namespace (codes "lang") (codes "en") ∷ attr (codes "continuedAt") (codes "k") ∷ []) (chars (codes "See ") (tag xhtml_namespace 1205 (codes "b") [] (chars (codes "here") none) none)) (tag ix_namespace 1230 (codes "continuation") (attr (codes "id") (codes "k") ∷ []) (chars (codes ".") none) (tag ix_namespace 1273 (codes "footnote") (attr (codes "id") (codes "n2") ∷ attr_in xml_namespace (codes "lang") (codes "en") ∷ []) (chars (codes "no") none) none)))))) none)
+abbrev with_footnote : Paged
+with_footnote = page (codes "a.html") xhtml_namespace 0 (codes "html") [] (tag xhtml_namespace 431 (codes "body") [] (tag ix_namespace 437 (codes "header") [] (tag ix_namespace 448 (codes "references") [] (tag link_namespace 463 (codes "schemaRef") (attr_in xlink_namespace (codes "type") (codes "simple") ∷ attr_in xlink_namespace (codes "href") (codes "e.xsd") ∷ []) none none) (tag ix_namespace 535 (codes "references") (attr (codes "target") (codes "x") ∷ []) (tag link_namespace 561 (codes "schemaRef") (attr_in xlink_namespace (codes "type") (codes "simple") ∷ attr_in xlink_namespace (codes "href") (codes "x.xsd") ∷ []) none none) (tag ix_namespace 633 (codes "resources") [] (tag xbrli_namespace 647 (codes "context") (attr (codes "id") (codes "c1") ∷ []) (tag xbrli_namespace 670 (codes "entity") [] (tag xbrli_namespace 684 (codes "identifier") (attr (codes "scheme") (codes "http://example.com/ids") ∷ []) (chars (codes "42") none) none) (tag xbrli_namespace 770 (codes "period") [] (tag xbrli_namespace 784 (codes "instant") [] (chars (codes "2023-12-31") none) none) none)) (tag xbrli_namespace 856 (codes "unit") (attr (codes "id") (codes "u1") ∷ []) (tag xbrli_namespace 876 (codes "measure") [] (chars (codes "iso4217:EUR") none) none) (tag ix_namespace 931 (codes "relationship") (attr (codes "fromRefs") (codes "f1 f2") ∷ attr (codes "toRefs") (codes "n1") ∷ []) none none))) none))) (tag ix_namespace 1005 (codes "nonNumeric") (attr (codes "name") (codes "e:A") ∷ attr (codes "contextRef") (codes "c1") ∷ attr (codes "id") (codes "f1") ∷ []) (chars (codes "x") none) (tag ix_namespace 1072 (codes "nonNumeric") (attr (codes "name") (codes "e:A") ∷ attr (codes "contextRef") (codes "c1") ∷ attr (codes "id") (codes "f2") ∷ attr (codes "target") (codes "x") ∷ []) (chars (codes "y") none) (tag ix_namespace 1150 (codes "footnote") (attr (codes "id") (codes "n1") ∷ attr_in xml_namespace (codes "lang") (codes "en") ∷ attr (codes "continuedAt") (codes "k") ∷ []) (chars (codes "See ") (tag xhtml_namespace 1205 (codes "b") [] (chars (codes "here") none) none)) (tag ix_namespace 1230 (codes "continuation") (attr (codes "id") (codes "k") ∷ []) (chars (codes ".") none) (tag ix_namespace 1273 (codes "footnote") (attr (codes "id") (codes "n2") ∷ attr_in xml_namespace (codes "lang") (codes "en") ∷ []) (chars (codes "no") none) none)))))) none)
 
-a_footnote_goes_on : notes no_bases (marked (noted ∷ [])) [] ≡ record { role = link; locs = codes "f1" ∷ []; footnotes = record { id = codes "n1"; role = footnote; title = None; lang = codes "en"; body = codes "See <b xmlns=\"http://www.w3.org/1999/xhtml\">here</b>." } ∷ []; arcs = record { arcrole = fact_footnote; from_id = codes "f1"; to_id = codes "n1"; order = codes "1" } ∷ [] } ∷ []
+a_footnote_goes_on : notes no_bases (marked (with_footnote ∷ [])) [] ≡ record { role = link; locs = codes "f1" ∷ []; footnotes = record { id = codes "n1"; role = footnote; title = None; lang = codes "en"; body = codes "See <b xmlns=\"http://www.w3.org/1999/xhtml\">here</b>." } ∷ []; arcs = record { arcrole = fact_footnote; from_id = codes "f1"; to_id = codes "n1"; order = codes "1" } ∷ [] } ∷ []
 unfolding ix_rows reference_rows role_rows part_rows token_of is_token ix_namespace xbrli_namespace link_namespace xhtml_namespace xlink_namespace xsi_namespace xml_namespace sorted in_order
 a_footnote_goes_on = refl
 
-the_same_in_another_target : notes no_bases (marked (noted ∷ [])) (codes "x") ≡ record { role = link; locs = codes "f2" ∷ []; footnotes = record { id = codes "n1"; role = footnote; title = None; lang = codes "en"; body = codes "See <b xmlns=\"http://www.w3.org/1999/xhtml\">here</b>." } ∷ []; arcs = record { arcrole = fact_footnote; from_id = codes "f2"; to_id = codes "n1"; order = codes "1" } ∷ [] } ∷ []
+the_same_in_another_target : notes no_bases (marked (with_footnote ∷ [])) (codes "x") ≡ record { role = link; locs = codes "f2" ∷ []; footnotes = record { id = codes "n1"; role = footnote; title = None; lang = codes "en"; body = codes "See <b xmlns=\"http://www.w3.org/1999/xhtml\">here</b>." } ∷ []; arcs = record { arcrole = fact_footnote; from_id = codes "f2"; to_id = codes "n1"; order = codes "1" } ∷ [] } ∷ []
 unfolding ix_rows reference_rows role_rows part_rows token_of is_token ix_namespace xbrli_namespace link_namespace xhtml_namespace xlink_namespace xsi_namespace xml_namespace sorted in_order
 the_same_in_another_target = refl
 
-no_rule_is_broken : broken no_bases (marked (noted ∷ [])) ≡ []
+no_rule_is_broken : broken no_bases (marked (with_footnote ∷ [])) ≡ []
 unfolding ix_rows reference_rows role_rows part_rows token_of is_token ix_namespace xbrli_namespace link_namespace xhtml_namespace xlink_namespace xsi_namespace xml_namespace sorted in_order
 no_rule_is_broken = refl
 

@@ -7,9 +7,9 @@ use Rattle.std.specs.List.{Contains, filter, find, list_any}
 use Rattle.std.proofs.lemmas.List.Elements.{Contains-append_right}
 use Rattle.ix_base.proofs.OnceLemmas.{Contains-first, Contains-from_filter}
 use Rattle.ix_base.specs.LinkRules.{is_relationship}
-use Rattle.footnotes.specs.declared.relation.Relation.{Relation}
-use Rattle.footnotes.specs.Known.{all_seen, seen}
-use Rattle.ix_base.specs.Located.{Located, located}
+use Rattle.footnotes.specs.declared.relationships.Relationship.{Relationship}
+use Rattle.footnotes.specs.NamedEnds.{all_seen, seen}
+use Rattle.ix_base.specs.LocatedElements.{Located, located}
 use Rattle.ix_base.specs.declared.tree.Spot.{Spot}
 use Rattle.id_table.specs.Tables.{all_located}
 use Rattle.footnotes.proofs.EndLaws.{any-append}
@@ -67,7 +67,7 @@ passes-at p xs i x h e t =
     ∙ or-mid (p (located x.now)) (list_any p (all_located (take i xs))) _ t
 
 -- a relationship among those that were found is one
-pub seen-at : (xs : List Relation) (es : List Located) (i : ℕ) (x : Relation) → all_seen xs ≡ filter is_relationship es → i < length xs → x ≡ get_or xs i x
+pub seen-at : (xs : List Relationship) (es : List Located) (i : ℕ) (x : Relationship) → all_seen xs ≡ filter is_relationship es → i < length xs → x ≡ get_or xs i x
     → is_relationship (seen x) ≡ true
 seen-at xs es i x s h e =
     let there : Contains (all_seen (take i xs) ++ seen x ∷ all_seen (drop (i + 1) xs)) (seen x) =

@@ -4,7 +4,7 @@ use Rattle.std.proofs.lemmas.List.{map-append, take_more}
 use Rattle.std.proofs.lemmas.List.Elements.{filter_map-append}
 use Rattle.std.specs.Borrow.{Bor}
 use Rattle.std.specs.List.{filter_map, list_any}
-use Rattle.footnotes.specs.Linked.{texts_of}
+use Rattle.footnotes.specs.ArcLinks.{texts_of}
 use Rattle.footnotes.proofs.EndLaws.{any-append}
 use Rattle.footnotes.proofs.LinkLaws.{Joins}
 

@@ -14,16 +14,16 @@ use Rattle.ix_base.specs.Ids.{holds_id, id_of, one_such, sole}
 use Rattle.ix_base.specs.Kinds as kinds
 use Rattle.ix_base.specs.Kinds.{kind_of, same_kind}
 use Rattle.ix_base.specs.LinkRules.{from_ids, is_end, is_footnote, is_relationship, named_by, target_of, to_ids}
-use Rattle.ix_base.specs.Located.{Located, is_fact, is_kind, is_start, is_text}
+use Rattle.ix_base.specs.LocatedElements.{Located, is_fact, is_kind, is_start, is_text}
 use Rattle.ix_base.specs.Once.{in_order}
-use Rattle.ix_base.specs.Sorted.{text_cmp}
+use Rattle.ix_base.specs.SortedLists.{text_cmp}
 use Rattle.ix_base.proofs.OnceLemmas.{Contains-first, Contains-from_filter, Contains-later, in_order-members}
-use Rattle.continuations.specs.Kept.{AreChainsOf}
+use Rattle.continuations.specs.Model.{AreChainsOf}
 use Rattle.continuations.proofs.HeadLaws.{chain_at-start}
 use Rattle.ix_base.proofs.OnceOrdered.{same_text}
 use Rattle.footnotes.specs.FootnoteLinks.{Between, arcs_by, arcs_in, between, ends, footnote_along, footnote_of, label, link_of, notes, sources}
-use Rattle.footnotes.specs.Kept.{arcs_at, AreRelationsOf, StandApart}
-use Rattle.footnotes.specs.Linked.{chain_kept, last_called, link_by, links_by, note_in, noted}
+use Rattle.footnotes.specs.Model.{arcs_at, AreRelationsOf, StandApart}
+use Rattle.footnotes.specs.ArcLinks.{chain_kept, last_called, link_by, links_by, note_in, end_footnotes}
 use Rattle.footnotes.proofs.CalledLaws.{last-there}
 use Rattle.footnotes.proofs.RoleLaws.{map-same}
 
@@ -131,7 +131,7 @@ no-note kind.ArcroleRef h = refl
 no-note kind.Other h = refl
 
 -- the footnotes at the ends of arcs are those to which they go
-notes-at : (es : List Located) (xs : List Between) → All (Arises es) xs → filter is_footnote (ends xs) ≡ noted xs
+notes-at : (es : List Located) (xs : List Between) → All (Arises es) xs → filter is_footnote (ends xs) ≡ end_footnotes xs
 notes-at es [] h = refl
 notes-at es (x ∷ xs) h =
     ap (λ b. cond b (x.from ∷ cond (is_footnote x.to) (x.to ∷ filter is_footnote (ends xs)) (filter is_footnote (ends xs)))
@@ -143,11 +143,11 @@ pub record IsNote (es : List Located) (e : Located) : Type 0 where
   pub named : IsNamed es e
   pub note : is_footnote e ≡ true
 
-notes-named : (es : List Located) (xs : List Between) → All (Arises es) xs → All (IsNote es) (noted xs)
+notes-named : (es : List Located) (xs : List Between) → All (Arises es) xs → All (IsNote es) (end_footnotes xs)
 notes-named es [] h = All-nil (IsNote es)
 notes-named es (x ∷ xs) h = by_cases (is_footnote x.to) refl (All-head (Arises es) x xs h) (notes-named es xs (All-tail (Arises es) x xs h)) where
-  by_cases : (b : Bool) → is_footnote x.to ≡ b → Arises es x → All (IsNote es) (noted xs) → All (IsNote es) (cond b (x.to ∷ noted xs) (noted xs))
-  by_cases true e a rest = All-cons (IsNote es) x.to (noted xs) (record { named = a.to_named; note = e }) rest
+  by_cases : (b : Bool) → is_footnote x.to ≡ b → Arises es x → All (IsNote es) (end_footnotes xs) → All (IsNote es) (cond b (x.to ∷ end_footnotes xs) (end_footnotes xs))
+  by_cases true e a rest = All-cons (IsNote es) x.to (end_footnotes xs) (record { named = a.to_named; note = e }) rest
   by_cases false e a rest = rest
 
 -- what is made of the elements of some ids
@@ -176,22 +176,22 @@ module _ (bases : Located → List ℕ) (chains : List ((ℕ × ℕ) × List Loc
   note-is : (e : Located) → IsNote es e → note_in bases chains e ≡ footnote_of bases (asks es) e
   note-is e n = ap (λ l. footnote_along bases l e) (chain-is e n)
 
-  found-is : (id : List ℕ) (xs : List Between) → All (Arises es) xs → Contains (map label (noted xs)) id
-      → option_map (note_in bases chains) (last_called id (noted xs) None) ≡ option_map (footnote_of bases (asks es)) (one_such is_footnote (asks es) id)
+  found-is : (id : List ℕ) (xs : List Between) → All (Arises es) xs → Contains (map label (end_footnotes xs)) id
+      → option_map (note_in bases chains) (last_called id (end_footnotes xs) None) ≡ option_map (footnote_of bases (asks es)) (one_such is_footnote (asks es) id)
   found-is id xs h k =
-      let l = last-there (IsNote es) id (noted xs) (notes-named es xs h) k in
+      let l = last-there (IsNote es) id (end_footnotes xs) (notes-named es xs h) k in
       let one_is : one_such is_footnote (asks es) id ≡ Some l.0 =
       such-one is_footnote (sole (asks es) id) l.0 (ap (sole (asks es)) (sym l.3) ∙ l.2.named.one) l.2.note in
       ap (option_map (note_in bases chains)) l.1 ∙ ap Some (note-is l.0 l.2) ∙ sym (ap (option_map (footnote_of bases (asks es))) one_is)
 
   pub link-is : (role : List ℕ) (xs : List Between) → All (Arises es) xs → link_by (note_in bases chains) role xs ≡ link_of bases (asks es) role xs
   link-is role xs h =
-      let ids = in_order text_cmp (map label (noted xs)) in
-      let same : map (note_in bases chains) (filter_map (λ id. last_called id (noted xs) None) ids)
+      let ids = in_order text_cmp (map label (end_footnotes xs)) in
+      let same : map (note_in bases chains) (filter_map (λ id. last_called id (end_footnotes xs) None) ids)
       ≡ map (footnote_of bases (asks es)) (filter_map (one_such is_footnote (asks es)) ids) =
-      made-same (λ id. last_called id (noted xs) None) (one_such is_footnote (asks es)) (note_in bases chains) (footnote_of bases (asks es)) ids
-      (λ id k. found-is id xs h ((in_order-members same_text (map label (noted xs))).back id k)) in
-      let all : map (note_in bases chains) (filter_map (λ id. last_called id (noted xs) None) ids)
+      made-same (λ id. last_called id (end_footnotes xs) None) (one_such is_footnote (asks es)) (note_in bases chains) (footnote_of bases (asks es)) ids
+      (λ id k. found-is id xs h ((in_order-members same_text (map label (end_footnotes xs))).back id k)) in
+      let all : map (note_in bases chains) (filter_map (λ id. last_called id (end_footnotes xs) None) ids)
       ≡ map (footnote_of bases (asks es)) (filter_map (one_such is_footnote (asks es)) (in_order text_cmp (map label (filter is_footnote (ends xs))))) =
       same ∙ ap (λ l. map (footnote_of bases (asks es)) (filter_map (one_such is_footnote (asks es)) (in_order text_cmp (map label l)))) (sym (notes-at es xs h)) in
       λ i. record {

@@ -7,14 +7,14 @@ use Rattle.ix_base.specs.Asks.{asks}
 use Rattle.ix_base.specs.Chain.{chain}
 use Rattle.ix_base.specs.Ids.{one_such}
 use Rattle.ix_base.specs.LinkRules.{from_ids, to_ids, is_relationship, is_footnote, is_end, named_by, target_of}
-use Rattle.ix_base.specs.Located.{Located, is_fact}
+use Rattle.ix_base.specs.LocatedElements.{Located, is_fact}
 use Rattle.ix_base.specs.Markup.{body, body_along, markup_along}
 use Rattle.ix_base.specs.Once.{in_order}
-use Rattle.ix_base.specs.Written.{written}
+use Rattle.ix_base.specs.WrittenMarkup.{written}
 use Rattle.id_table.proofs.Asking.{map-filter}
-use Rattle.ix_base.specs.Sorted.{text_cmp}
+use Rattle.ix_base.specs.SortedLists.{text_cmp}
 use Rattle.footnotes.specs.FootnoteLinks.{Between, between, label, sources, arcs_by, arcs_in, arc_texts_cmp, ends, footnote_of, link_of, notes}
-use Rattle.id_table.specs.Moved.{moved}
+use Rattle.id_table.specs.Renumbering.{moved}
 use Rattle.id_table.proofs.Renumbered.{map-same, map-twice, filter-same, named-moved, chain-moved}
 
 pub flat-map : {X Y Z W : Type 0} (f : X → Y) (g : Y → List Z) (h : X → List W) (k : W → Z) → ((x : X) → g (f x) ≡ map k (h x)) → (xs : List X) → flat_map g (map f xs) ≡ map k (flat_map h xs)

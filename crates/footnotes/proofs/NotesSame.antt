@@ -10,11 +10,11 @@ use Rattle.ix_base.specs.declared.content.Arc.{Arc}
 use Rattle.ix_base.specs.Asks.{Asks, asks}
 use Rattle.ix_base.specs.Ids.{one_such}
 use Rattle.ix_base.specs.LinkRules.{is_relationship, is_footnote}
-use Rattle.ix_base.specs.Located.{Located, is_fact}
+use Rattle.ix_base.specs.LocatedElements.{Located, is_fact}
 use Rattle.ix_base.specs.Once.{in_order}
 use Rattle.ix_base.proofs.ExchangeLemmas.{by_exchanges}
 use Rattle.ix_base.proofs.OnceLemmas.{SameMembers-permutation, in_order-same}
-use Rattle.ix_base.specs.Sorted.{text_cmp}
+use Rattle.ix_base.specs.SortedLists.{text_cmp}
 use Rattle.ix_base.proofs.OnceOrdered.{same_text}
 use Rattle.footnotes.specs.FootnoteLinks.{Between, label, arcs_by, arcs_in, arc_texts_cmp, ends, footnote_of, link_of, notes}
 use Rattle.id_table.proofs.Rearranged.{asks-same}

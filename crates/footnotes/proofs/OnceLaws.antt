@@ -5,7 +5,7 @@ use Rattle.std.specs.Cmp.Lexicographic.{on_texts}
 use Rattle.std.specs.declared.cmp.Ordering.TheVariants.{Equal}
 use Rattle.std.proofs.lemmas.Cmp.{then_total}
 use Rattle.ix_base.specs.declared.content.Arc.{Arc}
-use Rattle.ix_base.specs.Sorted.{text_cmp}
+use Rattle.ix_base.specs.SortedLists.{text_cmp}
 use Rattle.ix_base.proofs.OnceOrdered.{same_text}
 use Rattle.ix_base.proofs.OrderLemmas.{then_first, then_second}
 use Rattle.footnotes.specs.FootnoteLinks.{arc_texts_cmp}

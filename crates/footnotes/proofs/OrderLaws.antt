@@ -4,7 +4,7 @@ use Rattle.std.specs.Prelude.{◌&&◌, if◌then◌else◌}
 use Rattle.ix_base.specs.Decimals.{front_of, back_of, whole}
 use Rattle.ix_base.specs.Forms.{is_negative, is_unsigned, unsigned_of}
 use Rattle.scale_sign.specs.Scaled.{IsNumber, signed}
-use Rattle.scale_sign.specs.Written.{moved_decimal, written}
+use Rattle.scale_sign.specs.WrittenDigits.{moved_decimal, written}
 use Rattle.scale_sign.proofs.Laws.{number-is, one_number}
 use Rattle.value_forms.proofs.DecimalLaws.{unsigned_is}
 use Rattle.footnotes.specs.FootnoteLinks.{canonical_decimal, canonical_order}

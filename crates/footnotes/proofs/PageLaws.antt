@@ -7,11 +7,11 @@ use Rattle.std.specs.Option.{option_map_or}
 use Rattle.std.specs.Prelude.{IfSome, map}
 use Rattle.ix_base.specs.declared.tree.Spot.{Spot}
 use Rattle.ix_base.specs.Elements.{place_of}
-use Rattle.ix_base.specs.Located.{Located, located, offset_of}
+use Rattle.ix_base.specs.LocatedElements.{Located, located, offset_of}
 use Rattle.id_table.specs.Tables.{all_located}
-use Rattle.continuations.specs.Kept.{chain_at}
-use Rattle.footnotes.specs.Kept.{AreOnPages}
-use Rattle.footnotes.specs.Linked.{chain_kept}
+use Rattle.continuations.specs.Model.{chain_at}
+use Rattle.footnotes.specs.Model.{AreOnPages}
+use Rattle.footnotes.specs.ArcLinks.{chain_kept}
 
 pub All-from_map : {X Y : Type 0} (P : Y → Type 0) (f : X → Y) (xs : List X) → All P (map f xs) → All (λ x. P (f x)) xs
 All-from_map P f [] h = All-nil (λ x. P (f x))

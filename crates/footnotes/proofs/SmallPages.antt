@@ -3,7 +3,7 @@ use Rattle.std.proofs.Common.{ℕ, List, [], ◌∷◌}
 use Rattle.std.specs.Prelude.{codes}
 use Rattle.ix_base.specs.declared.breach.Found.{Found}
 use Rattle.ix_base.specs.declared.rule.Rule.{Rule}
-use Rattle.ix_base.specs.Located.{Located, Paged}
+use Rattle.ix_base.specs.LocatedElements.{Located, Paged}
 use Rattle.ix_base.specs.Trees.{Named, Valued, Bound, Head, Nodes, elem}
 
 abbrev pub name : List ℕ → List ℕ → Named

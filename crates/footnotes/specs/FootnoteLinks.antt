@@ -15,14 +15,14 @@ use Rattle.ix_base.specs.Elements.{path_of}
 use Rattle.ix_base.specs.Forms.{is_decimal, is_negative, unsigned_of}
 use Rattle.ix_base.specs.Ids.{id_of, one_such}
 use Rattle.ix_base.specs.LinkRules.{from_ids, to_ids, is_relationship, is_footnote, is_end, named_by, target_of}
-use Rattle.ix_base.specs.Located.{Located, is_fact, token_at}
+use Rattle.ix_base.specs.LocatedElements.{Located, is_fact, token_at}
 use Rattle.ix_base.specs.Markup.{markup_along}
 use Rattle.ix_base.specs.Once.{in_order}
 use Rattle.ix_base.specs.Readers.{attr, lang_along}
-use Rattle.ix_base.specs.Sorted.{text_cmp}
+use Rattle.ix_base.specs.SortedLists.{text_cmp}
 use Rattle.ix_base.specs.Token.{token_of}
 use Rattle.scale_sign.specs.Scaled.{signed}
-use Rattle.scale_sign.specs.Written.{written}
+use Rattle.scale_sign.specs.WrittenDigits.{written}
 
 abbrev pub link_role : Located → List ℕ
 link_role r = unwrap_or (token_at (codes "linkRole") r) (codes "http://www.xbrl.org/2003/role/link")

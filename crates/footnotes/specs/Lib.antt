@@ -1,8 +1,8 @@
-pub mod Drawn
-pub mod Fans
+pub mod ArcGroups
+pub mod ArcLinks
+pub mod BorrowedArcs
+pub mod EndTests
 pub mod FootnoteLinks
-pub mod Kept
-pub mod Known
-pub mod Linked
+pub mod Model
+pub mod NamedEnds
 pub mod Tests
-pub mod Wants

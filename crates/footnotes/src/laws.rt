@@ -1,11 +1,11 @@
 //! Laws of footnote links, for the crates that ask for them.
 ghost use Rattle.std.specs.Prelude.{◌≡◌, ℕ, List, All, ◌<◌, map};
 ghost use Rattle.std.specs.List.Sorted.{IsPermutation};
-ghost use Rattle.ix_base.specs.Located.{Located};
-ghost use Rattle.id_table.specs.Moved.{moved, KeepsApart};
-ghost use Rattle.continuations.specs.Kept.{AreChainsOf};
+ghost use Rattle.ix_base.specs.LocatedElements.{Located};
+ghost use Rattle.id_table.specs.Renumbering.{moved, KeepsApart};
+ghost use Rattle.continuations.specs.Model.{AreChainsOf};
 ghost use Rattle.footnotes.specs.FootnoteLinks.{notes};
-ghost use Rattle.footnotes.specs.Kept.{AreOnPages};
+ghost use Rattle.footnotes.specs.Model.{AreOnPages};
 
 /// Where chains were made from some elements, all of the first so many pages, the elements of the chains are of these pages.
 pub fn chains_on_pages()

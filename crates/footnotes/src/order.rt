@@ -4,8 +4,8 @@ ghost use Rattle.ix_base.specs.Decimals.{IsUnsigned};
 ghost use Rattle.scale_sign.specs.Scaled.{IsNumber};
 ghost use Rattle.footnotes.specs.FootnoteLinks as spec;
 
-use ix_base::{NoMemory, Text, has_minus, text_at, zeros};
-use scale_sign::{numbers_are_text, scaled};
+use ix_base::{NoMemory, Text, text_at, zeros};
+use scale_sign::{has_minus, numbers_are_text, scaled};
 use std::alloc::Global;
 use value_forms::{is_unsigned_decimal, without_sign};
 

@@ -10,10 +10,10 @@ use Rattle.ix_base.specs.Alike.{alike, alike_as}
 use Rattle.ix_base.specs.Asks.{only, asks, are_many, are_some, if_such}
 use Rattle.ix_base.specs.Ids.{holds_id, agree, differs, sole, stands_for}
 use Rattle.ix_base.specs.Kinds.{kind_of, same_kind}
-use Rattle.ix_base.specs.Located.{Located, is_kind}
+use Rattle.ix_base.specs.LocatedElements.{Located, is_kind}
 use Rattle.ix_base.specs.Trees.{Tree}
 use Rattle.ix_base.proofs.OnceLemmas.{Contains-nil, Contains-first, Contains-cases, Contains-filter, Contains-from_filter}
-use Rattle.id_table.specs.Held.{IsHeldFor, IsHolder}
+use Rattle.id_table.specs.Model.{IsHeldFor, IsHolder}
 
 some-lt : (n : ℕ) → nat_lt 0 (suc n) ≡ true
 some-lt n = first_of (search rules, grind arith, grind (arith, common_steps))

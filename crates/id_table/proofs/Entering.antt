@@ -7,7 +7,7 @@ use Rattle.std.specs.Global.{Global}
 use Rattle.std.specs.List.{filter}
 use Rattle.ix_base.specs.declared.tree.Spot.{Spot}
 use Rattle.ix_base.specs.Ids.{id_of}
-use Rattle.ix_base.specs.Located.{Located, located, is_text}
+use Rattle.ix_base.specs.LocatedElements.{Located, located, is_text}
 use Rattle.text_map.specs.Texts.{Texts}
 use Rattle.id_table.specs.declared.entries.Entry.{Entry}
 use Rattle.id_table.specs.Tables.{Entered, HasEach, HasEntries, IsEntered, entry_for}

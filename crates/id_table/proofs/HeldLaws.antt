@@ -14,13 +14,13 @@ use Rattle.ix_base.specs.Elements.{placed}
 use Rattle.ix_base.specs.Ids.{id_of, tuple_id_of, holds_id, holds_tuple_id, holders, agree, one_such, sole}
 use Rattle.ix_base.specs.Kinds.{kind_of}
 use Rattle.ix_base.specs.LinkRules.{broken_at, found_at, repeats_id}
-use Rattle.ix_base.specs.Located.{Located, located}
+use Rattle.ix_base.specs.LocatedElements.{Located, located}
 use Rattle.ix_base.specs.Rows.{row}
 use Rattle.ix_base.specs.Spots.{IsOnOnePage}
 use Rattle.ix_base.proofs.OnceLemmas.{Contains-nil, Contains-first, Contains-later, Contains-cases}
 use Rattle.text_map.specs.Texts.{Texts}
 use Rattle.id_table.specs.declared.entries.Entry.{Entry}
-use Rattle.id_table.specs.Held.{AreChosen, Held, IsHolder, IsOfOthers, asked, chosen, chosen_in, doubled_at, one_held, repeats_held}
+use Rattle.id_table.specs.Model.{AreChosen, Held, IsHolder, IsOfOthers, asked, chosen, chosen_in, doubled_at, one_held, repeats_held}
 use Rattle.id_table.specs.Tables.{AreChoicesOnPages, AreHolders, AreOnOwnPages, HasEntries, all_located, choice_at, choice_of, choices_of, entries_at, entry_for}
 use Rattle.id_table.proofs.Asking.{map-filter, count-map, one-map}
 use Rattle.id_table.proofs.OnPages.{only-All}

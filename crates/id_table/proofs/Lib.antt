@@ -8,4 +8,5 @@ pub mod Placing
 pub mod Rearranged
 pub mod Renumbered
 pub mod RowLemmas
+pub mod SliceLaws
 pub mod Stepping

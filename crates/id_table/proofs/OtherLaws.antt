@@ -4,8 +4,8 @@ use Rattle.ix_base.specs.declared.kind.Kind.{Kind}
 use Rattle.ix_base.specs.declared.kind.Kind.TheVariants as kind
 use Rattle.ix_base.specs.Kinds.{is_fact as fact_kind, kind_of, same_kind}
 use Rattle.ix_base.specs.LinkRules.{is_end, is_footnote}
-use Rattle.ix_base.specs.Located.{is_continuation, is_fact}
-use Rattle.id_table.specs.Held.{IsOfOthers}
+use Rattle.ix_base.specs.LocatedElements.{is_continuation, is_fact}
+use Rattle.id_table.specs.Model.{IsOfOthers}
 
 module _ (P : Kind → Bool) (context : P kind.Context ≡ false) (unit : P kind.Unit ≡ false) where
   pub by-kind : (k : Kind) → (same_kind k kind.Context || same_kind k kind.Unit) ≡ true → P k ≡ false

@@ -14,16 +14,16 @@ use Rattle.ix_base.specs.Chain.{continued_at, next, chain_of, chain}
 use Rattle.ix_base.specs.Elements.{placed_at}
 use Rattle.ix_base.specs.Ids.{id_of, tuple_id_of, holds_id, holds_tuple_id, holders, agree, are_doubled, differs, foremost, foremost_of, one, one_such, one_tuple, place_cmp, speaker, stands_for}
 use Rattle.ix_base.specs.LinkRules.{lacks, stands_inside, inner_along, is_at, is_reached_from, is_inside_chain_of, misses, goes_on_at, same_target, target_of, are_siblings, same_order, ties, named_by, are_any, from_ids, to_ids, is_end, is_footnote, is_relationship, is_schema_for, breaks_link}
-use Rattle.ix_base.specs.Located.{Located, on_page, is_continuation, is_start, is_tuple, is_fact, is_item, is_kind, is_nil, same_place, offset_of, token_at}
+use Rattle.ix_base.specs.LocatedElements.{Located, on_page, is_continuation, is_start, is_tuple, is_fact, is_item, is_kind, is_nil, same_place, offset_of, token_at}
 use Rattle.ix_base.specs.Membership.{owner, owner_by, owners, nearest_tuple, tuple_ref_of, order_of, deepest, is_owned_by, members, within, fact, fact_by, fact_name}
 use Rattle.ix_base.specs.Facts.{Facts, item, tuple, joined}
 use Rattle.ix_base.specs.Orders.{order_cmp}
-use Rattle.ix_base.specs.Sorted.{sorted, text_cmp}
+use Rattle.ix_base.specs.SortedLists.{sorted, text_cmp}
 use Rattle.ix_base.specs.declared.content.Item.{Item}
 use Rattle.std.specs.Ordering.{is_lt, nat_cmp, on, then_cmp}
 use Rattle.ix_base.specs.Trees.{Tree}
 use Rattle.ix_base.proofs.StableLemmas.{sorted-map}
-use Rattle.id_table.specs.Moved.{moved}
+use Rattle.id_table.specs.Renumbering.{moved}
 use Rattle.id_table.proofs.Asking.{map-filter, one-map, count-map}
 
 any-same : {X : Type 0} (p q : X → Bool) → ((x : X) → p x ≡ q x) → (xs : List X) → list_any p xs ≡ list_any q xs

@@ -1,4 +1,5 @@
-pub mod Held
-pub mod HeldCodes
-pub mod Moved
+pub mod Model
+pub mod ModelCodes
+pub mod Renumbering
+pub mod Slices
 pub mod Tables

@@ -2,11 +2,12 @@
 ghost use Rattle.std.specs.Prelude.{◌≡◌, ℕ, List, OnOk, IfSome, Some, None, true, if◌then◌else◌, bytes_eq};
 ghost use Rattle.ix_base.specs.Asks.{only};
 ghost use Rattle.ix_base.specs.Ids as ids;
-ghost use Rattle.ix_base.specs.Located.{located};
+ghost use Rattle.ix_base.specs.LocatedElements.{located};
 ghost use Rattle.id_table.specs.Tables.{choice_at, entry_for};
 
 use crate::entries::{Entry, entry_of, only_in};
-use ix_base::{NoMemory, Spot, id_at};
+use ix_base::{NoMemory, Spot};
+use link_ids::id_at;
 use text_map::TextMap;
 
 /// What was chosen for ids.

@@ -2,10 +2,11 @@
 ghost use Rattle.std.specs.Prelude.{◌≡◌, [], OnOk, option_map};
 ghost use Rattle.ix_base.specs.Asks.{only};
 ghost use Rattle.ix_base.specs.Ids as ids;
-ghost use Rattle.ix_base.specs.Located.{located};
+ghost use Rattle.ix_base.specs.LocatedElements.{located};
 ghost use Rattle.id_table.specs.Tables.{IsEntered, entries_at, entry_for};
 
-use ix_base::{Kind, NoMemory, Spot, id_at, kind_of};
+use ix_base::{Kind, NoMemory, Spot, kind_of};
+use link_ids::id_at;
 use text_map::TextMap;
 
 /// An element that was found, with its kind.

@@ -9,11 +9,11 @@ ghost use Rattle.ix_base.specs.Fronts.{AppendsFront};
 ghost use Rattle.ix_base.specs.Ids as ids;
 ghost use Rattle.ix_base.specs.Kinds as kinds;
 ghost use Rattle.ix_base.specs.LinkRules.{breaking};
-ghost use Rattle.ix_base.specs.Located.{Located, located, is_kind, page_marked};
+ghost use Rattle.ix_base.specs.LocatedElements.{Located, located, is_kind, page_marked};
 ghost use Rattle.ix_base.specs.Spaces.{AreNumbered, spaces_of};
 ghost use Rattle.ix_base.specs.Spots.{IsOnOnePage};
 ghost use Rattle.ix_base.specs.Trees.{tree_of};
-ghost use Rattle.id_table.specs.Held.{AreChosen, IsHeldFor, IsHolder, IsOfOthers, asked, chosen, doubled_at, one_held, repeats_held};
+ghost use Rattle.id_table.specs.Model.{AreChosen, IsHeldFor, IsHolder, IsOfOthers, asked, chosen, doubled_at, one_held, repeats_held};
 ghost use Rattle.id_table.specs.Tables.{AreOnOwnPages, AreWhole, all_located};
 
 use crate::choices::{Choices, choice_in, chosen_or_only, set_choice};
@@ -21,7 +21,8 @@ use crate::entries::{Entry, entries_in, entry_at};
 use crate::holders::{count_in, one_in};
 use crate::tables::Tables;
 use bumpalo::Bump;
-use ix_base::{Breaches, Element, NoMemory, Rule, Spot, id_at, tuple_id_at};
+use ix_base::{Breaches, Element, NoMemory, Rule, Spot};
+use link_ids::{id_at, tuple_id_at};
 use std::alloc::Global;
 use std::marker::Model;
 use text_map::TextMap;
@@ -61,8 +62,8 @@ pub struct Index<'a> {
 
 impl<'a> Model for Index<'a> {
     ghost use Rattle.std.specs.Prelude.{◌≡◌, []};
-    ghost use Rattle.id_table.specs.Held.{Held};
-    ghost use Rattle.id_table.specs.HeldCodes.{held_code};
+    ghost use Rattle.id_table.specs.Model.{Held};
+    ghost use Rattle.id_table.specs.ModelCodes.{held_code};
     ghost use Rattle.id_table.specs.Tables.{IsIndexed, all_located, choices_of};
 
     ghost Value = { Held };

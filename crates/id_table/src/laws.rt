@@ -5,9 +5,9 @@ ghost use Rattle.ix_base.specs.declared.rule.Rule.{Rule};
 ghost use Rattle.ix_base.specs.Asks.{asks};
 ghost use Rattle.ix_base.specs.Chain.{chain};
 ghost use Rattle.ix_base.specs.LinkRules.{breaks_link};
-ghost use Rattle.ix_base.specs.Located.{Located};
+ghost use Rattle.ix_base.specs.LocatedElements.{Located};
 ghost use Rattle.ix_base.specs.Membership.{owner, members};
-ghost use Rattle.id_table.specs.Moved.{moved, KeepsApart};
+ghost use Rattle.id_table.specs.Renumbering.{moved, KeepsApart};
 
 /// Where the pages have other numbers, each element breaks the same rules on links, and its chain, its owner and its
 /// members are those that it had.

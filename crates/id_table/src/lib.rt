@@ -1,4 +1,4 @@
-//! The elements of a set of pages that links, facts and contents speak of, found by id.
+//! The elements of a set of pages that links, facts and contents speak of, found by id, and lists of them, found by place.
 #![tactic(auto)]
 
 mod choices;
@@ -6,9 +6,13 @@ mod entries;
 mod holders;
 mod index;
 pub mod laws;
+mod slice;
+mod slices;
 mod tables;
 mod walk;
 
 pub use entries::Entry;
 pub use holders::{Holders, count_in, enter, one_in};
 pub use index::Index;
+pub use slice::Slice;
+pub use slices::{Slices, enter_slice, slice_in};

@@ -1,7 +1,7 @@
 //! The marked elements of pages, with tables from their ids.
 ghost use Rattle.std.specs.Prelude.{◌≡◌, ◌++◌, ◌∷◌, [], OnOk, filter, All};
 ghost use Rattle.ix_base.specs.Elements.{pages_of};
-ghost use Rattle.ix_base.specs.Located.{located, is_marked as spec_is_marked, page_marked};
+ghost use Rattle.ix_base.specs.LocatedElements.{located, is_marked as spec_is_marked, page_marked};
 ghost use Rattle.ix_base.specs.Spaces.{AreNumbered, spaces_of};
 ghost use Rattle.ix_base.specs.Spots.{IsOnOnePage};
 ghost use Rattle.ix_base.specs.Trees.{tree_of};
@@ -11,7 +11,8 @@ use crate::entries::{Entries, enter_entry};
 use crate::holders::{Holders, enter};
 use crate::walk::walk;
 use bumpalo::Bump;
-use ix_base::{Element, Kind, NoMemory, Spot, kind_of, tuple_id_at};
+use ix_base::{Element, Kind, NoMemory, Spot, kind_of};
+use link_ids::tuple_id_at;
 use std::alloc::Global;
 use text_map::TextMap;
 

@@ -11,18 +11,18 @@ use Rattle.ix_base.specs.Attributes.{value_of}
 use Rattle.ix_base.specs.ContextForm.{context}
 use Rattle.ix_base.specs.Facts.{Facts}
 use Rattle.ix_base.specs.Elements.{tree_at}
-use Rattle.ix_base.specs.Holding.{is_of, named_in}
+use Rattle.ix_base.specs.ElementContent.{is_of, named_in}
 use Rattle.ix_base.specs.Markup.{markup}
 use Rattle.ix_base.specs.Namespaces.{link_namespace, xbrli_namespace, xml_namespace}
-use Rattle.ix_base.specs.Said.{Said}
+use Rattle.ix_base.specs.PlainContents.{Said}
 use Rattle.ix_base.specs.Sound.{AreSound, IsSoundTree}
 use Rattle.ix_base.specs.Steps.{◌>>=◌, each}
 use Rattle.ix_base.specs.Trees.{Nodes, none, chars, elem, Tree}
 use Rattle.ix_base.specs.UnitForm.{unit}
 use Rattle.instance_out.specs.Denotation.{Labelled, arc_in, are_parts, content_in, ends_of, facts_among, facts_in, footnote_in, linkbase_in, locator_in, notes_in, parts_in, reference_in, schema_in, xlink_at}
 use Rattle.instance_out.specs.Lists.{are_apart}
-use Rattle.instance_tree.specs.Reading.{is_typed}
-use Rattle.instance_out.specs.Holds.{all_notes}
+use Rattle.instance_tree.specs.ReaderWords.{is_typed}
+use Rattle.instance_out.specs.Holdings.{all_notes}
 use Rattle.instance_out.specs.Proper.{AreBodies, IsBody}
 use Rattle.instance_out.proofs.RunLaws.{Each}
 

@@ -4,7 +4,7 @@ use Rattle.std.proofs.lemmas.Bool.{and_parts, and_from}
 use Rattle.std.proofs.lemmas.Slice.Eq.{bytes_eq-Decides}
 use Rattle.ix_base.specs.declared.content.Content.{Content}
 use Rattle.ix_base.specs.declared.NoMemory.{NoMemory}
-use Rattle.ix_base.specs.Said.{said_of}
+use Rattle.ix_base.specs.PlainContents.{said_of}
 use Rattle.ix_base.specs.Trees.{Tree}
 use Rattle.page_tree.proofs.PageLaws.{one}
 use Rattle.page_tree.proofs.SoundPages.{page-sound}

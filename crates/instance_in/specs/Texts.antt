@@ -1,7 +1,7 @@
 -- The bytes that are read back, and what the reader answers.
 use Rattle.std.specs.Prelude.{◌≡◌, ℕ, List, Result, Ok, Err}
 use Rattle.ix_base.specs.declared.content.Content.{Content}
-use Rattle.ix_base.specs.Said.{said_of}
+use Rattle.ix_base.specs.PlainContents.{said_of}
 use Rattle.instance_out.specs.Canonical.{canon}
 use Rattle.instance_out.specs.Proper.{Proper}
 use Rattle.instance_in.specs.declared.ReadBack.{ReadBack}

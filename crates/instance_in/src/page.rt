@@ -1,6 +1,6 @@
 //! Some bytes as a page, and what it denotes.
 ghost use Rattle.std.specs.Prelude.{◌≡◌, [], IfOk, OnOk};
-ghost use Rattle.page_tree.specs.Standing.{StandsFor, limit};
+ghost use Rattle.page_tree.specs.Model.{StandsFor, limit};
 ghost use Rattle.instance_in.specs.Outcomes.{Denotes, HasRoot};
 
 use bumpalo::Bump;

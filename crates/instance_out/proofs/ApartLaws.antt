@@ -9,8 +9,8 @@ use Rattle.std.specs.declared.cmp.Ordering.{Ordering}
 use Rattle.std.specs.declared.cmp.Ordering.TheVariants.{Less, Equal, Greater}
 use Rattle.ix_base.specs.declared.content.Footnote.{Footnote}
 use Rattle.ix_base.specs.declared.content.NoteLink.{NoteLink}
-use Rattle.page_tree.proofs.SpanLaws.{bytes-one, bytes-same, bytes-apart, either, and_both}
-use Rattle.ix_base.specs.Sorted.{text_cmp}
+use Rattle.page_constructs.proofs.SpanLaws.{bytes-one, bytes-same, bytes-apart, either, and_both}
+use Rattle.ix_base.specs.SortedLists.{text_cmp}
 use Rattle.instance_out.specs.Lists.{are_apart, strictly, has, is_within}
 use Rattle.instance_out.specs.Proper.{same_note, counted_once}
 use Rattle.instance_out.proofs.RunLaws.{Each}

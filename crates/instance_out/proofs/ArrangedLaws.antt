@@ -20,12 +20,12 @@ use Rattle.ix_base.specs.declared.content.Tuple.{Tuple}
 use Rattle.ix_base.specs.declared.content.Unit.{Unit as UnitContent}
 use Rattle.ix_base.specs.Facts.{Facts, before, facts_of, none}
 use Rattle.ix_base.specs.Once.{in_order, put as put_once, put_by as put_once_by}
-use Rattle.ix_base.specs.Sorted.{put, put_by, sorted, text_cmp}
-use Rattle.ix_base.specs.Written.{Markup}
+use Rattle.ix_base.specs.SortedLists.{put, put_by, sorted, text_cmp}
+use Rattle.ix_base.specs.WrittenMarkup.{Markup}
 use Rattle.ix_base.proofs.FactLaws.{before-Tuple}
 use Rattle.ix_base.proofs.OnceLemmas.{SameMembers-permutation, in_order-same, in_order-sorted}
 use Rattle.ix_base.proofs.OnceOrdered.{same_text}
-use Rattle.instance_out.specs.Arranged.{arranged, arranged_link, by_line, with_arranged_links}
+use Rattle.instance_out.specs.Arrangement.{arranged, arranged_link, by_line, with_arranged_links}
 use Rattle.instance_out.specs.Canonical.{Spaces, arcrole_markup, canon_lines, children, content_spaces, context_markup, context_names}
 use Rattle.instance_out.specs.Canonical.{fact_markups, fact_names, first_line, last_line, line, line_cmp, linkbase_markup, lines_with}
 use Rattle.instance_out.specs.Canonical.{link_markup, role_markup, root_line, schema_markup, unit_markup, unit_names}

@@ -8,14 +8,14 @@ use Rattle.std.proofs.lemmas.List.{nil_from_length}
 use Rattle.ix_base.specs.NcName.{is_ncname, are_allowed}
 use Rattle.ix_base.specs.Namespaces.{xml_namespace, xmlns_namespace}
 use Rattle.ix_base.specs.Scope.{namespace_of, has_prefix}
-use Rattle.ix_base.specs.Sorted.{sorted, put, put_by}
+use Rattle.ix_base.specs.SortedLists.{sorted, put, put_by}
 use Rattle.ix_base.specs.Sound.{IsSoundAttribute, IsSoundHead, AreSound, AreDistinct}
 use Rattle.ix_base.specs.Trees.{Named, Valued, Bound, Head, Nodes, none, chars, elem}
-use Rattle.ix_base.specs.Written.{Attribute, Markup, nothing, words, node, leaf, verbatim}
-use Rattle.page_tree.specs.Fine.{is_fine, is_fine_text, is_fine_tag, scope_in, begins_dark, default_of, IsBodyName, AreBodyAttributes}
-use Rattle.page_tree.proofs.AllowedText.{allowed-append}
+use Rattle.ix_base.specs.WrittenMarkup.{Attribute, Markup, nothing, words, node, leaf, verbatim}
+use Rattle.page_tree.specs.FineMarkup.{is_fine, is_fine_text, is_fine_tag, scope_in, begins_dark, default_of, IsBodyName, AreBodyAttributes}
+use Rattle.page_constructs.proofs.AllowedText.{allowed-append}
 use Rattle.page_tree.proofs.FineBodies.{body-tag, default-tag, body-scope, default-scope, default-kept}
-use Rattle.page_tree.proofs.SpanLaws.{bytes-one, bytes-same, bytes-apart, one_number}
+use Rattle.page_constructs.proofs.SpanLaws.{bytes-one, bytes-same, bytes-apart, one_number}
 use Rattle.ix_base.specs.Markup.{manner, is_silent, ends_short, is_written, written_name, attribute_of, is_link_of, attribute_cmp, own_attributes, declaration, put_words, element_by, body}
 use Rattle.page_tree.proofs.FineNames.{ncname-colon}
 use Rattle.instance_out.proofs.RunLaws.{Each}

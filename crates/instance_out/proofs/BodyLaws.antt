@@ -10,15 +10,15 @@ use Rattle.std.specs.declared.cmp.Ordering.TheVariants.{Less, Equal, Greater}
 use Rattle.ix_base.specs.NcName.{is_ncname}
 use Rattle.ix_base.specs.Namespaces.{xml_namespace, ix_namespace}
 use Rattle.ix_base.specs.Scope.{namespace_of, bound_over, declared_over, scope_under, element_name}
-use Rattle.ix_base.specs.Sorted.{sorted, put, put_by}
+use Rattle.ix_base.specs.SortedLists.{sorted, put, put_by}
 use Rattle.ix_base.specs.Sound.{IsSoundAttribute, IsSoundHead, AreSound}
 use Rattle.ix_base.specs.Trees.{Named, Valued, Bound, Head, Nodes, none, chars, elem}
-use Rattle.ix_base.specs.Written.{Attribute, Markup, nothing, words, node, leaf, verbatim, start_text, leaf_text, close_text}
+use Rattle.ix_base.specs.WrittenMarkup.{Attribute, Markup, nothing, words, node, leaf, verbatim, start_text, leaf_text, close_text}
 use Rattle.page_tree.specs.Tags.{binding_of, valued}
-use Rattle.page_tree.proofs.SpanLaws.{bytes-one, bytes-apart, and_both, one_number}
+use Rattle.page_constructs.proofs.SpanLaws.{bytes-one, bytes-apart, and_both, one_number}
 use Rattle.ix_base.specs.Markup.{Manner, LeftOut, Opened, Kept, manner, is_silent, silent_by, ends_short, is_written, attribute_of, value_by, is_link_of, attribute_cmp, own_attributes, declaration, put_words, element_by, body}
 use Rattle.page_tree.specs.Spellings.{read as meant}
-use Rattle.page_tree.specs.Fine.{head_at, nodes_at, past}
+use Rattle.page_tree.specs.FineMarkup.{head_at, nodes_at, past}
 use Rattle.instance_out.specs.Lists.{rises}
 use Rattle.page_tree.proofs.FineNames.{ncname-colon}
 use Rattle.instance_out.proofs.RunLaws.{Each}

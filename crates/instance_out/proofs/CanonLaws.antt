@@ -3,7 +3,7 @@ use Rattle.std.proofs.Common.{◌≡◌, ◌∙◌, ap, sym, ℕ, List, [], ◌�
 use Rattle.std.specs.Ordering.{on}
 use Rattle.ix_base.specs.Facts.{facts_of}
 use Rattle.ix_base.specs.Once.{in_order}
-use Rattle.ix_base.specs.Sorted.{sorted, text_cmp}
+use Rattle.ix_base.specs.SortedLists.{sorted, text_cmp}
 use Rattle.ix_base.specs.declared.content.Content.{Content}
 use Rattle.ix_base.specs.declared.content.Context.{Context}
 use Rattle.ix_base.specs.declared.content.Fact.{Fact}
@@ -11,7 +11,7 @@ use Rattle.ix_base.specs.declared.content.NoteLink.{NoteLink}
 use Rattle.ix_base.specs.declared.content.Unit.{Unit as UnitContent}
 use Rattle.instance_out.specs.Canonical.{Spaces, arcrole_markup, canon_lines, children, content_spaces, context_markup, fact_markups, first_line, last_line, line, line_cmp, lines_with, link_markup, linkbase_markup, role_markup, root_line, schema_markup, unit_markup}
 use Rattle.instance_out.specs.Elements.{fact_line, fact_markup}
-use Rattle.instance_out.specs.Gaining.{Gains}
+use Rattle.instance_out.specs.Gains.{Gains}
 use Rattle.instance_out.proofs.MarkupLaws.{fact_markups-are}
 use Rattle.instance_out.proofs.Sorting.{map-map, sorted_lines}
 

@@ -12,18 +12,18 @@ use Rattle.ix_base.specs.Elements.{tree_at}
 use Rattle.ix_base.specs.Forms.{is_empty}
 use Rattle.ix_base.specs.NcName.{is_ncname}
 use Rattle.ix_base.specs.Token.{is_token, token_of}
-use Rattle.ix_base.specs.Holding.{named_in, holds_only}
+use Rattle.ix_base.specs.ElementContent.{named_in, holds_only}
 use Rattle.ix_base.specs.Scope.{namespace_of}
-use Rattle.ix_base.specs.Sorted.{sorted}
+use Rattle.ix_base.specs.SortedLists.{sorted}
 use Rattle.ix_base.specs.Namespaces.{xbrli_namespace, xbrldi_namespace}
 use Rattle.ix_base.specs.Times.{start_time, end_time}
 use Rattle.ix_base.specs.Trees.{Bound, Named, Head, Nodes, none, elem}
-use Rattle.ix_base.specs.Written.{nothing, start_text, close_text}
+use Rattle.ix_base.specs.WrittenMarkup.{nothing, start_text, close_text}
 use Rattle.instance_out.specs.Prefixes.{name_text}
 use Rattle.instance_out.specs.Moments.{start_text as start_moment, end_text as end_moment}
 use Rattle.instance_out.specs.Canonical.{Spaces, attr, text_markup, text_element, each_markup, around, period_markup, dim_markup, context_markup}
-use Rattle.page_tree.specs.Fine.{head_at, nodes_at, past}
-use Rattle.instance_out.specs.Meant.{tree_in}
+use Rattle.page_tree.specs.FineMarkup.{head_at, nodes_at, past}
+use Rattle.instance_out.specs.MarkupTrees.{tree_in}
 use Rattle.instance_out.specs.Proper.{is_full}
 use Rattle.instance_out.proofs.NameLaws.{Knows, IsRead, knows-xbrli, knows-xbrldi}
 use Rattle.instance_out.proofs.RunLaws.{Each, text-alone, IsElementOf, run}

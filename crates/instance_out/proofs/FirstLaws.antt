@@ -3,7 +3,7 @@ use Rattle.std.proofs.Common.{◌≡◌, ◌∙◌, ap, refl, ℕ, Bool, true, f
 use Rattle.std.specs.Prelude.{bytes_eq, not, filter, ◌||◌}
 use Rattle.std.specs.List.{list_any}
 use Rattle.std.proofs.lemmas.List.Elements.{filter-append}
-use Rattle.instance_out.specs.Arranged.{firsts}
+use Rattle.instance_out.specs.Arrangement.{firsts}
 
 module _ {X : Type 0} (f : X → List ℕ) where
   one_kept : (p : X → Bool) (b a : Bool) (x : X) → p x ≡ not b → filter p (cond a [] (x ∷ [])) ≡ cond (b || a) [] (x ∷ [])

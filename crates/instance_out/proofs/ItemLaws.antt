@@ -1,6 +1,6 @@
 -- The attributes of items.
 use Rattle.std.proofs.Common.{◌≡◌, ◌∙◌, ap, refl, ℕ, List, [], ◌∷◌, ◌++◌, Option, Some, None, append-nil, codes}
-use Rattle.ix_base.specs.Written.{Attribute, nothing, leaf, node, written}
+use Rattle.ix_base.specs.WrittenMarkup.{Attribute, nothing, leaf, node, written}
 use Rattle.ix_base.specs.declared.content.Accuracy.{Accuracy}
 use Rattle.ix_base.specs.declared.content.Accuracy.TheVariants as accuracy
 use Rattle.ix_base.specs.declared.content.Item.{Item}

@@ -7,7 +7,7 @@ use Rattle.std.specs.declared.cmp.Ordering.{Ordering}
 use Rattle.std.specs.declared.cmp.Ordering.TheVariants.{Less, Equal, Greater}
 use Rattle.std.specs.Ordering.{is_eq, ordering_reverse}
 use Rattle.ix_base.specs.Once.{put as put_once, put_by as put_once_by, in_order}
-use Rattle.ix_base.specs.Sorted.{put, put_by, sorted}
+use Rattle.ix_base.specs.SortedLists.{put, put_by, sorted}
 use Rattle.instance_out.specs.Keys.{lasts, ties_last, with_last}
 
 module _ {X : Type 0} (R : X → X → Ordering) where

@@ -3,8 +3,8 @@ use Rattle.std.proofs.Common.{◌≡◌, ◌∙◌, ap, sym, ℕ, List, [], ◌�
 use Rattle.std.specs.List.{concat}
 use Rattle.std.specs.Ordering.{on}
 use Rattle.ix_base.specs.Once.{in_order}
-use Rattle.ix_base.specs.Sorted.{sorted, text_cmp}
-use Rattle.ix_base.specs.Written.{Markup, nothing, start_text, close_text, written}
+use Rattle.ix_base.specs.SortedLists.{sorted, text_cmp}
+use Rattle.ix_base.specs.WrittenMarkup.{Markup, nothing, start_text, close_text, written}
 use Rattle.ix_base.specs.declared.content.Footnote.{Footnote}
 use Rattle.ix_base.specs.declared.content.NoteLink.{NoteLink}
 use Rattle.instance_out.specs.Canonical.{arc_line_cmp, arc_markup, attr, attr_if, each_markup, footnote_markup, line, link_markup, locator_markup, type_attr}

@@ -13,7 +13,7 @@ use Rattle.ix_base.specs.declared.content.Tuple.{Tuple}
 use Rattle.ix_base.specs.declared.content.Value.{Value}
 use Rattle.ix_base.specs.declared.content.Value.TheVariants as value
 use Rattle.ix_base.specs.Facts.{Facts, none, before, facts_of}
-use Rattle.ix_base.specs.Written.{Attribute, Markup, nothing, node, written}
+use Rattle.ix_base.specs.WrittenMarkup.{Attribute, Markup, nothing, node, written}
 use Rattle.ix_base.proofs.FactLaws.{before-Item, before-Tuple}
 use Rattle.instance_out.specs.Canonical.{Spaces, dim_markup, member_markup, each_markup, facts_markup, fact_markups, measures_markup, ratio_markup, item_markup, value_markup, tuple_markup, item_attrs}
 use Rattle.instance_out.specs.Elements.{fact_markup}

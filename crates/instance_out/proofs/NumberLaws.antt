@@ -6,8 +6,8 @@ use Rattle.std.specs.declared.cmp.Ordering.{Ordering}
 use Rattle.std.specs.Option.{option_map_or}
 use Rattle.std.specs.Ordering.{on}
 use Rattle.std.proofs.lemmas.Option.{slice_get-get_or}
-use Rattle.ix_base.specs.Sorted.{sorted, text_cmp}
-use Rattle.instance_out.specs.Numbered.{key_at, numbers_by}
+use Rattle.ix_base.specs.SortedLists.{sorted, text_cmp}
+use Rattle.instance_out.specs.Numbering.{key_at, numbers_by}
 use Rattle.instance_out.proofs.Sorting.{map-map, sorted-map, sorted_moves}
 
 -- a range one further on

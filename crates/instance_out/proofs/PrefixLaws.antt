@@ -7,7 +7,7 @@ use Rattle.std.specs.Ordering.{is_eq}
 use Rattle.std.proofs.lemmas.Map.Text.{is_eq-slice_cmp}
 use Rattle.ix_base.specs.Namespaces.{xml_namespace, iso4217_namespace, link_namespace, xbrldi_namespace, xbrli_namespace, xlink_namespace, xsi_namespace}
 use Rattle.ix_base.specs.Once.{put, in_order}
-use Rattle.ix_base.specs.Sorted.{text_cmp}
+use Rattle.ix_base.specs.SortedLists.{text_cmp}
 use Rattle.ix_base.specs.declared.content.OwnName.{OwnName}
 use Rattle.ix_base.specs.Trees.{Bound}
 use Rattle.instance_out.specs.Prefixes.{fixed, prefix_in, is_known, with_space, spaces_of, xml}

@@ -16,12 +16,12 @@ use Rattle.ix_base.specs.Scope.{namespace_of, bound_over, declared_over, scope_u
 use Rattle.ix_base.specs.Trees.{Bound}
 use Rattle.instance_out.specs.Prefixes.{xml, fixed, numeral, numbered, declared_for, declaration, prefix_in, is_known, with_space, spaces_of}
 use Rattle.page_tree.specs.Tags.{binding_of}
-use Rattle.page_tree.proofs.AllowedText.{is_low, low-ncname}
-use Rattle.page_tree.proofs.SpanLaws.{bytes-one, bytes-same, bytes-apart, either}
+use Rattle.page_constructs.proofs.AllowedText.{is_low, low-ncname}
+use Rattle.page_constructs.proofs.SpanLaws.{bytes-one, bytes-same, bytes-apart, either}
 use Rattle.instance_out.specs.Canonical.{Spaces, root}
 use Rattle.page_tree.specs.Spellings.{read as meant}
-use Rattle.page_tree.specs.Fine.{scope_in}
-use Rattle.instance_out.specs.Good.{declared_scope}
+use Rattle.page_tree.specs.FineMarkup.{scope_in}
+use Rattle.instance_out.specs.GoodMarkup.{declared_scope}
 use Rattle.instance_out.proofs.NameLaws.{Knows, is_listed}
 use Rattle.instance_out.proofs.RunLaws.{Each}
 

@@ -8,15 +8,15 @@ use Rattle.ix_base.specs.Scope.{namespace_of, outermost, is_qname}
 use Rattle.ix_base.specs.Trees.{Bound}
 use Rattle.instance_out.specs.Prefixes.{xml, fixed, numbered, declared_for, declaration, prefix_in, qualified, name_text}
 use Rattle.ix_base.specs.declared.content.OwnName.{OwnName}
-use Rattle.page_tree.specs.Fine.{declaring, is_fine_binding, are_apart, is_simple, are_bound, is_fine_tag}
+use Rattle.page_tree.specs.FineMarkup.{declaring, is_fine_binding, are_apart, is_simple, are_bound, is_fine_tag}
 use Rattle.page_tree.specs.Tags.{is_unbound, is_bad}
-use Rattle.page_tree.proofs.AllowedText.{low-allowed}
+use Rattle.page_constructs.proofs.AllowedText.{low-allowed}
 use Rattle.page_tree.proofs.FineNames.{ncname-colon, prefixed-qname, local-qname, prefix-bound, declaring-fine}
 use Rattle.page_tree.proofs.FineLaws.{bytes-swapped}
 use Rattle.page_tree.proofs.FineTags.{simple-ncname}
-use Rattle.page_tree.proofs.SpanLaws.{and_both}
+use Rattle.page_constructs.proofs.SpanLaws.{and_both}
 use Rattle.instance_out.specs.Canonical.{Spaces, root}
-use Rattle.instance_out.specs.Good.{declared_scope, is_space}
+use Rattle.instance_out.specs.GoodMarkup.{declared_scope, is_space}
 use Rattle.instance_out.proofs.ApartLaws.{not-is}
 use Rattle.instance_out.proofs.PrefixReading.{AreOther, AreFresh, declared-fresh, declared-names, numbered-name, prefix-name, bound-prefix}
 

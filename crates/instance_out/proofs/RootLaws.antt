@@ -1,7 +1,7 @@
 -- The root's start tag.
 use Rattle.std.proofs.Common.{◌≡◌, ◌∙◌, ap, ℕ, ◌+◌, List, [], ◌∷◌, ◌++◌, map, append_assoc, add-one}
 use Rattle.ix_base.specs.Namespaces.{iso4217_namespace, link_namespace, xbrldi_namespace, xbrli_namespace, xlink_namespace, xsi_namespace}
-use Rattle.ix_base.specs.Written.{Attribute, attrs_text}
+use Rattle.ix_base.specs.WrittenMarkup.{Attribute, attrs_text}
 use Rattle.instance_out.specs.declared.prefix.TheConstants.{ROOT}
 use Rattle.instance_out.specs.Canonical.{root_line}
 use Rattle.instance_out.specs.Prefixes.{declaration, fixed, numbered, numeral}

@@ -2,12 +2,12 @@
 use Rattle.std.proofs.Common.{◌≡◌, ◌∙◌, ℕ, true, false, List, [], ◌∷◌, ◌++◌, Option, Some, refl, ap}
 use Rattle.std.specs.List.{list_any}
 use Rattle.ix_base.specs.Elements.{tree_at}
-use Rattle.ix_base.specs.Holding.{is_of, elements_in, named_in, is_blank_beside, holds_only, text_alone}
+use Rattle.ix_base.specs.ElementContent.{is_of, elements_in, named_in, is_blank_beside, holds_only, text_alone}
 use Rattle.ix_base.specs.Steps.{each}
 use Rattle.ix_base.specs.Trees.{Bound, Named, Head, Nodes, elem, Tree}
-use Rattle.ix_base.specs.Written.{Markup}
+use Rattle.ix_base.specs.WrittenMarkup.{Markup}
 use Rattle.instance_out.specs.Canonical.{each_markup, text_markup}
-use Rattle.page_tree.specs.Fine.{nodes_at}
+use Rattle.page_tree.specs.FineMarkup.{nodes_at}
 
 abbrev pub Each : {X : Type 0} → (X → Type 0) → List X → Type 0
 Each P [] = Unit {0}

@@ -1,6 +1,6 @@
 -- A tree denotes one content.
 use Rattle.std.proofs.Common.{◌≡◌, ◌∙◌, sym, Some}
-use Rattle.ix_base.specs.Said.{said_of}
+use Rattle.ix_base.specs.PlainContents.{said_of}
 use Rattle.ix_base.proofs.SaidLaws.{same-content}
 use Rattle.instance_out.specs.Theorem.{DenotesOne}
 

@@ -9,8 +9,8 @@ use Rattle.std.specs.Option.{option_map_or}
 use Rattle.std.proofs.lemmas.Cmp.{nat_list_cmp_total}
 use Rattle.std.proofs.lemmas.List.Sorted.{IsPermutation-append, IsPermutation-append_comm, IsPermutation-cons, IsPermutation-refl, IsPermutation-trans}
 use Rattle.ix_base.specs.Once.{put as put_once, put_by as put_once_by, in_order}
-use Rattle.ix_base.specs.Sorted.{put, put_by, sorted, text_cmp}
-use Rattle.ix_base.specs.Written.{Markup}
+use Rattle.ix_base.specs.SortedLists.{put, put_by, sorted, text_cmp}
+use Rattle.ix_base.specs.WrittenMarkup.{Markup}
 use Rattle.instance_out.specs.Canonical.{line, line_cmp}
 use Rattle.instance_out.specs.Keys.{by_key}
 use Rattle.instance_out.specs.declared.sort.Keyed.{Keyed}

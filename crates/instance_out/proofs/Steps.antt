@@ -6,7 +6,7 @@ use Rattle.std.proofs.lemmas.List.{map-append, map-id}
 use Rattle.std.specs.declared.vec.IntoIter.{IntoIter}
 use Rattle.std.specs.Iterator.{Yields}
 use Rattle.std.specs.Vec.Iter.{into_iter_items, into_iter_steps}
-use Rattle.instance_out.specs.Gaining.{Gains}
+use Rattle.instance_out.specs.Gains.{Gains}
 
 -- the element at an index, and those behind it
 pub front : {A : Type 0} (xs : List A) (i : ℕ) (x : A) → i < length xs → x ≡ get_or xs i x → drop i xs ≡ x ∷ drop (i + 1) xs

@@ -6,17 +6,17 @@ use Rattle.ix_base.specs.declared.content.Content.{Content}
 use Rattle.ix_base.specs.declared.content.Footnote.{Footnote}
 use Rattle.ix_base.specs.Scope.{outermost}
 use Rattle.ix_base.specs.Trees.{Bound}
-use Rattle.ix_base.specs.Written.{Markup, nothing, words, node, leaf, verbatim, written}
+use Rattle.ix_base.specs.WrittenMarkup.{Markup, nothing, words, node, leaf, verbatim, written}
 use Rattle.instance_out.specs.Canonical.{Spaces, canon, first_line}
-use Rattle.ix_base.specs.Filled.{then as joins}
-use Rattle.page_tree.proofs.SpanLaws.{bytes-one, bytes-same}
+use Rattle.ix_base.specs.FilledMarkup.{then as joins}
+use Rattle.page_constructs.proofs.SpanLaws.{bytes-one, bytes-same}
 use Rattle.ix_base.specs.Markup.{body, markup}
-use Rattle.ix_base.specs.Said.{said_of}
+use Rattle.ix_base.specs.PlainContents.{said_of}
 use Rattle.instance_out.specs.Denotation.{denotes}
 use Rattle.instance_out.specs.Instance.{root_for}
-use Rattle.page_tree.specs.Fine.{nodes_at}
-use Rattle.instance_out.specs.Meant.{tree_in}
-use Rattle.instance_out.specs.Holds.{all_notes, said_spaces, all_names}
+use Rattle.page_tree.specs.FineMarkup.{nodes_at}
+use Rattle.instance_out.specs.MarkupTrees.{tree_in}
+use Rattle.instance_out.specs.Holdings.{all_notes, said_spaces, all_names}
 use Rattle.instance_out.specs.Proper.{IsBody, AreBodies, Proper}
 use Rattle.instance_out.specs.Theorem.{ProperIsDenoted}
 use Rattle.instance_out.proofs.NameLaws.{Knows, knows-xml}

@@ -13,8 +13,8 @@ use Rattle.ix_base.specs.Times.{is_like, is_day, number_at, day_of, clock_of, ti
 use Rattle.ix_base.specs.Token.{token_of}
 use Rattle.instance_out.specs.Moments.{date_text, clock_text, time_text, start_text, end_text}
 use Rattle.instance_out.proofs.Calendar.{IsProper, day_at-is}
-use Rattle.page_tree.proofs.AllowedText.{all-append}
-use Rattle.page_tree.proofs.SpanLaws.{bytes-apart}
+use Rattle.page_constructs.proofs.AllowedText.{all-append}
+use Rattle.page_constructs.proofs.SpanLaws.{bytes-apart}
 use Rattle.instance_out.proofs.TokenLaws.{IsDark, token-dark}
 
 digit : (n : ℕ) → n ≤ 9 → is_digit (48 + n) ≡ true

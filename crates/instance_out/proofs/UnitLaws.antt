@@ -6,18 +6,18 @@ use Rattle.ix_base.specs.ContextForm.{own_held, id_of}
 use Rattle.ix_base.specs.OwnNames.{name_cmp}
 use Rattle.ix_base.specs.Elements.{tree_at}
 use Rattle.ix_base.specs.Forms.{is_empty}
-use Rattle.ix_base.specs.Holding.{named_in}
+use Rattle.ix_base.specs.ElementContent.{named_in}
 use Rattle.ix_base.specs.NcName.{is_ncname}
 use Rattle.ix_base.specs.Scope.{namespace_of}
-use Rattle.ix_base.specs.Sorted.{sorted}
+use Rattle.ix_base.specs.SortedLists.{sorted}
 use Rattle.ix_base.specs.Namespaces.{xbrli_namespace}
 use Rattle.ix_base.specs.Trees.{Bound, Head, Nodes, none, elem}
 use Rattle.ix_base.specs.UnitForm.{unit, measures_in, divided, ratio_in}
-use Rattle.ix_base.specs.Written.{nothing, start_text, close_text}
+use Rattle.ix_base.specs.WrittenMarkup.{nothing, start_text, close_text}
 use Rattle.instance_out.specs.Prefixes.{name_text}
 use Rattle.instance_out.specs.Canonical.{Spaces, text_markup, measure_markup, measures_markup, ratio_markup, unit_markup}
-use Rattle.page_tree.specs.Fine.{head_at, nodes_at, past}
-use Rattle.instance_out.specs.Meant.{tree_in}
+use Rattle.page_tree.specs.FineMarkup.{head_at, nodes_at, past}
+use Rattle.instance_out.specs.MarkupTrees.{tree_in}
 use Rattle.instance_out.proofs.NameLaws.{Knows, IsRead, knows-xbrli}
 use Rattle.instance_out.proofs.RunLaws.{Each, text-alone, IsNamedOf, IsNamedRun, named_run}
 use Rattle.instance_out.proofs.ContextLaws.{xbrli_name, id-read}

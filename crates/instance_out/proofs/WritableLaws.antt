@@ -13,9 +13,9 @@ use Rattle.ix_base.specs.declared.content.Fact.TheOpen.{Fact-F}
 use Rattle.ix_base.specs.declared.content.Fact.TheVariants as fact
 use Rattle.ix_base.specs.declared.content.Tuple.{Tuple}
 use Rattle.ix_base.specs.Facts.{Facts, before, facts_of, none}
-use Rattle.ix_base.specs.Sorted.{put, put_by, sorted, text_cmp}
+use Rattle.ix_base.specs.SortedLists.{put, put_by, sorted, text_cmp}
 use Rattle.ix_base.proofs.FactLaws.{before-Item, before-Tuple}
-use Rattle.instance_out.specs.Arranged.{arranged, by_line}
+use Rattle.instance_out.specs.Arrangement.{arranged, by_line}
 use Rattle.instance_out.specs.Canonical.{content_spaces}
 use Rattle.instance_out.specs.Elements.{fact_markup}
 use Rattle.instance_out.specs.Writable.{IsTimely, IsWritable, depth}

@@ -24,8 +24,8 @@ use Rattle.ix_base.specs.declared.content.Value.{Value}
 use Rattle.ix_base.specs.declared.content.Value.TheVariants as value
 use Rattle.ix_base.specs.Facts.{Facts, none, item, tuple, facts_of}
 use Rattle.ix_base.specs.Once.{in_order}
-use Rattle.ix_base.specs.Sorted.{sorted, text_cmp}
-use Rattle.ix_base.specs.Written.{Attribute, Markup, nothing, words, node, leaf, verbatim, start_text, close_text, written}
+use Rattle.ix_base.specs.SortedLists.{sorted, text_cmp}
+use Rattle.ix_base.specs.WrittenMarkup.{Attribute, Markup, nothing, words, node, leaf, verbatim, start_text, close_text, written}
 use Rattle.instance_out.specs.Moments.{start_text as start_moment, end_text as end_moment}
 use Rattle.instance_out.specs.Prefixes.{declaration, declared_for, name_text, spaces_of}
 

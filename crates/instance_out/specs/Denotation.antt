@@ -19,14 +19,14 @@ use Rattle.ix_base.specs.OwnNames.{own}
 use Rattle.ix_base.specs.Facts.{Facts, item, tuple, facts_of}
 use Rattle.ix_base.specs.Facts as F
 use Rattle.ix_base.specs.Forms.{is_true}
-use Rattle.ix_base.specs.Holding.{is_blank, is_of, elements_in, named_in, is_blank_beside, text_alone}
+use Rattle.ix_base.specs.ElementContent.{is_blank, is_of, elements_in, named_in, is_blank_beside, text_alone}
 use Rattle.ix_base.specs.Namespaces.{link_namespace, xbrli_namespace, xlink_namespace, xml_namespace, xsi_namespace}
 use Rattle.ix_base.specs.Steps.{◌>>=◌, each}
 use Rattle.ix_base.specs.Trees.{Named, Valued, Head, Nodes, none, chars, elem, Tree}
 use Rattle.ix_base.specs.UnitForm.{unit}
 use Rattle.ix_base.specs.Markup.{markup}
 use Rattle.instance_out.specs.Lists.{are_apart}
-use Rattle.ix_base.specs.Said.{Said, said_of}
+use Rattle.ix_base.specs.PlainContents.{Said, said_of}
 
 -- Attributes.
 

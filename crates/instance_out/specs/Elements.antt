@@ -1,7 +1,7 @@
 -- Parts of elements that the code writes by themselves.
 use Rattle.std.specs.Prelude.{ℕ, List, [], ◌∷◌, Option, Some, None, codes}
 use Rattle.ix_base.specs.Facts.{before, none}
-use Rattle.ix_base.specs.Written.{Attribute, Markup, nothing, node, leaf, written}
+use Rattle.ix_base.specs.WrittenMarkup.{Attribute, Markup, nothing, node, leaf, written}
 use Rattle.ix_base.specs.declared.content.Accuracy.{Accuracy}
 use Rattle.ix_base.specs.declared.content.Accuracy.TheVariants as accuracy
 use Rattle.ix_base.specs.declared.content.Arc.{Arc}

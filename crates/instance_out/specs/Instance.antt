@@ -1,9 +1,9 @@
 -- The markup of an instance whose lists are in order, bodies of footnotes put in place as markup (XBRL 2.1, sections 3 and 4).
 use Rattle.std.specs.Prelude.{ℕ, List, [], ◌∷◌, ◌++◌, map}
 use Rattle.ix_base.specs.declared.content.NoteLink.{NoteLink}
-use Rattle.ix_base.specs.Filled.{then, filled}
-use Rattle.ix_base.specs.Said.{Said}
-use Rattle.ix_base.specs.Written.{Markup, nothing, words, node}
+use Rattle.ix_base.specs.FilledMarkup.{then, filled}
+use Rattle.ix_base.specs.PlainContents.{Said}
+use Rattle.ix_base.specs.WrittenMarkup.{Markup, nothing, words, node}
 use Rattle.instance_out.specs.Canonical.{Spaces, root, schema_markup, linkbase_markup, role_markup, arcrole_markup, context_markup, unit_markup, fact_markups, link_markup}
 use Rattle.instance_out.specs.Prefixes.{declaration, declared_for}
 

@@ -22,14 +22,14 @@ use Rattle.ix_base.specs.Markup.{markup}
 use Rattle.ix_base.specs.Namespaces.{link_namespace, xbrli_namespace, xmlns_namespace}
 use Rattle.ix_base.specs.NcName.{is_ncname, are_allowed}
 use Rattle.ix_base.specs.OwnNames.{name_cmp}
-use Rattle.ix_base.specs.Sorted.{text_cmp}
+use Rattle.ix_base.specs.SortedLists.{text_cmp}
 use Rattle.ix_base.specs.Sound.{AreSound}
 use Rattle.ix_base.specs.Token.{is_token}
 use Rattle.ix_base.specs.Trees.{Nodes}
 use Rattle.instance_out.specs.Canonical.{line_cmp, arc_line_cmp, fact_names, schema_markup, linkbase_markup, role_markup, arcrole_markup, fact_markups}
-use Rattle.instance_out.specs.Holds.{items_in, fact_ids, all_names, all_notes, all_arcs, all_texts, token_texts, said_spaces}
+use Rattle.instance_out.specs.Holdings.{items_in, fact_ids, all_names, all_notes, all_arcs, all_texts, token_texts, said_spaces}
 use Rattle.instance_out.specs.Lists.{are_apart, is_within, of_option, rises, strictly}
-use Rattle.ix_base.specs.Said.{Said}
+use Rattle.ix_base.specs.PlainContents.{Said}
 use Rattle.instance_out.specs.Writable.{depth}
 
 -- 1. Ids are NCNames, and stand once. A footnote in two links counts as one.

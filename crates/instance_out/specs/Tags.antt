@@ -1,6 +1,6 @@
 -- The attributes of a tag, of which those without a value are left out.
 use Rattle.std.specs.Prelude.{List, flat_map, option_map}
-use Rattle.ix_base.specs.Written.{Attribute}
+use Rattle.ix_base.specs.WrittenMarkup.{Attribute}
 use Rattle.instance_out.specs.declared.markup.Valued.{Valued}
 use Rattle.instance_out.specs.Canonical.{attr_if}
 

@@ -2,15 +2,15 @@
 use Rattle.std.specs.Prelude.{◌≡◌, ℕ, List, [], ◌∷◌, ◌++◌, Option, option_map}
 use Rattle.ix_base.specs.Outside.{Begun, last_grown}
 use Rattle.ix_base.specs.declared.content.Content.{Content}
-use Rattle.ix_base.specs.Said.{said_of}
+use Rattle.ix_base.specs.PlainContents.{said_of}
 use Rattle.ix_base.specs.Scope.{outermost}
 use Rattle.ix_base.specs.Trees.{Tree}
-use Rattle.ix_base.specs.Written.{Markup, written}
+use Rattle.ix_base.specs.WrittenMarkup.{Markup, written}
 use Rattle.instance_out.specs.Canonical.{canon, first_line}
 use Rattle.instance_out.specs.Denotation.{denotes}
 use Rattle.instance_out.specs.Proper.{Proper}
 use Rattle.page_tree.specs.Page.{page}
-use Rattle.instance_out.specs.Meant.{tree_in}
+use Rattle.instance_out.specs.MarkupTrees.{tree_in}
 
 -- the text is the first line and the markup of a root, whose nodes denote the content wherever it begins
 pub record IsDenoted (c : Content) : Type 0 where

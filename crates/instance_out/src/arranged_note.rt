@@ -3,8 +3,8 @@ ghost use Rattle.std.specs.Prelude.{◌≡◌, ℕ, List as Items, map, true, no
 ghost use Rattle.std.specs.BTreeSet.{contains_text};
 ghost use Rattle.std.specs.Ordering.{on};
 ghost use Rattle.ix_base.specs.Once.{in_order};
-ghost use Rattle.ix_base.specs.Sorted.{sorted, text_cmp};
-ghost use Rattle.instance_out.specs.Arranged.{arranged_link, firsts};
+ghost use Rattle.ix_base.specs.SortedLists.{sorted, text_cmp};
+ghost use Rattle.instance_out.specs.Arrangement.{arranged_link, firsts};
 ghost use Rattle.instance_out.specs.Canonical.{arc_line_cmp};
 ghost use Rattle.instance_out.specs.Elements.{footnote_text};
 

@@ -3,11 +3,11 @@ ghost use Rattle.std.specs.Prelude.{◌≡◌, IfOk};
 ghost use Rattle.std.specs.Ordering.{on};
 ghost use Rattle.ix_base.specs.Facts.{facts_of};
 ghost use Rattle.ix_base.specs.Once.{in_order};
-ghost use Rattle.ix_base.specs.Sorted.{sorted, text_cmp};
-ghost use Rattle.instance_out.specs.Arranged.{by_line};
+ghost use Rattle.ix_base.specs.SortedLists.{sorted, text_cmp};
+ghost use Rattle.instance_out.specs.Arrangement.{by_line};
 ghost use Rattle.instance_out.specs.Canonical.{arcrole_markup, content_spaces, linkbase_markup, role_markup, schema_markup};
 ghost use Rattle.instance_out.specs.Elements.{fact_line, fact_markup};
-ghost use Rattle.instance_out.specs.Numbered.{numbers_by};
+ghost use Rattle.instance_out.specs.Numbering.{numbers_by};
 
 use crate::fact::line_of;
 use crate::names::spaces_in;

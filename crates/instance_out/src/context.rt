@@ -1,11 +1,11 @@
 //! The lines of contexts.
 ghost use Rattle.std.specs.Prelude.{◌≡◌, map, IfOk, OnOk, All};
-ghost use Rattle.ix_base.specs.Sorted.{sorted, text_cmp};
-ghost use Rattle.ix_base.specs.Written.{written, nothing};
+ghost use Rattle.ix_base.specs.SortedLists.{sorted, text_cmp};
+ghost use Rattle.ix_base.specs.WrittenMarkup.{written, nothing};
 ghost use Rattle.std.specs.Ordering.{on};
 ghost use Rattle.instance_out.specs.Canonical.{around, context_markup, dim_markup, each_markup, line, period_markup};
 ghost use Rattle.instance_out.specs.Elements.{context_parts};
-ghost use Rattle.instance_out.specs.Gaining.{Gains};
+ghost use Rattle.instance_out.specs.Gains.{Gains};
 ghost use Rattle.instance_out.specs.Writable.{IsTimely};
 
 use crate::markup::{Valued, push_close, push_element, push_leaf, push_start};

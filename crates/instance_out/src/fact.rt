@@ -1,13 +1,13 @@
 //! The lines of facts.
 ghost use Rattle.std.specs.Prelude.{◌≡◌, map, option_map, IfOk, OnOk};
 ghost use Rattle.ix_base.specs.Facts.{facts_of};
-ghost use Rattle.ix_base.specs.Said.{said_of};
-ghost use Rattle.ix_base.specs.Sorted.{sorted, text_cmp};
-ghost use Rattle.ix_base.specs.Written.{written, nothing};
+ghost use Rattle.ix_base.specs.PlainContents.{said_of};
+ghost use Rattle.ix_base.specs.SortedLists.{sorted, text_cmp};
+ghost use Rattle.ix_base.specs.WrittenMarkup.{written, nothing};
 ghost use Rattle.instance_out.specs.Canonical.{fact_markups, facts_markup, item_markup, line};
 ghost use Rattle.instance_out.specs.Elements.{decimals, fact_line, fact_markup, nil_text, precision, value_element};
-ghost use Rattle.instance_out.specs.Gaining.{Gains};
-ghost use Rattle.instance_out.specs.Holds.{said_spaces};
+ghost use Rattle.instance_out.specs.Gains.{Gains};
+ghost use Rattle.instance_out.specs.Holdings.{said_spaces};
 ghost use Rattle.instance_out.specs.Tags.{attrs_of};
 
 use crate::markup::{Valued, push_close, push_element, push_leaf, push_start};

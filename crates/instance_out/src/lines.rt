@@ -2,10 +2,10 @@
 ghost use Rattle.std.specs.Prelude.{◌≡◌, ◌++◌, map, IfOk, OnOk, All};
 ghost use Rattle.std.specs.Ordering.{on};
 ghost use Rattle.ix_base.specs.Once.{in_order};
-ghost use Rattle.ix_base.specs.Sorted.{sorted, text_cmp};
+ghost use Rattle.ix_base.specs.SortedLists.{sorted, text_cmp};
 ghost use Rattle.instance_out.specs.Canonical.{arcrole_markup, canon_lines, context_markup, first_line, last_line, line, line_cmp, link_markup, linkbase_markup, role_markup, schema_markup, unit_markup};
 ghost use Rattle.instance_out.specs.Elements.{fact_line};
-ghost use Rattle.instance_out.specs.Gaining.{Gains};
+ghost use Rattle.instance_out.specs.Gains.{Gains};
 ghost use Rattle.instance_out.specs.Writable.{IsTimely, IsWritable};
 
 use crate::context::context_lines;

@@ -1,9 +1,9 @@
 //! Tags, texts and elements, appended to a line.
 ghost use Rattle.std.specs.Prelude.{◌≡◌, ◌++◌, ◌∷◌, OnOk};
 ghost use Rattle.ix_base.specs.Escapes.{te};
-ghost use Rattle.ix_base.specs.Written.{attrs_text, start_text, leaf_text, close_text, written, nothing};
+ghost use Rattle.ix_base.specs.WrittenMarkup.{attrs_text, start_text, leaf_text, close_text, written, nothing};
 ghost use Rattle.instance_out.specs.Canonical.{attr_if, text_element};
-ghost use Rattle.instance_out.specs.Gaining.{Gains};
+ghost use Rattle.instance_out.specs.Gains.{Gains};
 ghost use Rattle.instance_out.specs.Tags.{attrs_of};
 ghost use Rattle.std.specs.Prelude.{option_map};
 

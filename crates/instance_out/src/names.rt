@@ -1,10 +1,10 @@
 //! The names of a content.
 ghost use Rattle.std.specs.Prelude.{◌≡◌, ◌++◌, ◌∷◌, [], flat_map, IfOk, OnOk};
 ghost use Rattle.ix_base.specs.Facts.{before, facts_of, none};
-ghost use Rattle.ix_base.specs.Said.{said_of};
+ghost use Rattle.ix_base.specs.PlainContents.{said_of};
 ghost use Rattle.instance_out.specs.Canonical.{content_spaces, context_names, dim_names, fact_names, member_names, unit_names};
-ghost use Rattle.instance_out.specs.Gaining.{Gains};
-ghost use Rattle.instance_out.specs.Holds.{all_names};
+ghost use Rattle.instance_out.specs.Gains.{Gains};
+ghost use Rattle.instance_out.specs.Holdings.{all_names};
 ghost use Rattle.instance_out.specs.Prefixes.{spaces_of};
 ghost use Rattle.instance_out.specs.Tables.{own_spaces, values_of};
 

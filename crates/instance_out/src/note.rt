@@ -3,10 +3,10 @@ ghost use Rattle.std.specs.Prelude.{◌≡◌, ◌++◌, map, IfOk, OnOk};
 ghost use Rattle.std.specs.List.{concat};
 ghost use Rattle.std.specs.Ordering.{on};
 ghost use Rattle.ix_base.specs.Once.{in_order};
-ghost use Rattle.ix_base.specs.Sorted.{sorted, text_cmp};
+ghost use Rattle.ix_base.specs.SortedLists.{sorted, text_cmp};
 ghost use Rattle.instance_out.specs.Canonical.{line, link_markup};
 ghost use Rattle.instance_out.specs.Elements.{arc_text, footnote_text, locator_text};
-ghost use Rattle.instance_out.specs.Gaining.{Gains};
+ghost use Rattle.instance_out.specs.Gains.{Gains};
 ghost use Rattle.instance_out.specs.Tables.{values_of};
 
 use crate::markup::{Valued, push_close, push_leaf, push_plain, push_start};

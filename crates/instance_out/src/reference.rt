@@ -4,7 +4,7 @@ ghost use Rattle.ix_base.specs.Once.{in_order};
 ghost use Rattle.instance_out.specs.Canonical.{line, line_cmp, linkbase_markup, schema_markup, role_markup, arcrole_markup};
 ghost use Rattle.instance_out.specs.Elements.{reference_markup};
 ghost use Rattle.instance_out.specs.Tags.{attrs_of};
-ghost use Rattle.ix_base.specs.Written.{leaf, nothing};
+ghost use Rattle.ix_base.specs.WrittenMarkup.{leaf, nothing};
 
 use crate::markup::{Valued, push_leaf};
 use crate::sort::once;

@@ -1,7 +1,7 @@
 //! Texts in order, and things in the order of their keys.
 ghost use Rattle.std.specs.Prelude.{◌≡◌, map, OnOk, IfOk};
 ghost use Rattle.ix_base.specs.Once.{in_order};
-ghost use Rattle.ix_base.specs.Sorted.{sorted, text_cmp};
+ghost use Rattle.ix_base.specs.SortedLists.{sorted, text_cmp};
 ghost use Rattle.instance_out.specs.Keys.{by_key, lasts, ties_last, with_last};
 ghost use Rattle.instance_out.specs.Tables.{values_of};
 

@@ -1,10 +1,10 @@
 //! The lines of units.
 ghost use Rattle.std.specs.Prelude.{◌≡◌, map, IfOk, OnOk};
-ghost use Rattle.ix_base.specs.Sorted.{sorted, text_cmp};
-ghost use Rattle.ix_base.specs.Written.{written};
+ghost use Rattle.ix_base.specs.SortedLists.{sorted, text_cmp};
+ghost use Rattle.ix_base.specs.WrittenMarkup.{written};
 ghost use Rattle.std.specs.Ordering.{on};
 ghost use Rattle.instance_out.specs.Canonical.{line, measures_markup, ratio_markup, unit_markup};
-ghost use Rattle.instance_out.specs.Gaining.{Gains};
+ghost use Rattle.instance_out.specs.Gains.{Gains};
 
 use crate::markup::{Valued, push_close, push_element, push_start};
 use crate::prefix::Prefixes;

@@ -8,7 +8,7 @@ use Rattle.text_map.specs.Texts.{Texts}
 use Rattle.ix_base.specs.declared.content.Arc.{Arc}
 use Rattle.ix_base.specs.declared.content.Footnote.{Footnote}
 use Rattle.ix_base.specs.Attributes.{value_of}
-use Rattle.ix_base.specs.Holding.{named_in}
+use Rattle.ix_base.specs.ElementContent.{named_in}
 use Rattle.ix_base.specs.Namespaces.{link_namespace}
 use Rattle.ix_base.specs.Steps.{◌>>=◌, each}
 use Rattle.ix_base.specs.Trees.{Nodes, Tree}
@@ -16,7 +16,7 @@ use Rattle.instance_out.proofs.PrefixLaws.{bytes_eq-sym}
 use Rattle.instance_out.specs.Denotation.{Labelled, arc_in, ends_of, footnote_in, id_behind, labelled, locator_in, notes_in, typed_as, xlink_at}
 use Rattle.instance_out.specs.Lists.{are_apart}
 use Rattle.instance_tree.specs.declared.ends.End.{End}
-use Rattle.instance_tree.specs.Reading.{HasEnds, arc_by, arc_with, arcs_in, end_of, id_at, is_typed, labels_of, link_by, link_with}
+use Rattle.instance_tree.specs.ReaderWords.{HasEnds, arc_by, arc_with, arcs_in, end_of, id_at, is_typed, labels_of, link_by, link_with}
 
 -- a label has an id where it is one of the labels
 has-id : (ls : List Labelled) (q : List ℕ) → is_some (labelled ls q) ≡ list_any (bytes_eq q) (labels_of ls)

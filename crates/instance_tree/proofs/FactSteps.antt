@@ -5,13 +5,13 @@ use Rattle.ix_base.specs.declared.content.Fact.TheVariants as fact
 use Rattle.ix_base.specs.declared.content.Tuple.{Tuple}
 use Rattle.ix_base.specs.Attributes.{value_of}
 use Rattle.ix_base.specs.Facts.{Facts, none, before, facts_of}
-use Rattle.ix_base.specs.Holding.{is_blank}
+use Rattle.ix_base.specs.ElementContent.{is_blank}
 use Rattle.ix_base.specs.OwnNames.{own}
 use Rattle.ix_base.specs.Steps.{◌>>=◌}
 use Rattle.ix_base.specs.Trees.{Nodes, chars, elem, Tree}
 use Rattle.ix_base.proofs.FactLaws.{before-Tuple}
 use Rattle.instance_out.specs.Denotation.{facts_among, facts_in, is_nil, is_part, members_by}
-use Rattle.instance_tree.specs.Reading.{fact_at, in_front, tuple_at}
+use Rattle.instance_tree.specs.ReaderWords.{fact_at, in_front, tuple_at}
 
 pub tuple-is : (t : Tuple) (e : Tree) (more : Facts) → members_by (is_nil e.head.attrs) (facts_in e.children) ≡ Some (facts_of t.members)
     → t.name ≡ own e.head.name → t.id ≡ value_of e.head.attrs [] (codes "id") → t.nil ≡ is_nil e.head.attrs

@@ -2,7 +2,7 @@
 use Rattle.std.proofs.Common.{◌≡◌, refl, true, false, List, [], ◌∷◌, Some, None}
 use Rattle.ix_base.specs.Forms.{is_empty}
 use Rattle.ix_base.specs.Trees.{Tree}
-use Rattle.instance_tree.specs.Reading.{pair_of}
+use Rattle.instance_tree.specs.ReaderWords.{pair_of}
 
 pub pair-is : (ts us vs : List Tree) (t u : Tree) → ts ≡ t ∷ us → us ≡ u ∷ vs → true ≡ is_empty vs → Some (t, u) ≡ pair_of ts
 pair-is ts us [] t u e f h = rw (e, f) refl

@@ -1,6 +1,6 @@
 //! Reading the elements of a name among some nodes.
 ghost use Rattle.std.specs.Prelude.{◌≡◌, Option, IfOk};
-ghost use Rattle.ix_base.specs.Holding.{named_in};
+ghost use Rattle.ix_base.specs.ElementContent.{named_in};
 ghost use Rattle.ix_base.specs.Namespaces.{link_namespace, xbrli_namespace};
 ghost use Rattle.ix_base.specs.Steps.{each};
 ghost use Rattle.ix_base.specs.Trees.{Tree, tree_of, nodes_of};

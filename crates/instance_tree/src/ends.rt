@@ -2,7 +2,7 @@
 ghost use Rattle.std.specs.Prelude.{◌≡◌, ℕ, List, Some, not, if◌then◌else◌, bytes_eq, is_some, map, option_map, IfOk, IfSome};
 ghost use Rattle.instance_out.specs.Denotation as spec;
 ghost use Rattle.instance_out.specs.Lists.{are_apart};
-ghost use Rattle.instance_tree.specs.Reading.{HasEnds, end_of, id_at, labels_of};
+ghost use Rattle.instance_tree.specs.ReaderWords.{HasEnds, end_of, id_at, labels_of};
 
 use ix_base::{Footnote, NoMemory, Text};
 use std::alloc::Global;

@@ -3,7 +3,7 @@ ghost use Rattle.std.specs.Prelude.{◌≡◌, option_map, IfOk};
 ghost use Rattle.ix_base.specs.Facts.{Facts, before, facts_of as joined_of};
 ghost use Rattle.ix_base.specs.Trees.{named, nodes_of, tree_of};
 ghost use Rattle.instance_out.specs.Denotation as spec;
-ghost use Rattle.instance_tree.specs.Reading.{fact_at, tuple_at};
+ghost use Rattle.instance_tree.specs.ReaderWords.{fact_at, tuple_at};
 
 use crate::items::item_of;
 use holding::is_blank;

@@ -1,10 +1,10 @@
 //! Items: what an element with a context denotes.
 ghost use Rattle.std.specs.Prelude.{◌≡◌, [], option_map, IfOk, codes};
 ghost use Rattle.ix_base.specs.Attributes as attributes;
-ghost use Rattle.ix_base.specs.Holding.{elements_in};
+ghost use Rattle.ix_base.specs.ElementContent.{elements_in};
 ghost use Rattle.ix_base.specs.Trees.{nodes_of, tree_of};
 ghost use Rattle.instance_out.specs.Denotation as spec;
-ghost use Rattle.instance_tree.specs.Reading as reading;
+ghost use Rattle.instance_tree.specs.ReaderWords as reading;
 
 use holding::{first_element, has_no_elements, is_blank_beside, is_of, text_alone};
 use ix_base::namespaces::XBRLI;

@@ -4,7 +4,7 @@
 #![tactic(auto)]
 
 ghost use Rattle.std.specs.Prelude.{◌≡◌, option_map, IfOk};
-ghost use Rattle.ix_base.specs.Said.{said_of};
+ghost use Rattle.ix_base.specs.PlainContents.{said_of};
 ghost use Rattle.ix_base.specs.Trees.{named, nodes_of, tree_of};
 ghost use Rattle.instance_out.specs.Denotation as spec;
 

@@ -2,7 +2,7 @@
 ghost use Rattle.std.specs.Prelude.{◌≡◌, option_map};
 ghost use Rattle.ix_base.specs.Trees.{tree_of};
 ghost use Rattle.instance_out.specs.Denotation.{xlink_at};
-ghost use Rattle.instance_tree.specs.Reading as spec;
+ghost use Rattle.instance_tree.specs.ReaderWords as spec;
 
 use ix_base::namespaces::XLINK;
 use ix_base::{Element, attr_of};

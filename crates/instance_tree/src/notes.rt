@@ -3,7 +3,7 @@ ghost use Rattle.std.specs.Prelude.{◌≡◌, [], None, map, option_map, IfOk};
 ghost use Rattle.ix_base.specs.Markup.{markup};
 ghost use Rattle.ix_base.specs.Trees.{nodes_of, tree_of};
 ghost use Rattle.instance_out.specs.Denotation as spec;
-ghost use Rattle.instance_tree.specs.Reading.{arc_by, arcs_in, end_at, id_at, link_by};
+ghost use Rattle.instance_tree.specs.ReaderWords.{arc_by, arcs_in, end_at, id_at, link_by};
 
 use crate::children::{Reader, read_links};
 use crate::ends::{Ends, ends_of, id_of, table_of};
@@ -157,7 +157,7 @@ impl Reader for FootnoteReader {
 impl Reader for ArcReader<'_, '_> {
     type Part = Arc;
 
-    ghost use Rattle.instance_tree.specs.Reading.{arc_by, id_at};
+    ghost use Rattle.instance_tree.specs.ReaderWords.{arc_by, id_at};
 
     ghost reads = { λ r. arc_by (id_at r.ends.now) };
 

@@ -1,8 +1,8 @@
 -- Bodies that are given as markup write the same bytes.
 use Rattle.std.proofs.Common.{◌≡◌, ◌∙◌, refl, ap, sym, ℕ, List, [], ◌++◌, append_assoc}
 use Rattle.ix_base.specs.Escapes.{te}
-use Rattle.ix_base.specs.Written.{Markup, nothing, words, node, leaf, verbatim, written, start_text, leaf_text, close_text}
-use Rattle.ix_base.specs.Filled.{then, filled, AreBodies}
+use Rattle.ix_base.specs.WrittenMarkup.{Markup, nothing, words, node, leaf, verbatim, written, start_text, leaf_text, close_text}
+use Rattle.ix_base.specs.FilledMarkup.{then, filled, AreBodies}
 
 pub written-then : (m n : Markup) (more : List ℕ) → written (then m n) more ≡ written m (written n more)
 written-then nothing n more = refl

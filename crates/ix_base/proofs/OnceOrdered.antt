@@ -13,7 +13,7 @@ use Rattle.std.proofs.lemmas.Slice.Eq.{bytes_eq-Decides}
 use Rattle.std.proofs.lemmas.List.Kept.{IsStrictlySortedBy-dedup, Contains-dedup, Contains-from_dedup}
 use Rattle.std.proofs.lemmas.List.Sorted.{IsPermutation-map}
 use Rattle.ix_base.specs.Once.{SameMembers, in_order}
-use Rattle.ix_base.specs.Sorted.{text_cmp}
+use Rattle.ix_base.specs.SortedLists.{text_cmp}
 use Rattle.ix_base.proofs.LineLemmas.{map-dedup}
 use Rattle.ix_base.proofs.OnceLemmas.{SameMembers-permutation, SameMembers-trans, is_in_order}
 

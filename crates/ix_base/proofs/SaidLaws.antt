@@ -9,7 +9,7 @@ use Rattle.ix_base.specs.declared.content.Fact.TheViews.{roll-Fact, roll-Tuple}
 use Rattle.ix_base.specs.declared.content.Item.{Item}
 use Rattle.ix_base.specs.declared.content.Tuple.{Tuple}
 use Rattle.ix_base.specs.Facts.{Facts, none, item, tuple, before, facts_of}
-use Rattle.ix_base.specs.Said.{Said, said_of}
+use Rattle.ix_base.specs.PlainContents.{Said, said_of}
 use Rattle.ix_base.proofs.FactLaws.{before-Item, before-Tuple}
 
 -- the facts that look so

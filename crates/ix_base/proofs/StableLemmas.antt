@@ -8,7 +8,7 @@ use Rattle.std.specs.Ordering.{is_lt, ordering_reverse}
 use Rattle.std.specs.declared.cmp.Ordering.{Ordering}
 use Rattle.std.specs.declared.cmp.Ordering.TheVariants.{Less, Equal, Greater}
 use Rattle.std.proofs.lemmas.List.Sorted.{ranks_by, sorted_far}
-use Rattle.ix_base.specs.Sorted.{put_by, put, sorted}
+use Rattle.ix_base.specs.SortedLists.{put_by, put, sorted}
 
 module _ {X : Type 0} (lt : X → X → Bool) (irr : (x : X) → lt x x ≡ false) (far : (x y w : X) → lt x y ≡ true → lt w y ≡ false → lt x w ≡ true) where
   -- none of these is below it

@@ -13,12 +13,12 @@ use Rattle.ix_base.specs.Attributes.{value_of}
 use Rattle.ix_base.specs.ContextForm.{context}
 use Rattle.ix_base.specs.Elements.{Placed, path_of, elements_of}
 use Rattle.ix_base.specs.Forms.{is_empty, is_name_token, is_qname_token, are_names, is_boolean, is_scale, is_sign, is_decimals, is_precision, is_order, is_some_token}
-use Rattle.ix_base.specs.Holding.{is_blank, is_of, same_name, elements_in, named_in, element_alone}
+use Rattle.ix_base.specs.ElementContent.{is_blank, is_of, same_name, elements_in, named_in, element_alone}
 use Rattle.ix_base.specs.Kinds.{ix_kind, kind_in, parent_kind, kind_of, is_inline, is_fact, near}
 use Rattle.ix_base.specs.Scope.{is_qname}
 use Rattle.ix_base.specs.Namespaces.{ix_namespace, link_namespace, xlink_namespace, xbrli_namespace}
 use Rattle.ix_base.specs.Readers.{attr, token_at, name_at, nil_attr, is_nil, scale_of, lang_along}
-use Rattle.ix_base.specs.Resolving.{is_unbound}
+use Rattle.ix_base.specs.ValueNames.{is_unbound}
 use Rattle.ix_base.specs.Rows.{row}
 use Rattle.ix_base.specs.Token.{token_of}
 use Rattle.ix_base.specs.Trees.{Named, Valued, Nodes, none, chars, elem, Tree}

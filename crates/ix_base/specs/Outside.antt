@@ -1,10 +1,17 @@
 -- What the objects of the outside tell, and what their calls do to it.
-use Rattle.std.specs.Prelude.{◌≡◌, ℕ, ◌+◌, ◌<◌, ◌≤◌, Bool, true, false, not, List, [], ◌∷◌, ◌++◌, length, take, Result, Option, OnOk, OnErr, IsTrue, is_some, option_map, Some, None, if◌then◌else◌, bytes_eq}
+use Rattle.std.specs.Prelude.{◌≡◌, ℕ, ◌+◌, ◌<◌, ◌≤◌, Bool, true, false, not, List, [], ◌∷◌, ◌++◌, length, take, drop, Result, Option, OnOk, OnErr, IfSome, IsTrue, is_err, is_some, option_map, Some, None, if◌then◌else◌, bytes_eq}
 
 -- A failure has a cause: the count rose in this call. Ok leaves it.
 pub record HasCause {A E : Type 0} (before now : ℕ) (result : Result A E) : Type 0 where
   pub ok : OnOk result (now ≡ before)
   pub failed : OnErr result (before < now)
+
+-- What a call did to an object's count of faults: a failure has its cause, the object tells whether its last call failed, and the
+-- numbers by which it was made are as before.
+pub record IsCounted {A E : Type 0} (before now : ℕ) (fails : Bool) (made makes : List ℕ) (result : Result A E) : Type 0 where
+  pub cause : HasCause before now result
+  pub failed : fails ≡ is_err result
+  pub numbers : makes ≡ made
 
 -- a source that tells the bytes of some page tells those of this one
 abbrev pub TellsAlso : (List ℕ → Option (List ℕ)) → List ℕ → Type 0
@@ -15,6 +22,22 @@ pub record ReadsFrom (rest buf : List ℕ) (n : ℕ) : Type 0 where
   pub within : n ≤ length rest
   pub bytes : take n buf ≡ take n rest
   pub end : n ≡ 0 → rest ≡ []
+
+-- The page of a name was begun: what is left is all of it, and a source that tells the bytes of some page tells those of this one.
+pub record Begins (page : List ℕ → Option (List ℕ)) (rest : Option (List ℕ)) (name : List ℕ) : Type 0 where
+  pub told : TellsAlso page name
+  pub left : rest ≡ page name
+
+-- a read of n bytes, of what was left before and is left now, into a buffer with room for so many
+pub record Gives (before now : Option (List ℕ)) (room : ℕ) (buf : List ℕ) (n : ℕ) : Type 0 where
+  pub within : n ≤ room
+  pub bytes : IfSome before (λ rest. ReadsFrom rest buf n)
+  pub left : now ≡ option_map (drop n) before
+
+-- a source tells the names that it was asked for as before: the last one, and all of them
+pub record SameNames (asked asks : Option (List ℕ)) (starts begins : Option (List (List ℕ))) : Type 0 where
+  pub last : asks ≡ asked
+  pub all : begins ≡ starts
 
 -- a target that was begun
 pub record Begun : Type 0 where

@@ -1,5 +1,5 @@
 -- The rules, with the codes and texts that a report shows.
-use Rattle.std.specs.Prelude.{ℕ, List, codes}
+use Rattle.std.specs.Prelude.{◌≡◌, ℕ, List, codes}
 use Rattle.ix_base.specs.declared.rule.Rule.{Rule}
 use Rattle.ix_base.specs.declared.rule.Rule.TheVariants as rule
 
@@ -198,3 +198,7 @@ rank_of rule.X1 = 59
 rank_of rule.X2 = 60
 rank_of rule.X3 = 61
 rank_of rule.X4 = 62
+
+-- a rule has this code and this text
+abbrev pub Prints : Rule → List ℕ → List ℕ → Type 0
+Prints r code text = (code_of r ≡ code) × (text_of r ≡ text)

@@ -6,13 +6,9 @@ mod allowed;
 mod attribute;
 mod attrs;
 mod breach;
-pub mod breach_laws;
 mod buffer;
 mod content;
-pub mod content_laws;
-mod digits;
 mod escape;
-mod ids;
 mod kind;
 pub mod limits;
 mod list;
@@ -39,9 +35,7 @@ pub use content::{
     Accuracy, Arc, Content, Context, Dim, Fact, Footnote, Item, Linkbase, Member, NoteLink,
     OwnName, Period, RoleRef, Tuple, Unit, Value,
 };
-pub use digits::{all_digits, has_minus, is_digit, unsigned_of};
 pub use escape::{push_ae, push_te};
-pub use ids::{continued_at, id_at, tuple_id_at, tuple_ref};
 pub use kind::{Kind, is_ix, ix_kind, kind_in, kind_of, parent_kind};
 pub use list::List;
 pub use memory::{MemPage, MemPages, MemTargets, MemText};

@@ -1,7 +1,7 @@
 //! Pages come from a source, and targets and texts go to sinks.
 ghost use Rattle.std.specs.Prelude.{◌≡◌, ◌++◌, ◌∷◌, [], ◌+◌, ◌^◌, ◌<◌, ◌≤◌, ℕ, List, Bool, true, Option, OnOk, OnErr, IfOk, IfSome, IsTrue, is_ok, is_err, length, drop, option_map};
 ghost use Rattle.ix_base.specs.declared.limits.TheConstants.{LONGEST_NAME};
-ghost use Rattle.ix_base.specs.Outside.{HasCause, TellsAlso, ReadsFrom, Begun, begun, last_grown, last_finished, GainsFront, TextGainsFront};
+ghost use Rattle.ix_base.specs.Outside.{Begins, Begun, Gives, GainsFront, IsCounted, SameNames, TextGainsFront, begun, last_finished, last_grown};
 
 use thiserror::Error;
 
@@ -42,31 +42,23 @@ pub trait PageSource {
     fn start(&mut self, name: &str) -> Result<(), Failed>
         requires count { faults self.old + 1 < 2 ^ 64 }
         requires name { length name.now ≤ LONGEST_NAME }
-        ensures cause { HasCause (faults self.old) (faults self.new) result }
-        ensures failed { last_failed self.new ≡ is_err result }
-        ensures numbers { numbers self.new ≡ numbers self.old }
+        ensures counted { IsCounted (faults self.old) (faults self.new) (last_failed self.new) (numbers self.old) (numbers self.new) result }
         ensures pages { page self.new ≡ page self.old }
-        ensures told { OnOk result (TellsAlso (page self.old) name.now) }
+        ensures begins { OnOk result (Begins (page self.old) (left self.new) name.now) }
         ensures started { started self.new ≡ is_ok result }
         ensures asked { IfSome (asked self.new) (λ n. n ≡ name.now) }
-        ensures starts { starts self.new ≡ option_map (λ names. names ++ name.now ∷ []) (starts self.old) }
-        ensures left { OnOk result (left self.new ≡ page self.old name.now) };
+        ensures starts { starts self.new ≡ option_map (λ names. names ++ name.now ∷ []) (starts self.old) };
 
     /// Reads between 1 and `buf.len()` bytes of what is left, or 0 exactly at the page's end.
     fn read(&mut self, buf: &mut [u8]) -> Result<usize, Failed>
         requires count { faults self.old + 1 < 2 ^ 64 }
         requires started { IsTrue (started self.old) }
         requires room { 0 < length buf.old }
-        ensures cause { HasCause (faults self.old) (faults self.new) result }
-        ensures failed { last_failed self.new ≡ is_err result }
-        ensures numbers { numbers self.new ≡ numbers self.old }
+        ensures counted { IsCounted (faults self.old) (faults self.new) (last_failed self.new) (numbers self.old) (numbers self.new) result }
         ensures pages { page self.new ≡ page self.old }
         ensures started { started self.new ≡ started self.old }
-        ensures asked { asked self.new ≡ asked self.old }
-        ensures starts { starts self.new ≡ starts self.old }
-        ensures within { IfOk result (λ n. n ≤ length buf.old) }
-        ensures bytes { IfOk result (λ n. IfSome (left self.old) (λ rest. ReadsFrom rest buf.new n)) }
-        ensures left { IfOk result (λ n. left self.new ≡ option_map (drop n) (left self.old)) };
+        ensures names { SameNames (asked self.old) (asked self.new) (starts self.old) (starts self.new) }
+        ensures gives { IfOk result (λ n. Gives (left self.old) (left self.new) (length buf.old) buf.new n) };
 }
 
 /// Where targets go, one behind another, each under a directory word and its name. It counts its faults as a source of
@@ -96,9 +88,7 @@ pub trait TargetSink {
     /// Adds an unfinished target with no bytes. One that answers Failed has added none.
     fn begin(&mut self, dir: &str, target: &str) -> Result<(), Failed>
         requires { faults self.old + 1 < 2 ^ 64 }
-        ensures cause { HasCause (faults self.old) (faults self.new) result }
-        ensures failed { last_failed self.new ≡ is_err result }
-        ensures numbers { numbers self.new ≡ numbers self.old }
+        ensures counted { IsCounted (faults self.old) (faults self.new) (last_failed self.new) (numbers self.old) (numbers self.new) result }
         ensures ok { OnOk result (targets self.new ≡ option_map (λ ts. ts ++ begun dir.now target.now ∷ []) (targets self.old)) }
         ensures err { OnErr result (targets self.new ≡ targets self.old) }
         ensures opened { OnOk result (IsTrue (is_open self.new)) }
@@ -110,9 +100,7 @@ pub trait TargetSink {
     fn put(&mut self, piece: &[u8]) -> Result<(), Failed>
         requires count { faults self.old + 1 < 2 ^ 64 }
         requires opened { IsTrue (is_open self.old) }
-        ensures cause { HasCause (faults self.old) (faults self.new) result }
-        ensures failed { last_failed self.new ≡ is_err result }
-        ensures numbers { numbers self.new ≡ numbers self.old }
+        ensures counted { IsCounted (faults self.old) (faults self.new) (last_failed self.new) (numbers self.old) (numbers self.new) result }
         ensures ok { OnOk result (targets self.new ≡ option_map (last_grown piece.now) (targets self.old)) }
         ensures err { OnErr result (GainsFront piece.now (targets self.old) (targets self.new)) }
         ensures opened { IsTrue (is_open self.new) }
@@ -123,9 +111,7 @@ pub trait TargetSink {
     fn finish(&mut self) -> Result<(), Failed>
         requires count { faults self.old + 1 < 2 ^ 64 }
         requires opened { IsTrue (is_open self.old) }
-        ensures cause { HasCause (faults self.old) (faults self.new) result }
-        ensures failed { last_failed self.new ≡ is_err result }
-        ensures numbers { numbers self.new ≡ numbers self.old }
+        ensures counted { IsCounted (faults self.old) (faults self.new) (last_failed self.new) (numbers self.old) (numbers self.new) result }
         ensures ok { OnOk result (targets self.new ≡ option_map last_finished (targets self.old)) }
         ensures err { OnErr result (targets self.new ≡ targets self.old) }
         ensures closed { is_open self.new ≡ is_err result }
@@ -150,9 +136,7 @@ pub trait TextSink {
     /// Adds a piece. One that answers Failed has added a front of it.
     fn put(&mut self, piece: &[u8]) -> Result<(), Failed>
         requires { faults self.old + 1 < 2 ^ 64 }
-        ensures cause { HasCause (faults self.old) (faults self.new) result }
-        ensures failed { last_failed self.new ≡ is_err result }
-        ensures numbers { numbers self.new ≡ numbers self.old }
+        ensures counted { IsCounted (faults self.old) (faults self.new) (last_failed self.new) (numbers self.old) (numbers self.new) result }
         ensures ok { OnOk result (taken self.new ≡ option_map (λ t. t ++ piece.now) (taken self.old)) }
         ensures err { OnErr result (TextGainsFront piece.now (taken self.old) (taken self.new)) };
 }

@@ -1,7 +1,7 @@
 //! What elements are for links and facts, by their kinds. No test takes memory.
 ghost use Rattle.std.specs.Prelude.{◌≡◌};
-ghost use Rattle.ix_base.specs.Located as spec;
-ghost use Rattle.ix_base.specs.Located.{located};
+ghost use Rattle.ix_base.specs.LocatedElements as spec;
+ghost use Rattle.ix_base.specs.LocatedElements.{located};
 
 use crate::kind::{Kind, kind_of};
 use crate::tree::Spot;

@@ -1,6 +1,6 @@
 //! The rules that a set of pages can break.
 ghost use Rattle.std.specs.Prelude.{◌≡◌, codes};
-ghost use Rattle.ix_base.specs.Rules.{code_of, text_of};
+ghost use Rattle.ix_base.specs.Rules.{Prints, code_of, text_of};
 
 /// A rule, in the order of the classes: size of the set, page text, element, links, values, the page without its inline
 /// markup, the script of a session.
@@ -216,15 +216,15 @@ impl Rule {
 
     /// What the codes and texts are, at the first and the last rule of each class.
     pub fn printed()
-        ensures s1 { (code_of Rule.S1 ≡ codes "S1") × (text_of Rule.S1 ≡ codes "pages together are too long") }
-        ensures s2 { (code_of Rule.S2 ≡ codes "S2") × (text_of Rule.S2 ≡ codes "pages together hold too many tags") }
-        ensures w1 { (code_of Rule.W1 ≡ codes "W1") × (text_of Rule.W1 ≡ codes "not UTF-8") }
-        ensures w12 { (code_of Rule.W12 ≡ codes "W12") × (text_of Rule.W12 ≡ codes "wrong place in the document") }
-        ensures n1 { (code_of Rule.N1 ≡ codes "N1") × (text_of Rule.N1 ≡ codes "unknown ix element") }
-        ensures n22 { (code_of Rule.N22 ≡ codes "N22") × (text_of Rule.N22 ≡ codes "exclude outside text") }
-        ensures l1 { (code_of Rule.L1 ≡ codes "L1") × (text_of Rule.L1 ≡ codes "id used more than once") }
-        ensures l17 { (code_of Rule.L17 ≡ codes "L17") × (text_of Rule.L17 ≡ codes "role with two addresses") }
-        ensures v1 { (code_of Rule.V1 ≡ codes "V1") × (text_of Rule.V1 ≡ codes "unknown format") }
-        ensures v5 { (code_of Rule.V5 ≡ codes "V5") × (text_of Rule.V5 ≡ codes "denominator is zero") }
+        ensures size { Prints Rule.S1 (codes "S1") (codes "pages together are too long")
+            × Prints Rule.S2 (codes "S2") (codes "pages together hold too many tags") }
+        ensures page { Prints Rule.W1 (codes "W1") (codes "not UTF-8")
+            × Prints Rule.W12 (codes "W12") (codes "wrong place in the document") }
+        ensures element { Prints Rule.N1 (codes "N1") (codes "unknown ix element")
+            × Prints Rule.N22 (codes "N22") (codes "exclude outside text") }
+        ensures link { Prints Rule.L1 (codes "L1") (codes "id used more than once")
+            × Prints Rule.L17 (codes "L17") (codes "role with two addresses") }
+        ensures value { Prints Rule.V1 (codes "V1") (codes "unknown format")
+            × Prints Rule.V5 (codes "V5") (codes "denominator is zero") }
     {}
 }

@@ -14,7 +14,7 @@ use Rattle.ix_base.specs.Elements.{Placed, placed, placed_at, path_of, path_abov
 use Rattle.ix_base.specs.ElementRules.{element_rules, found}
 use Rattle.ix_base.specs.Kinds.{kind_of}
 use Rattle.ix_base.specs.Trees.{Head, Nodes, elem, Tree, tree_of, nodes_of}
-use Rattle.ix_grammar.specs.Adding.{found_as, found_at, found_below, found_from}
+use Rattle.ix_grammar.specs.Additions.{found_as, found_at, found_below, found_from}
 
 -- the rules of the table, for an element of its kind
 pub found-is : (rules : List Rule) (k : Kind) (place : Place) (e : Placed) → rules ≡ element_rules → k ≡ kind_of e

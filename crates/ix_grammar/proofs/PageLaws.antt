@@ -7,7 +7,7 @@ use Rattle.ix_base.specs.Elements.{Placed, elements_of}
 use Rattle.ix_base.specs.ElementRules.{breaks, element_rules, found, found_on}
 use Rattle.ix_base.specs.Rows.{row}
 use Rattle.ix_base.specs.Trees.{Tree}
-use Rattle.ix_grammar.specs.Adding.{found_at, place_on}
+use Rattle.ix_grammar.specs.Additions.{found_at, place_on}
 
 append-all : {X : Type 0} (P : X → Type 0) (xs ys : List X) → AllByRecursion P xs → AllByRecursion P ys → AllByRecursion P (xs ++ ys)
 append-all P [] ys h k = k

@@ -5,7 +5,7 @@ use Rattle.std.proofs.Math.Seq.{take-append_seam, drop-append_seam}
 use Rattle.std.specs.Result.{OnErr}
 use Rattle.ix_base.specs.declared.breach.Found.{Found}
 use Rattle.ix_base.specs.Fronts.{AppendsFront}
-use Rattle.ix_grammar.specs.Adding.{Stands}
+use Rattle.ix_grammar.specs.Additions.{Stands}
 
 pub begins : (added old : List Found) → Stands added old old added
 begins added old = ([], sym (append-nil old), refl)

@@ -1,4 +1,4 @@
-pub mod Adding
+pub mod Additions
 pub mod Measures
 pub mod Parts
-pub mod Stray
+pub mod StrayAttributes

@@ -2,7 +2,7 @@
 use Rattle.std.specs.Prelude.{ℕ, ℤ, Bool, not, ◌&&◌, List, Option, bytes_eq, codes, option_map}
 use Rattle.std.specs.Option.{option_eq}
 use Rattle.std.specs.Ordering.{int_eq}
-use Rattle.ix_base.specs.Holding.{same_name}
+use Rattle.ix_base.specs.ElementContent.{same_name}
 use Rattle.ix_base.specs.Readers.{token_at, name_at, scale_of}
 use Rattle.ix_base.specs.Trees.{Named, named, Tree}
 use Rattle.ix_grammar.specs.declared.nested.Measure.{Measure}

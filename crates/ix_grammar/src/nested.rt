@@ -3,7 +3,7 @@ ghost use Rattle.std.specs.Prelude.{◌≡◌, option_map, false, not, ◌&&◌,
 ghost use Rattle.std.specs.List.{list_any};
 ghost use Rattle.std.specs.Option.{option_map_or, option_eq};
 ghost use Rattle.ix_base.specs.ElementRules as spec;
-ghost use Rattle.ix_base.specs.Holding.{named_in, same_name as same_name_of, element_alone as element_alone_in};
+ghost use Rattle.ix_base.specs.ElementContent.{named_in, same_name as same_name_of, element_alone as element_alone_in};
 ghost use Rattle.ix_base.specs.Namespaces.{ix_namespace};
 ghost use Rattle.ix_base.specs.Readers as reader;
 ghost use Rattle.ix_base.specs.Trees.{tree_of, nodes_of, named};

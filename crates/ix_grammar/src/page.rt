@@ -5,7 +5,7 @@ ghost use Rattle.ix_base.specs.Elements.{path_above};
 ghost use Rattle.ix_base.specs.Readers.{lang_along};
 ghost use Rattle.ix_base.specs.Trees.{tree_of};
 ghost use Rattle.ix_base.specs.Fronts.{AppendsFront};
-ghost use Rattle.ix_grammar.specs.Adding.{found_from};
+ghost use Rattle.ix_grammar.specs.Additions.{found_from};
 
 use crate::references::lang_within;
 use crate::rules::{Subject, check_subject};

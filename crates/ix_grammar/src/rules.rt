@@ -6,7 +6,7 @@ ghost use Rattle.ix_base.specs.Elements.{placed, path_of, place_of};
 ghost use Rattle.ix_base.specs.Kinds.{kind_of as spec_kind_of};
 ghost use Rattle.ix_base.specs.Readers.{lang_along as spec_lang_along};
 ghost use Rattle.ix_base.specs.Fronts.{AppendsFront};
-ghost use Rattle.ix_grammar.specs.Adding.{found_as};
+ghost use Rattle.ix_grammar.specs.Additions.{found_as};
 
 use crate::attributes::{
     breaks_accuracy, breaks_booleans, breaks_names, breaks_order, breaks_roles, breaks_scale,

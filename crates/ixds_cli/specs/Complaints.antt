@@ -1,11 +1,11 @@
 -- What a person is told on standard error, in one line at most.
 use Rattle.std.specs.Prelude.{◌⊎◌, ℕ, List, ◌++◌, [], map, codes, Option, Some, None, is_some, if◌then◌else◌, Result, Ok, Err, Vec}
 use Rattle.std.specs.declared.alloc.Global.{Global}
-use Rattle.page_session.specs.Names.{may_stand_in_name}
+use Rattle.page_names.specs.Names.{may_stand_in_name}
 use Rattle.ixds_run.specs.declared.status.Status.{Status}
 use Rattle.ixds_run.specs.declared.status.Status.TheVariants.{ReadFault, WriteFault, NoMemory}
 use Rattle.ixds_files.specs.Causes.{cause_text}
-use Rattle.ixds_files.specs.Written.{AppendsFront}
+use Rattle.ixds_files.specs.Writers.{AppendsFront}
 use Rattle.ixds_files.specs.declared.cause.Cause.{Cause}
 use Rattle.ixds_files.specs.declared.blamed.Blamed as blamed
 

@@ -1,3 +1,3 @@
 pub mod Complaints
-pub mod Ending
+pub mod Endings
 pub mod Words

@@ -8,8 +8,8 @@ use Rattle.std.specs.declared.io.Error.{Error}
 use Rattle.std.specs.declared.io.ErrorKind.{ErrorKind}
 use Rattle.std.specs.declared.io.ErrorKind.TheVariants.{InvalidData}
 use Rattle.std.specs.declared.vec.IntoIter.{IntoIter}
-use Rattle.ixds_run.specs.Commands as run
-use Rattle.ixds_run.specs.declared.command.Command.{Command}
+use Rattle.command_words.specs.Commands as run
+use Rattle.command_words.specs.declared.command.Command.{Command}
 
 -- what stands for words that can't be had: where one isn't text no words, and else nothing, for want of memory
 abbrev pub words_without : ErrorKind → Option (List (List ℕ))

@@ -1,7 +1,7 @@
 //! What a person is told on standard error.
 ghost use Rattle.std.specs.Prelude.{◌≡◌, ◌⊎◌, ◌++◌, IfOk, IfSome, OnOk, codes};
 ghost use Rattle.ixds_cli.specs.Complaints.{Tells, blame, blame_line, cause_mark, complaint, fault_line, shown, shown_byte, told_line, write_blame};
-ghost use Rattle.ixds_files.specs.Written.{AppendsFront};
+ghost use Rattle.ixds_files.specs.Writers.{AppendsFront};
 
 use crate::wrong::wrong_line;
 use ix_base::{NoMemory, Text};

@@ -6,7 +6,7 @@ ghost use Rattle.std.specs.Prelude.{◌≡◌, ◌⊎◌, ◌+◌, ◌^◌, ◌<
 ghost use Rattle.ixds_run.specs.Answers.{outside};
 ghost use Rattle.ixds_run.specs.SessionAnswers.{Answered};
 ghost use Rattle.ixds_cli.specs.Complaints.{Tells, blame, complaint};
-ghost use Rattle.ixds_cli.specs.Ending.{EndsWith};
+ghost use Rattle.ixds_cli.specs.Endings.{EndsWith};
 ghost use Rattle.ixds_cli.specs.Words.{words_in, command_in};
 
 mod complaint;

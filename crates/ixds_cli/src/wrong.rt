@@ -1,6 +1,6 @@
-//! What is wrong with words that give no command.
+//! The complaint about words that give no command.
 ghost use Rattle.std.specs.Prelude.{◌≡◌, IfOk, IfSome, None};
-ghost use Rattle.ixds_run.specs.Commands as run;
+ghost use Rattle.command_words.specs.Commands as run;
 
 use crate::complaint::push_shown;
 use ix_base::limits::MOST_PAGES;

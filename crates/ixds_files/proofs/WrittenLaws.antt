@@ -3,7 +3,7 @@ use Rattle.std.proofs.Common.{◌≡◌, ◌∙◌, ap, sym, ℕ, List, [], ◌+
 use Rattle.std.proofs.lemmas.List.{take-append-drop}
 use Rattle.std.proofs.Math.Seq.{take-append_seam, take-length}
 use Rattle.std.specs.Io.KnownBytes.{Appends, Keeps}
-use Rattle.ixds_files.specs.Written.{AppendsFront}
+use Rattle.ixds_files.specs.Writers.{AppendsFront}
 
 -- these bytes of the piece were added, and this is left of it
 pub record HasPut (old new : Option (List ℕ)) (piece rest : List ℕ) : Type 0 where

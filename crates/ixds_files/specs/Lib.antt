@@ -1,6 +1,8 @@
 pub mod Causes
 pub mod Deeds
-pub mod Lying
+pub mod PageCalls
+pub mod PartPlaces
 pub mod Parts
+pub mod TargetCalls
 pub mod TargetPath
-pub mod Written
+pub mod Writers

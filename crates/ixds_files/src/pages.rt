@@ -71,9 +71,10 @@ pub fn read_some<F: Read>(file: &mut F, buf: &mut [u8]) -> Result<usize, Cause>
 }
 
 impl<O: Opener + Drop> PageSource for FilePages<O> {
-    ghost use Rattle.std.specs.Prelude.{◌+◌, ◌^◌, Some, IsTrue, IfSome, drop, is_err, is_some};
-    ghost use Rattle.ix_base.specs.Outside.{HasCause, ReadsFrom};
-    ghost use Rattle.ixds_files.specs.Written.{untold};
+    ghost use Rattle.std.specs.Prelude.{◌+◌, ◌^◌, Some, IsTrue, is_some};
+    ghost use Rattle.ix_base.specs.Outside.{Gives, IsCounted, SameNames};
+    ghost use Rattle.ixds_files.specs.PageCalls.{ReadsFile};
+    ghost use Rattle.ixds_files.specs.Writers.{untold};
 
     ghost faults = { λ p. p.faults };
 
@@ -113,19 +114,12 @@ impl<O: Opener + Drop> PageSource for FilePages<O> {
         requires count { self.old.faults + 1 < 2 ^ 64 }
         requires started { IsTrue (is_some self.old.file) }
         requires room { 0 < length buf.old }
-        ensures cause { HasCause self.old.faults self.new.faults result }
-        ensures failed { is_some self.new.cause ≡ is_err result }
+        ensures counted { IsCounted self.old.faults self.new.faults (is_some self.new.cause) [] [] result }
         ensures started { is_some self.new.file ≡ is_some self.old.file }
-        ensures asked { take self.new.asked_len self.new.asked ≡ take self.old.asked_len self.old.asked }
-        ensures starts { O.opens self.new.opener ≡ O.opens self.old.opener }
-        ensures within { IfOk result (λ n. n ≤ length buf.old) }
-        ensures given { IfOk result (λ n. IfSome self.old.file (λ f. IfSome self.new.file (λ g.
-            Consumes (O.File.remaining f) (O.File.remaining g) (take n buf.new)))) }
-        ensures end { IfOk result (λ n. n ≡ 0 → IfSome self.new.file (λ g. IsAtEnd (O.File.remaining g))) }
-        ensures bytes { IfOk result (λ n. IfSome untold (λ rest. ReadsFrom rest buf.new n)) }
-        ensures left { IfOk result (λ n. untold ≡ option_map (drop n) untold) }
-        ensures lost { OnErr result (IfSome self.old.file (λ f. IfSome self.new.file (λ g.
-            Keeps (O.File.remaining f) (O.File.remaining g)))) }
+        ensures names { SameNames (Some (take self.old.asked_len self.old.asked)) (Some (take self.new.asked_len self.new.asked))
+            (O.opens self.old.opener) (O.opens self.new.opener) }
+        ensures gives { IfOk result (λ n. Gives untold untold (length buf.old) buf.new n) }
+        ensures exact { ReadsFile O.File.remaining self.old.file self.new.file buf.new result }
     {
         let read = match &mut self.file {
             Some(file) => read_some(file, buf),

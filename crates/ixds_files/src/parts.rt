@@ -1,8 +1,9 @@
 //! The part of a target: the file in which it is written until it is whole.
-ghost use Rattle.std.specs.Prelude.{◌≡◌, ◌⊎◌, ◌∷◌, ◌++◌, [], IfOk, IfSome, None, OnErr, OnOk};
+ghost use Rattle.std.specs.Prelude.{◌≡◌, ◌∷◌, ◌++◌, [], IfOk, IfSome, None, OnErr, OnOk};
 ghost use Rattle.std.specs.Io.KnownBytes.{Keeps};
 ghost use Rattle.ixds_files.specs.Deeds.{created, did, entered, renamed, synced};
-ghost use Rattle.ixds_files.specs.Parts.{LeavesFolder, LeavesPlace, LooksAtMost, MakesPart, PlacesPart, SyncsAtMost, cleared};
+ghost use Rattle.ixds_files.specs.Parts.{LooksAtMost, PlacesPart, SyncsAtMost, cleared};
+ghost use Rattle.ixds_files.specs.TargetCalls.{IsOpened, LeavesPart, SamePlace};
 ghost use Rattle.ixds_files.specs.TargetPath.{IsPartPath, number_mark, part_path, target_path};
 
 use crate::cause::Cause;
@@ -95,11 +96,7 @@ pub fn part_of<F: Folder>(
     dir: &str,
     target: &str,
 ) -> Result<Part<F::File>, Cause>
-    ensures dir { IfOk result (λ p. p.dir ≡ dir.now) }
-    ensures place { IfOk result (λ p. p.place ≡ target_path dir.now target.now) }
-    ensures beside { IfOk result (λ p. IfSome p.beside (IsPartPath (target_path dir.now target.now))) }
-    ensures made { IfOk result (λ p. MakesPart (target_path dir.now target.now) p.beside (F.deeds folder.old) (F.deeds folder.new)) }
-    ensures empty { IfSome (F.deeds folder.new) (λ _. IfOk result (λ p. IfSome (F.File.contents p.file) (λ held. held ≡ []))) }
+    ensures opened { IfOk result (IsOpened F.File.contents dir.now target.now (F.deeds folder.old) (F.deeds folder.new)) }
     ensures err { OnErr result (LooksAtMost (target_path dir.now target.now) (F.deeds folder.old) (F.deeds folder.new)) }
 {
     let place = path_of(alloc, dir, target)?;
@@ -124,7 +121,7 @@ fn moved<F: Folder>(
         ∷ renamed beside.now part.old.place ∷ []) (F.deeds folder.old)) }
     ensures err { OnErr result (SyncsAtMost (F.File.contents part.old.file) part.old.dir (F.deeds folder.old) (F.deeds folder.new)) }
     ensures kept { Keeps (F.File.contents part.old.file) (F.File.contents part.new.file) }
-    ensures same { (part.new.beside ≡ part.old.beside) × (part.new.place ≡ part.old.place) × (part.new.dir ≡ part.old.dir) }
+    ensures same { SamePlace part.old part.new }
 {
     folder.sync(&mut part.file)?;
     let dir = folder.enter(part.dir.as_str())?;
@@ -137,10 +134,7 @@ fn moved<F: Folder>(
 pub fn placed<F: Folder>(folder: &mut F, part: &mut Part<F::File>) -> Result<(), Cause>
     ensures ok { OnOk result (PlacesPart part.old.beside (F.File.contents part.old.file) part.old.dir part.old.place
         (F.deeds folder.old) (F.deeds folder.new)) }
-    ensures err { OnErr result (LeavesPlace part.old.beside (F.File.contents part.old.file) part.old.dir
-        (F.deeds folder.old) (F.deeds folder.new)
-        ⊎ LeavesFolder part.old.beside (F.File.contents part.old.file) part.old.dir part.old.place
-        (F.deeds folder.old) (F.deeds folder.new)) }
+    ensures err { OnErr result (LeavesPart F.File.contents (F.deeds folder.old) (F.deeds folder.new) part.old) }
     ensures gone { part.new.beside ≡ None }
     ensures kept { Keeps (F.File.contents part.old.file) (F.File.contents part.new.file) }
 {

@@ -1,7 +1,8 @@
 //! Targets that are files.
 ghost use Rattle.std.specs.Prelude.{◌≡◌, ◌+◌, [], IfOk, IfSome, IsTrue, None, OnErr, OnOk, is_some, length};
-ghost use Rattle.ixds_files.specs.Parts.{LooksAtMost, MakesPart, cleared};
-ghost use Rattle.ixds_files.specs.TargetPath.{IsPartPath, target_path};
+ghost use Rattle.ixds_files.specs.Parts.{LooksAtMost, cleared};
+ghost use Rattle.ixds_files.specs.TargetCalls.{IsOpened};
+ghost use Rattle.ixds_files.specs.TargetPath.{target_path};
 
 use crate::blamed::Blamed;
 use crate::cause::Cause;
@@ -53,7 +54,7 @@ fn words_kept(alloc: Global, dir: &str, target: &str) -> Result<(Text, Text), No
 }
 
 impl<F: Folder + Drop> FileTargets<F> {
-    ghost use Rattle.ixds_files.specs.Lying.{lying};
+    ghost use Rattle.ixds_files.specs.PartPlaces.{lying};
 
     /// Removes the part that still lies beside its place.
     fn clear(&mut self)
@@ -77,12 +78,8 @@ impl<F: Folder + Drop> FileTargets<F> {
         ensures asked { IfSome self.new.asked (λ words. words ≡ (dir.now, target.now)) }
         ensures asked_len { self.new.asked_len ≡ length dir.now + length target.now }
         ensures known { OnOk result (IsTrue (is_some self.new.asked)) }
-        ensures dir { IfOk result (λ p. p.dir ≡ dir.now) }
-        ensures place { IfOk result (λ p. p.place ≡ target_path dir.now target.now) }
-        ensures beside { IfOk result (λ p. IfSome p.beside (IsPartPath (target_path dir.now target.now))) }
-        ensures made { IfOk result (λ p. MakesPart (target_path dir.now target.now) p.beside
+        ensures made { IfOk result (IsOpened F.File.contents dir.now target.now
             (cleared (lying self.old.part) (F.deeds self.old.folder)) (F.deeds self.new.folder)) }
-        ensures empty { IfSome (F.deeds self.new.folder) (λ _. IfOk result (λ p. IfSome (F.File.contents p.file) (λ held. held ≡ []))) }
         ensures unmade { OnErr result (LooksAtMost (target_path dir.now target.now)
             (cleared (lying self.old.part) (F.deeds self.old.folder)) (F.deeds self.new.folder)) }
     {
@@ -104,12 +101,9 @@ impl<F: Folder + Drop> FileTargets<F> {
 }
 
 impl<F: Folder + Drop> TargetSink for FileTargets<F> {
-    ghost use Rattle.std.specs.Prelude.{is_err, ◌^◌, ◌<◌, ◌⊎◌};
-    ghost use Rattle.std.specs.Io.KnownBytes.{Appends};
-    ghost use Rattle.ix_base.specs.Outside.{HasCause};
-    ghost use Rattle.ixds_files.specs.Lying.{lying};
-    ghost use Rattle.ixds_files.specs.Parts.{LeavesFolder, LeavesPlace, PlacesPart};
-    ghost use Rattle.ixds_files.specs.Written.{AppendsFront};
+    ghost use Rattle.std.specs.Prelude.{is_err, ◌^◌, ◌<◌};
+    ghost use Rattle.ix_base.specs.Outside.{IsCounted};
+    ghost use Rattle.ixds_files.specs.TargetCalls.{BeginsPart, FinishesPart, PutsPart};
 
     ghost faults = { λ t. t.faults };
 
@@ -127,23 +121,14 @@ impl<F: Folder + Drop> TargetSink for FileTargets<F> {
 
     fn begin(&mut self, dir: &str, target: &str) -> Result<(), Failed>
         requires { self.old.faults + 1 < 2 ^ 64 }
-        ensures cause { HasCause self.old.faults self.new.faults result }
-        ensures failed { is_some self.new.cause ≡ is_err result }
+        ensures counted { IsCounted self.old.faults self.new.faults (is_some self.new.cause) [] [] result }
         ensures opened { OnOk result (IsTrue (is_some self.new.part)) }
         ensures kept { OnErr result (is_some self.new.part ≡ is_some self.old.part) }
         ensures asked { IfSome self.new.asked (λ words. words ≡ (dir.now, target.now)) }
         ensures asked_len { self.new.asked_len ≡ length dir.now + length target.now }
         ensures known { OnOk result (IsTrue (is_some self.new.asked)) }
-        ensures dir { OnOk result (IfSome self.new.part (λ p. p.dir ≡ dir.now)) }
-        ensures place { OnOk result (IfSome self.new.part (λ p. p.place ≡ target_path dir.now target.now)) }
-        ensures beside { OnOk result (IfSome (lying self.new.part) (IsPartPath (target_path dir.now target.now))) }
-        ensures made { OnOk result (MakesPart (target_path dir.now target.now) (lying self.new.part)
-            (cleared (lying self.old.part) (F.deeds self.old.folder)) (F.deeds self.new.folder)) }
-        ensures empty { OnOk result (IfSome (F.deeds self.new.folder)
-            (λ _. IfSome self.new.part (λ p. IfSome (F.File.contents p.file) (λ held. held ≡ [])))) }
-        ensures unmade { OnErr result (LooksAtMost (target_path dir.now target.now)
-            (cleared (lying self.old.part) (F.deeds self.old.folder)) (F.deeds self.new.folder)) }
-        ensures gone { OnErr result (lying self.new.part ≡ None) }
+        ensures exact { BeginsPart F.File.contents dir.now target.now self.old.part self.new.part
+            (F.deeds self.old.folder) (F.deeds self.new.folder) result }
     {
         self.cause = None;
         match self.open(dir, target) {
@@ -162,20 +147,12 @@ impl<F: Folder + Drop> TargetSink for FileTargets<F> {
     fn put(&mut self, piece: &[u8]) -> Result<(), Failed>
         requires count { self.old.faults + 1 < 2 ^ 64 }
         requires opened { IsTrue (is_some self.old.part) }
-        ensures cause { HasCause self.old.faults self.new.faults result }
-        ensures failed { is_some self.new.cause ≡ is_err result }
+        ensures counted { IsCounted self.old.faults self.new.faults (is_some self.new.cause) [] [] result }
         ensures opened { IsTrue (is_some self.new.part) }
         ensures asked { self.new.asked ≡ self.old.asked }
         ensures asked_len { self.new.asked_len ≡ self.old.asked_len }
-        ensures whole { OnOk result (IfSome self.old.part (λ p. IfSome self.new.part (λ q.
-            Appends (F.File.contents p.file) (F.File.contents q.file) piece.now))) }
-        ensures front { IfSome self.old.part (λ p. IfSome self.new.part (λ q.
-            AppendsFront (F.File.contents p.file) (F.File.contents q.file) piece.now)) }
-        ensures quiet { OnOk result (F.deeds self.new.folder ≡ F.deeds self.old.folder) }
-        ensures same { OnOk result (IfSome self.old.part (λ p. IfSome self.new.part (λ q.
-            (q.beside ≡ p.beside) × (q.place ≡ p.place) × (q.dir ≡ p.dir)))) }
-        ensures cleared { OnErr result (F.deeds self.new.folder ≡ cleared (lying self.old.part) (F.deeds self.old.folder)) }
-        ensures gone { OnErr result (lying self.new.part ≡ None) }
+        ensures exact { PutsPart F.File.contents piece.now self.old.part self.new.part
+            (F.deeds self.old.folder) (F.deeds self.new.folder) result }
     {
         let put = match &mut self.part {
             Some(part) => put_all(&mut part.file, piece),
@@ -193,17 +170,12 @@ impl<F: Folder + Drop> TargetSink for FileTargets<F> {
     fn finish(&mut self) -> Result<(), Failed>
         requires count { self.old.faults + 1 < 2 ^ 64 }
         requires opened { IsTrue (is_some self.old.part) }
-        ensures cause { HasCause self.old.faults self.new.faults result }
-        ensures failed { is_some self.new.cause ≡ is_err result }
+        ensures counted { IsCounted self.old.faults self.new.faults (is_some self.new.cause) [] [] result }
         ensures closed { is_some self.new.part ≡ is_err result }
         ensures asked { self.new.asked ≡ self.old.asked }
         ensures asked_len { self.new.asked_len ≡ self.old.asked_len }
-        ensures placed { OnOk result (IfSome self.old.part (λ p. PlacesPart p.beside (F.File.contents p.file) p.dir p.place
-            (F.deeds self.old.folder) (F.deeds self.new.folder))) }
-        ensures unplaced { OnErr result (IfSome self.old.part (λ p.
-            LeavesPlace p.beside (F.File.contents p.file) p.dir (F.deeds self.old.folder) (F.deeds self.new.folder)
-            ⊎ LeavesFolder p.beside (F.File.contents p.file) p.dir p.place (F.deeds self.old.folder) (F.deeds self.new.folder))) }
-        ensures gone { lying self.new.part ≡ None }
+        ensures exact { FinishesPart F.File.contents self.old.part self.new.part
+            (F.deeds self.old.folder) (F.deeds self.new.folder) result }
     {
         let placed = match &mut self.part {
             Some(part) => placed(&mut self.folder, part),

@@ -31,10 +31,10 @@ impl<W: Write + Drop> StdoutText<W> {
 }
 
 impl<W: Write + Drop> TextSink for StdoutText<W> {
-    ghost use Rattle.std.specs.Prelude.{[], is_err, is_some, OnOk, ◌+◌, ◌<◌, ◌^◌};
+    ghost use Rattle.std.specs.Prelude.{[], is_some, OnOk, ◌+◌, ◌<◌, ◌^◌};
     ghost use Rattle.std.specs.Io.KnownBytes.{Appends};
-    ghost use Rattle.ix_base.specs.Outside.{HasCause};
-    ghost use Rattle.ixds_files.specs.Written.{AppendsFront};
+    ghost use Rattle.ix_base.specs.Outside.{IsCounted};
+    ghost use Rattle.ixds_files.specs.Writers.{AppendsFront};
 
     ghost faults = { λ t. t.faults };
 
@@ -46,8 +46,7 @@ impl<W: Write + Drop> TextSink for StdoutText<W> {
 
     fn put(&mut self, piece: &[u8]) -> Result<(), Failed>
         requires { self.old.faults + 1 < 2 ^ 64 }
-        ensures cause { HasCause self.old.faults self.new.faults result }
-        ensures failed { is_some self.new.cause ≡ is_err result }
+        ensures counted { IsCounted self.old.faults self.new.faults (is_some self.new.cause) [] [] result }
         ensures whole { OnOk result (Appends (W.contents self.old.writer) (W.contents self.new.writer) piece.now) }
         ensures front { AppendsFront (W.contents self.old.writer) (W.contents self.new.writer) piece.now }
     {

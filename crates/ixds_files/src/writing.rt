@@ -1,7 +1,7 @@
 //! Writing all of a piece.
 ghost use Rattle.std.specs.Prelude.{OnOk};
 ghost use Rattle.std.specs.Io.KnownBytes.{Appends};
-ghost use Rattle.ixds_files.specs.Written.{AppendsFront};
+ghost use Rattle.ixds_files.specs.Writers.{AppendsFront};
 
 use crate::cause::Cause;
 use std::io;

@@ -7,7 +7,7 @@ use Rattle.ix_base.specs.Outside.{TellsAlso}
 use Rattle.ix_base.specs.declared.rule.Rule.{Rule}
 use Rattle.ix_base.specs.declared.rule.Rule.TheVariants.{X3}
 use Rattle.page_session.specs.Course.{AreTold, Course, Effect, Standing, StandsAs, asks, breaks, bytes_behind, closes, course, course_by, course_from, effect_of, ends, leads, name_read, names_by, names_read, names_read_from, stops, wants, with_check, with_page}
-use Rattle.page_session.specs.Handed.{Handed, handed, is_one_too_many, names_of}
+use Rattle.page_session.specs.HandedPages.{Handed, handed, is_one_too_many, names_of}
 use Rattle.page_session.specs.Sessions.{AreKept, HasPut, IsWithin, base_of, bytes_put, names_in, names_kept}
 use Rattle.page_session.specs.declared.kept.Kept.{Kept}
 use Rattle.page_session.specs.declared.script.Line.TheVariants as line
@@ -15,7 +15,7 @@ use Rattle.page_session.specs.declared.script.ScriptLine.{ScriptLine}
 use Rattle.page_session.specs.declared.session.Session.{Session}
 use Rattle.targets.specs.Breaches.{bytes_in}
 use Rattle.ixds_run.specs.DueTables.{outcome_of}
-use Rattle.ixds_run.specs.Following.{HasFollowed, IsEnded, IsLastPut, OfLines, Started, with_checks}
+use Rattle.ixds_run.specs.ScriptRuns.{HasFollowed, IsEnded, IsLastPut, OfLines, Started, with_checks}
 use Rattle.ixds_run.specs.Gains.{GainsStarts}
 use Rattle.ixds_run.specs.SessionOutcomes.{AreChecked, IsChecked, IsCourseDue, IsExtracted, broken_line}
 use Rattle.page_session.specs.Sources.{told, told_both}

@@ -11,9 +11,9 @@ use Rattle.page_session.specs.declared.script.Script.TheVariants.{Good, Bad}
 use Rattle.page_session.specs.declared.script.ScriptLine.{ScriptLine}
 use Rattle.targets.specs.Breaches.{bytes_in}
 use Rattle.ixds_run.specs.DueTables.{outcome_of}
-use Rattle.ixds_run.specs.Following.{IsEnded, IsLastPut, OfLines, Started, WhyUnfollowed, WhyUnread}
+use Rattle.ixds_run.specs.ScriptRuns.{IsEnded, IsLastPut, OfLines, Started, WhyUnfollowed, WhyUnread}
 use Rattle.ixds_run.specs.Gains.{GainsStarts}
-use Rattle.ixds_run.specs.Reading.{IsAmong}
+use Rattle.ixds_run.specs.PageReads.{IsAmong}
 use Rattle.ixds_run.specs.SessionBytes.{OfScript, names_said, to_read}
 use Rattle.ixds_run.specs.SessionOutcomes.{IsSaidDue, IsSession, broken_line}
 use Rattle.ixds_run.specs.Texts.{cannot_read_line}

@@ -11,15 +11,15 @@ use Rattle.ix_base.specs.declared.tree.Element.{Element}
 use Rattle.page_tree.specs.Break.{fault, w}
 use Rattle.page_tree.specs.Page.{page as page_with}
 use Rattle.page_tree.specs.Stacks.{AreAll}
-use Rattle.page_tree.specs.Standing.{StandsFor}
+use Rattle.page_tree.specs.Model.{StandsFor}
 use Rattle.ix_base.specs.declared.NoMemory.{NoMemory}
-use Rattle.page_session.specs.Reading.{HasFed, IsWhole}
+use Rattle.page_session.specs.PieceReads.{HasFed, IsWhole}
 use Rattle.page_session.specs.Sources.{IsTelling, told, told_both}
 use Rattle.page_session.specs.declared.reading.Sums.{Sums}
 use Rattle.ixds_run.specs.Gains.{GainsStarts}
 use Rattle.ixds_run.specs.CommandBytes.{AreSome}
 use Rattle.ix_base.specs.Outside.{TellsAlso}
-use Rattle.ixds_run.specs.Reading.{Holds, IsReadWhole, HasGained, HasGainedTree, HasRead, HasReadSome, IsRead, IsRoot, AreRoots, IsSound, IsAmong, IsLast, ReadsOn, StopsAt, StopsInTime, WhyStopped, kept_texts}
+use Rattle.ixds_run.specs.PageReads.{Holds, IsReadWhole, HasGained, HasGainedTree, HasRead, HasReadSome, IsRead, IsRoot, AreRoots, IsSound, IsAmong, IsLast, ReadsOn, StopsAt, StopsInTime, WhyStopped, kept_texts}
 use Rattle.ixds_run.specs.declared.read_pages.Stopped.{Stopped}
 use Rattle.ixds_run.specs.declared.read_pages.Stopped.TheVariants as stopped
 use Rattle.ixds_run.specs.declared.open_page.OpenPage.{OpenPage}

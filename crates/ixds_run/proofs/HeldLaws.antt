@@ -4,7 +4,7 @@ use Rattle.std.proofs.Math.ListN.{drop_of_length-le}
 use Rattle.std.proofs.lemmas.List.{get_or-map, length-map}
 use Rattle.ix_base.specs.declared.memory.pages.MemPage.{MemPage}
 use Rattle.ixds_run.specs.CommandBytes.{AreSome}
-use Rattle.ixds_run.specs.Reading.{HasReadSome, IsRead, IsSound, ReadsOn}
+use Rattle.ixds_run.specs.PageReads.{HasReadSome, IsRead, IsSound, ReadsOn}
 use Rattle.page_session.specs.Sources.{told, told_both}
 use Rattle.ixds_run.specs.declared.read_pages.Forest.{Forest}
 use Rattle.ixds_run.proofs.ForestLaws.{next_of, read_more, some_is_sound, some_over, some_read}

@@ -15,7 +15,7 @@ use Rattle.page_tree.specs.Break.{Fault, w}
 use Rattle.page_tree.specs.Page.{page}
 use Rattle.targets.specs.Forest.{AreSoundRoots, AreTrees, page_set, trees_of}
 use Rattle.targets.specs.SetOutcomes.{ComesTo, IsReport}
-use Rattle.ixds_run.specs.Reading.{AreRoots, HasRead, IsRead}
+use Rattle.ixds_run.specs.PageReads.{AreRoots, HasRead, IsRead}
 use Rattle.ixds_run.specs.declared.read_pages.Forest.{Forest}
 use Rattle.targets.specs.declared.outcome.Outcome.{Outcome}
 

@@ -9,7 +9,7 @@ use Rattle.ix_base.specs.Outside.{TellsAlso}
 use Rattle.ix_base.specs.declared.NoMemory.{NoMemory}
 use Rattle.ix_base.specs.declared.rule.Rule.TheVariants.{X2, X3, X4}
 use Rattle.page_session.specs.Course.{AreTold, Standing, StandsAs, breaks, bytes_behind, effect_of, leads, name_read, names_read, names_read_from, nothing_put, stops, with_page, without_page}
-use Rattle.page_session.specs.Handed.{Handed, handed, is_one_too_many, is_there}
+use Rattle.page_session.specs.HandedPages.{Handed, handed, is_one_too_many, is_there}
 use Rattle.page_session.specs.Script.{is_extract}
 use Rattle.page_session.specs.Sessions.{HasDropped, HasPut, IsOver, IsWithin, OfPage, StandsFor, base_of, bytes_put, names_in, tags_put}
 use Rattle.page_session.specs.Sources.{Source}
@@ -20,7 +20,7 @@ use Rattle.page_session.specs.declared.script.Line.TheVariants as line
 use Rattle.page_session.specs.declared.script.ScriptLine.{ScriptLine}
 use Rattle.page_session.specs.declared.session.Session.{Session}
 use Rattle.ixds_run.specs.DueTables.{outcome_of}
-use Rattle.ixds_run.specs.Following.{HasFollowed, IsEnded, IsLastPut, IsLineFollowed, IsSilent, OfLines, OnLines, Started, WhyUnfollowed, ended}
+use Rattle.ixds_run.specs.ScriptRuns.{HasFollowed, IsEnded, IsLastPut, IsLineFollowed, IsSilent, OfLines, OnLines, Started, WhyUnfollowed, ended}
 use Rattle.ixds_run.specs.Gains.{GainsStarts}
 use Rattle.ixds_run.specs.SessionOutcomes.{IsChecked, IsExtracted, broken_line}
 use Rattle.ixds_run.specs.Texts.{cannot_read_line}

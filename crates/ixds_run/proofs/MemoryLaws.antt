@@ -16,14 +16,14 @@ use Rattle.ix_base.specs.declared.memory.targets.MemTargets.{MemTargets}
 use Rattle.ix_base.specs.declared.memory.text.MemText.{MemText}
 use Rattle.ixds_run.specs.Answers.{Answers}
 use Rattle.ixds_run.specs.CommandBytes.{bytes_told}
-use Rattle.ixds_run.specs.Commands.{number_of, pages_of}
+use Rattle.command_words.specs.Commands.{number_of, pages_of}
 use Rattle.ixds_run.specs.Deliveries.{Gives, GivesFront, GivesPart}
 use Rattle.ixds_run.specs.Gains.{IsCut}
 use Rattle.ixds_run.specs.InMemory.{AreFit, memory_outside}
-use Rattle.ixds_run.specs.Reading.{IsAmong}
+use Rattle.ixds_run.specs.PageReads.{IsAmong}
 use Rattle.page_session.specs.Sources.{told, told_both}
-use Rattle.ixds_run.specs.declared.command.Command.{Command}
-use Rattle.ixds_run.specs.declared.command.Command.TheVariants.{Extract, Check, Sample, Plain, Trace, Session}
+use Rattle.command_words.specs.declared.command.Command.{Command}
+use Rattle.command_words.specs.declared.command.Command.TheVariants.{Extract, Check, Sample, Plain, Trace, Session}
 use Rattle.ixds_run.specs.declared.status.Status.{Status}
 use Rattle.ixds_run.specs.declared.status.Status.TheVariants.{Done, Broken, Usage, ReadFault, WriteFault, NoMemory}
 use Rattle.ixds_run.proofs.HeldLaws.{some_is}

@@ -4,7 +4,7 @@ use Rattle.std.specs.List.{flat_map}
 use Rattle.std.proofs.lemmas.List.Elements.{All-head, All-tail}
 use Rattle.ix_base.specs.Asks.{Asks, asks}
 use Rattle.ix_base.specs.Facts.{Facts, none, item, tuple}
-use Rattle.ix_base.specs.Located.{Located, is_item}
+use Rattle.ix_base.specs.LocatedElements.{Located, is_item}
 use Rattle.ix_base.specs.Trees.{Tree}
 use Rattle.ix_base.specs.declared.breach.Breach.{Breach}
 use Rattle.ix_base.specs.declared.breach.Found.{Found}
@@ -14,7 +14,7 @@ use Rattle.ix_base.specs.declared.rule.Rule.{Rule}
 use Rattle.ix_base.specs.declared.rule.Rule.TheVariants.{P1}
 use Rattle.ix_base.proofs.SaidLaws.{same-facts}
 use Rattle.facts.specs.ItemValue.{IsItem}
-use Rattle.instance_out.specs.Arranged.{arranged}
+use Rattle.instance_out.specs.Arrangement.{arranged}
 use Rattle.page_tree.specs.Break.{Fault, w}
 use Rattle.page_tree.specs.Page.{page}
 use Rattle.targets.specs.Contents.{IsContent, IsGathered, SaysItem}
@@ -27,15 +27,15 @@ use Rattle.targets.specs.declared.outcome.Outcome.{Outcome}
 use Rattle.targets.specs.declared.outcome.Outcome.TheVariants.{Broken, Whole}
 use Rattle.targets.specs.declared.outcome.Target.{Target}
 use Rattle.ixds_run.proofs.JudgeLaws.{no_faults}
-use Rattle.ixds_run.specs.Commands.{dir_of, number_of, pages_of}
-use Rattle.ixds_run.specs.Sample.{sample_base}
+use Rattle.command_words.specs.Commands.{dir_of, number_of, pages_of}
+use Rattle.sample_page.specs.Sample.{sample_base}
 use Rattle.ixds_run.specs.Verdicts.{IsOfSet, IsShown, IsShownBy, IsTraced, IsTracedBy, PagesMake, Reports, trace_text, verdict_of}
 use Rattle.ixds_run.specs.DueOutcomes.{DueOutcome, IsOutcome, due_of, targets_under, text_of}
 use Rattle.page_plain.specs.Bare.{is_inline}
 use Rattle.targets.specs.Breaches.{PagesComeTo, on_page, text_faults}
 use Rattle.ixds_run.specs.Texts.{breach_line}
-use Rattle.ixds_run.specs.declared.command.Command.{Command}
-use Rattle.ixds_run.specs.declared.command.Command.TheVariants.{Extract, Check, Sample, Plain, Trace, Session}
+use Rattle.command_words.specs.declared.command.Command.{Command}
+use Rattle.command_words.specs.declared.command.Command.TheVariants.{Extract, Check, Sample, Plain, Trace, Session}
 use Rattle.ixds_run.specs.declared.verdict.Verdict.{Verdict}
 use Rattle.ixds_run.specs.declared.verdict.Verdict.TheVariants.{Printed}
 use Rattle.ixds_run.specs.declared.status.Status.TheVariants as status

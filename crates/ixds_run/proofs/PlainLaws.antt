@@ -1,7 +1,9 @@
 -- A page that is shown without its inline markup.
 use Rattle.std.proofs.Common.{◌≡◌, ◌≢◌, ◌∙◌, ap, sym, refl, subst, ℕ, suc, ◌==◌, ◌++◌, Bool, true, false, List, [], ◌∷◌, length, Some, None, Result, Ok, Err, IfOk, inl, inr, get_or, rules, arith}
 use Rattle.std.specs.Borrow.{Bor}
-use Rattle.ix_base.specs.Sound.{IsSoundTree}
+use Rattle.std.specs.Prelude.{All}
+use Rattle.ix_base.specs.Elements.{pages_of}
+use Rattle.ix_base.specs.Sound.{IsSoundRoot}
 use Rattle.ix_base.specs.Spaces.{AreNumbered, spaces_of}
 use Rattle.ix_base.specs.Trees.{Tree, tree_of}
 use Rattle.ix_base.specs.declared.NoMemory.{NoMemory}
@@ -14,7 +16,7 @@ use Rattle.page_plain.specs.Bare.{bare, is_inline, spell}
 use Rattle.page_tree.specs.Page.{page}
 use Rattle.targets.specs.Breaches.{on_page, size_rule, text_faults}
 use Rattle.targets.specs.Forest.{AreTrees}
-use Rattle.ixds_run.specs.Reading.{AreRoots, HasRead, IsRead}
+use Rattle.ixds_run.specs.PageReads.{AreRoots, HasRead, IsRead}
 use Rattle.ixds_run.specs.Verdicts.{IsShown, IsShownBy, Reports}
 use Rattle.ixds_run.specs.declared.read_pages.Forest.{Forest}
 use Rattle.ixds_run.specs.declared.verdict.Verdict.{Verdict}
@@ -46,12 +48,13 @@ pub record IsAlone (bs : List (List ℕ)) (es : List (Bor Element)) : Type 0 whe
   pub page_is : bs ≡ bytes ∷ []
   pub root_is : es ≡ root ∷ []
   pub of_page : page bytes 256 (tree_of root.now)
+  pub pages : All (λ p. p ≡ 0) (pages_of root.now)
   pub spaces : AreNumbered (spaces_of root.now)
 
 alone : (bs : List (List ℕ)) (es : List (Bor Element)) → length bs ≡ 1 → AreRoots 0 bs es → IsAlone bs es
 alone [] es one all = absurd (let z : 0 ≡ 1 = one in omega arith)
 alone (b ∷ []) [] one all = absurd all
-alone (b ∷ []) (e ∷ []) one all = record { bytes = b; root = e; page_is = refl; root_is = refl; of_page = all.0.0; spaces = all.0.2 }
+alone (b ∷ []) (e ∷ []) one all = record { bytes = b; root = e; page_is = refl; root_is = refl; of_page = all.0.0; pages = all.0.1; spaces = all.0.2 }
 alone (b ∷ []) (e ∷ f ∷ es) one all = absurd all.1
 alone (b ∷ c ∷ bs) es one all = absurd (let z : suc (suc (length bs)) ≡ 1 = one in omega arith)
 
@@ -66,16 +69,11 @@ pub first_is : (bs : List (List ℕ)) (f : Forest) (e : Bor Element) → IsAlone
 first_is bs f e one at = one.root_is ∙ ap (λ (x : Bor Element). x ∷ []) (sym (at ∙ ap (λ (es : List (Bor Element)). get_or es 0 e) one.root_is))
 
 -- and it is sound
-pub sound_first : ((b : List ℕ) (n : ℕ) (t : Tree) → page b n t → IsSoundTree t n) → (bs : List (List ℕ)) (f : Forest) (e : Bor Element) → IsAlone bs f.roots.items
-    → e ≡ get_or f.roots.items 0 e → IsSoundTree (tree_of e.now) 256
+pub sound_first : ((b : List ℕ) (n number : ℕ) (e : Element) → page b n (tree_of e) → All (λ p. p ≡ number) (pages_of e) → AreNumbered (spaces_of e) → IsSoundRoot e number n)
+    → (bs : List (List ℕ)) (f : Forest) (e : Bor Element) → IsAlone bs f.roots.items → e ≡ get_or f.roots.items 0 e → (number : ℕ) × IsSoundRoot e.now number 256
 sound_first sound bs f e one at =
     let same : one.root ≡ e = sym (at ∙ ap (λ (es : List (Bor Element)). get_or es 0 e) one.root_is) in
-    subst (λ (x : Bor Element). IsSoundTree (tree_of x.now) 256) same (sound one.bytes 256 (tree_of one.root.now) one.of_page)
-
--- and its namespaces are numbered
-pub numbered_first : (bs : List (List ℕ)) (f : Forest) (e : Bor Element) → IsAlone bs f.roots.items → e ≡ get_or f.roots.items 0 e → AreNumbered (spaces_of e.now)
-numbered_first bs f e one at =
-    subst (λ (x : Bor Element). AreNumbered (spaces_of x.now)) (sym (at ∙ ap (λ (es : List (Bor Element)). get_or es 0 e) one.root_is)) one.spaces
+    (0, subst (λ (x : Bor Element). IsSoundRoot x.now 0 256) same (sound one.bytes 256 0 one.root.now one.of_page one.pages one.spaces))
 
 -- pages with one root are one page
 trees_of_one : (bs : List (List ℕ)) (e : Bor Element) → AreRoots 0 bs (e ∷ []) → AreTrees bs (tree_of e.now ∷ [])

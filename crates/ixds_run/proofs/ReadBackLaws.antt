@@ -1,7 +1,7 @@
 -- What pages say is read back.
 use Rattle.std.proofs.Common.{ℕ, Bool, true, false, List, [], ◌∷◌, inl, inr, subst, sym}
 use Rattle.std.proofs.lemmas.List.Elements.{All-weaker}
-use Rattle.ix_base.specs.Said.{said_of}
+use Rattle.ix_base.specs.PlainContents.{said_of}
 use Rattle.ix_base.specs.Sound.{IsSoundTree}
 use Rattle.ix_base.specs.Trees.{Tree}
 use Rattle.ix_base.specs.declared.breach.Found.{Found}
@@ -10,7 +10,7 @@ use Rattle.instance_out.specs.Canonical.{canon}
 use Rattle.instance_out.specs.Proper.{Proper}
 use Rattle.instance_out.specs.Theorem.{IsReadBack}
 use Rattle.page_tree.specs.Page.{page}
-use Rattle.targets.specs.Clean.{AreProper}
+use Rattle.targets.specs.ValidSets.{AreProper}
 use Rattle.targets.specs.SetOutcomes.{IsReport}
 use Rattle.targets.specs.declared.outcome.Outcome.{Outcome}
 use Rattle.targets.specs.declared.outcome.Outcome.TheVariants.{Broken, Whole}
@@ -20,10 +20,10 @@ use Rattle.targets.specs.Forest.{paged}
 use Rattle.ix_base.specs.declared.rule.Rule.TheVariants.{P1}
 use Rattle.page_plain.specs.Bare.{is_inline}
 use Rattle.ixds_run.specs.DueOutcomes.{AreReadBack}
-use Rattle.ixds_run.specs.Sample.{sample_base}
+use Rattle.sample_page.specs.Sample.{sample_base}
 use Rattle.ixds_run.specs.Verdicts.{IsOfSet, IsShown, IsShownBy, IsTracedBy, PagesMake, Reports, verdict_of}
-use Rattle.ixds_run.specs.declared.command.Command.{Command}
-use Rattle.ixds_run.specs.declared.command.Command.TheVariants.{Extract, Check, Sample, Plain, Trace, Session}
+use Rattle.command_words.specs.declared.command.Command.{Command}
+use Rattle.command_words.specs.declared.command.Command.TheVariants.{Extract, Check, Sample, Plain, Trace, Session}
 use Rattle.ixds_run.specs.declared.verdict.Verdict.{Verdict}
 use Rattle.targets.specs.Breaches.{PagesComeTo, on_page, text_faults}
 use Rattle.ixds_run.proofs.SoundPages.{sound_pages}

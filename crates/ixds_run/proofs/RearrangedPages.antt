@@ -10,7 +10,7 @@ use Rattle.ix_base.specs.declared.breach.Found.{Found}
 use Rattle.ix_base.specs.declared.rule.Rule.{Rule}
 use Rattle.ix_base.specs.declared.rule.Rule.TheVariants as rule
 use Rattle.ix_base.specs.Breaches.{class_of, report_of, shown}
-use Rattle.ix_base.specs.Located.{Paged}
+use Rattle.ix_base.specs.LocatedElements.{Paged}
 use Rattle.ix_base.specs.Sound.{IsSoundTree}
 use Rattle.ix_base.specs.Trees.{Tree}
 use Rattle.ix_base.proofs.ExchangeLemmas.{by_exchanges}
@@ -21,18 +21,19 @@ use Rattle.targets.specs.declared.outcome.Outcome.TheVariants.{Broken, Whole}
 use Rattle.targets.specs.Forest.{AreTrees, page_set, paged}
 use Rattle.targets.specs.SetOutcomes.{IsReport, ComesTo}
 use Rattle.targets.specs.Breaches.{PagesComeTo, size_rule, tags_in, all_tags_in, bytes_in, fault_row, on_page, set_rule, text_fault, text_faults}
-use Rattle.fact_trace.specs.Held.{AreNew}
+use Rattle.fact_trace.specs.Model.{AreNew}
 use Rattle.fact_trace.specs.Spans.{Source, traces}
-use Rattle.fact_trace.specs.Unbroken.{BreakNoRule, HaveTrees}
+use Rattle.fact_trace.specs.ValidPages.{BreakNoRule, HaveTrees}
 use Rattle.targets.specs.declared.outcome.Target.{Target}
-use Rattle.ixds_run.specs.Commands.{IsGiven, pages_of, with_pages}
-use Rattle.page_session.specs.Handed.{Handed, bytes_of, names_of}
+use Rattle.command_words.specs.Commands.{IsGiven, pages_of}
+use Rattle.ixds_run.specs.CommandKinds.{with_pages}
+use Rattle.page_session.specs.HandedPages.{Handed, bytes_of, names_of}
 use Rattle.ixds_run.specs.Rearrangement.{IsRearranged}
-use Rattle.ixds_run.specs.Sample.{sample_base}
+use Rattle.sample_page.specs.Sample.{sample_base}
 use Rattle.ixds_run.specs.Texts.{trace_line}
 use Rattle.ixds_run.specs.Verdicts.{CommandMakes, IsShown, IsTraced, PagesMake, sources}
-use Rattle.ixds_run.specs.declared.command.Command.{Command}
-use Rattle.ixds_run.specs.declared.command.Command.TheVariants.{Extract, Check, Sample, Plain, Trace, Session}
+use Rattle.command_words.specs.declared.command.Command.{Command}
+use Rattle.command_words.specs.declared.command.Command.TheVariants.{Extract, Check, Sample, Plain, Trace, Session}
 use Rattle.ixds_run.specs.declared.verdict.Verdict.{Verdict}
 use Rattle.ixds_run.specs.declared.verdict.Verdict.TheVariants.{Printed}
 use Rattle.ixds_run.proofs.SoundPages.{sound_pages}

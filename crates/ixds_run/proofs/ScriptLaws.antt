@@ -4,14 +4,14 @@ use Rattle.std.specs.List.{list_all, list_any, starts_with}
 use Rattle.std.specs.Str.{is_utf8}
 use Rattle.std.proofs.lemmas.Bool.{leb-true, ltb-false}
 use Rattle.std.proofs.lemmas.List.Elements.{All-cons, All-nil}
-use Rattle.page_session.specs.Names.{is_page_name, may_stand_in_name}
+use Rattle.page_names.specs.Names.{is_page_name, may_stand_in_name}
 use Rattle.page_session.specs.Script.{Written, before, good_line, in_its_place, is_extract, is_last, line_in, line_written, lines_from, page_name, said, script_of, unless_none}
 use Rattle.page_session.specs.declared.script.Line.{Line}
 use Rattle.page_session.specs.declared.script.Line.TheVariants as line
 use Rattle.page_session.specs.declared.script.Script.{Script}
 use Rattle.page_session.specs.declared.script.Script.TheVariants.{Good, Bad}
 use Rattle.page_session.specs.declared.script.ScriptLine.{ScriptLine}
-use Rattle.ixds_run.specs.Following.{AreLines, IsShort}
+use Rattle.ixds_run.specs.ScriptRuns.{AreLines, IsShort}
 
 either : {X : Type 0} (P : X → Type 0) (v : Bool) (o p : Option X) → IfSome o P → IfSome p P → IfSome (if v then o else p) P
 either P true o p h k = h

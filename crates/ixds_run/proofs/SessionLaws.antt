@@ -2,14 +2,15 @@
 use Rattle.std.proofs.Common.{◌≡◌, ◌⊎◌, refl, ℕ, ◌<◌, false, IsTrue, List, [], Option, Some, None, IfSome, subst, inl, inr, arith}
 use Rattle.ix_base.specs.Outside.{TextGainsFront}
 use Rattle.ixds_run.specs.Answers.{Answers, Outside}
-use Rattle.ixds_run.specs.Commands.{is_session, number_of}
+use Rattle.command_words.specs.Commands.{number_of}
+use Rattle.ixds_run.specs.CommandKinds.{is_session}
 use Rattle.ixds_run.specs.Gains.{GainsStarts, GainsText}
-use Rattle.ixds_run.specs.Reading.{IsAmong}
+use Rattle.ixds_run.specs.PageReads.{IsAmong}
 use Rattle.ixds_run.specs.SessionAnswers.{Answered, Following, SessionAnswers, TellsUnread}
 use Rattle.ixds_run.specs.SessionBytes.{OfScript, to_read}
 use Rattle.ixds_run.specs.Texts.{cannot_read_line}
-use Rattle.ixds_run.specs.declared.command.Command.{Command}
-use Rattle.ixds_run.specs.declared.command.Command.TheVariants.{Extract, Check, Sample, Plain, Trace, Session}
+use Rattle.command_words.specs.declared.command.Command.{Command}
+use Rattle.command_words.specs.declared.command.Command.TheVariants.{Extract, Check, Sample, Plain, Trace, Session}
 use Rattle.ixds_run.specs.declared.status.Status.{Status}
 use Rattle.ixds_run.specs.declared.status.Status.TheVariants.{Done, Broken, Usage, ReadFault, WriteFault, NoMemory}
 use Rattle.ixds_run.proofs.AnswerLaws.{memory_answer, not_one, some_all}

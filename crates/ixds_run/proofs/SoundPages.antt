@@ -1,7 +1,7 @@
 -- The trees of pages are sound.
 use Rattle.std.proofs.Common.{ℕ, List, [], ◌∷◌, All}
 use Rattle.std.proofs.lemmas.List.Elements.{All-cons, All-nil}
-use Rattle.ix_base.specs.Located.{Paged}
+use Rattle.ix_base.specs.LocatedElements.{Paged}
 use Rattle.ix_base.specs.Sound.{IsSoundTree}
 use Rattle.ix_base.specs.Trees.{Tree}
 use Rattle.page_tree.specs.Page.{page}

@@ -10,9 +10,9 @@ use Rattle.ix_base.specs.declared.NoMemory.{NoMemory}
 use Rattle.ix_base.specs.declared.breach.Report.{Report}
 use Rattle.ix_base.specs.declared.tree.Element.{Element}
 use Rattle.ix_base.proofs.OnceLemmas.{Contains-cases, Contains-nil}
-use Rattle.fact_trace.specs.Held.{AreNew, Held}
+use Rattle.fact_trace.specs.Model.{AreNew, Held}
 use Rattle.fact_trace.specs.Spans.{Source}
-use Rattle.fact_trace.specs.Unbroken.{BreakNoRule, names_of}
+use Rattle.fact_trace.specs.ValidPages.{BreakNoRule, names_of}
 use Rattle.page_tree.specs.Break.{Fault, w}
 use Rattle.page_tree.specs.Page.{page}
 use Rattle.targets.specs.Breaches.{PagesComeTo, size_rule}
@@ -20,8 +20,8 @@ use Rattle.targets.specs.Forest.{trees_of}
 use Rattle.targets.specs.declared.outcome.Outcome.{Outcome}
 use Rattle.targets.specs.declared.outcome.Outcome.TheVariants.{Broken, Whole}
 use Rattle.targets.specs.declared.outcome.Target.{Target}
-use Rattle.page_session.specs.Names.{has_repeat}
-use Rattle.ixds_run.specs.Reading.{AreRoots, IsRead, IsRoot, IsSound, kept_texts}
+use Rattle.page_names.specs.Names.{has_repeat}
+use Rattle.ixds_run.specs.PageReads.{AreRoots, IsRead, IsRoot, IsSound, kept_texts}
 use Rattle.ixds_run.specs.Verdicts.{IsTraced, sources, trace_text}
 use Rattle.ixds_run.specs.declared.read_pages.Forest.{Forest}
 use Rattle.ixds_run.specs.declared.verdict.Verdict.{Verdict}

@@ -1,12 +1,13 @@
 -- What the pages of a command come to, by the kind of the command.
 use Rattle.std.proofs.Common.{◌≡◌, ◌∙◌, ap, refl, sym, subst, ℕ, false, List, Some, None, Result, Ok, Err, IfOk}
 use Rattle.ix_base.specs.declared.NoMemory.{NoMemory}
-use Rattle.ixds_run.specs.Commands.{base_of, is_session, pages_of}
-use Rattle.ixds_run.specs.Reading.{IsRead}
-use Rattle.ixds_run.specs.Sample.{sample_base}
+use Rattle.command_words.specs.Commands.{base_of, pages_of}
+use Rattle.ixds_run.specs.CommandKinds.{is_session}
+use Rattle.ixds_run.specs.PageReads.{IsRead}
+use Rattle.sample_page.specs.Sample.{sample_base}
 use Rattle.ixds_run.specs.Verdicts.{CommandMakes, IsOfSet, IsShown, IsTraced, PagesMake}
-use Rattle.ixds_run.specs.declared.command.Command.{Command}
-use Rattle.ixds_run.specs.declared.command.Command.TheVariants.{Extract, Check, Sample, Plain, Trace, Session}
+use Rattle.command_words.specs.declared.command.Command.{Command}
+use Rattle.command_words.specs.declared.command.Command.TheVariants.{Extract, Check, Sample, Plain, Trace, Session}
 use Rattle.ixds_run.specs.declared.read_pages.Forest.{Forest}
 use Rattle.ixds_run.specs.declared.verdict.Verdict.{Verdict}
 

@@ -1,9 +1,9 @@
 -- The bytes of the pages of a command, where the source tells them.
 use Rattle.std.specs.Prelude.{◌≡◌, ℕ, List, [], ◌∷◌, Option, Some, IfSome}
-use Rattle.ixds_run.specs.Sample.{sample_bytes}
+use Rattle.sample_page.specs.Sample.{sample_bytes}
 use Rattle.page_session.specs.Sources.{told}
-use Rattle.ixds_run.specs.declared.command.Command.{Command}
-use Rattle.ixds_run.specs.declared.command.Command.TheVariants.{Extract, Check, Sample, Plain, Trace, Session}
+use Rattle.command_words.specs.declared.command.Command.{Command}
+use Rattle.command_words.specs.declared.command.Command.TheVariants.{Extract, Check, Sample, Plain, Trace, Session}
 
 -- the bytes of the pages that a command names, where the source tells them all; those of a sample are made
 abbrev pub bytes_told : (List ℕ → Option (List ℕ)) → Command → Option (List (List ℕ))

@@ -2,7 +2,7 @@
 use Rattle.std.specs.Prelude.{◌≡◌, ℕ, List, Option}
 use Rattle.ix_base.specs.Outside.{Begun, TextGainsFront}
 use Rattle.ixds_run.specs.Gains.{GainsAll, GainsPart, GainsText, Words}
-use Rattle.ixds_run.specs.declared.command.Command.{Command}
+use Rattle.command_words.specs.declared.command.Command.{Command}
 use Rattle.ixds_run.specs.declared.status.Status.{Status}
 use Rattle.ixds_run.specs.DueOutcomes.{DueOutcome, IsOutcome}
 

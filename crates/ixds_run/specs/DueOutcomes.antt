@@ -5,11 +5,11 @@ use Rattle.ix_base.specs.Forms.{is_empty}
 use Rattle.ix_base.specs.Outside.{Begun}
 use Rattle.instance_out.specs.Canonical.{canon, canon_lines}
 use Rattle.instance_out.specs.Theorem.{IsReadBack}
-use Rattle.ixds_run.specs.Commands.{dir_of, number_of}
+use Rattle.command_words.specs.Commands.{dir_of, number_of}
 use Rattle.ixds_run.specs.Rearrangement.{IsRearranged}
 use Rattle.ixds_run.specs.Summary.{summary_of}
 use Rattle.ixds_run.specs.Texts.{breach_line, sample_text}
-use Rattle.ixds_run.specs.declared.command.Command.{Command}
+use Rattle.command_words.specs.declared.command.Command.{Command}
 use Rattle.ixds_run.specs.declared.status.Status.{Status}
 use Rattle.ixds_run.specs.declared.status.Status.TheVariants as status
 use Rattle.ixds_run.specs.Verdicts.{CommandMakes, is_report}

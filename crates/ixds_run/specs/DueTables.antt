@@ -6,8 +6,8 @@ use Rattle.ixds_run.specs.declared.due.Due.{Due}
 use Rattle.ixds_run.specs.declared.due.DueTarget.{DueTarget}
 use Rattle.ixds_run.specs.declared.status.Status.{Status}
 use Rattle.ixds_run.specs.declared.status.Status.TheVariants as status
-use Rattle.ixds_run.specs.Commands.{dir_of}
-use Rattle.ixds_run.specs.declared.command.Command.{Command}
+use Rattle.command_words.specs.Commands.{dir_of}
+use Rattle.command_words.specs.declared.command.Command.{Command}
 use Rattle.ixds_run.specs.DueOutcomes.{DueOutcome, HasBreach, InstanceLines, IsOutcome}
 
 -- a target that is ready to be written, as it stands when it is finished

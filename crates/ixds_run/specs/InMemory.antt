@@ -11,7 +11,7 @@ use Rattle.ix_base.specs.declared.memory.text.MemText.{MemText}
 use Rattle.ixds_run.specs.Answers.{Outside}
 use Rattle.ixds_run.specs.CommandBytes.{bytes_told}
 use Rattle.ixds_run.specs.DueOutcomes.{DueOutcome, IsOutcome}
-use Rattle.ixds_run.specs.declared.command.Command.{Command}
+use Rattle.command_words.specs.declared.command.Command.{Command}
 
 -- what three objects in memory tell
 abbrev pub memory_outside : MemPages → MemTargets → MemText → Outside

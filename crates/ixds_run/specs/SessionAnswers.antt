@@ -4,12 +4,12 @@ use Rattle.ix_base.specs.Outside.{TextGainsFront}
 use Rattle.ixds_run.specs.Answers.{Answers, Outside}
 use Rattle.ixds_run.specs.DueOutcomes.{DueOutcome}
 use Rattle.ixds_run.specs.Gains.{GainsAll, GainsPart, GainsStarts, GainsText}
-use Rattle.ixds_run.specs.Reading.{IsAmong}
+use Rattle.ixds_run.specs.PageReads.{IsAmong}
 use Rattle.ixds_run.specs.SessionBytes.{OfScript, to_read}
 use Rattle.ixds_run.specs.SessionOutcomes.{IsSession}
 use Rattle.ixds_run.specs.Texts.{cannot_read_line}
-use Rattle.ixds_run.specs.declared.command.Command.{Command}
-use Rattle.ixds_run.specs.declared.command.Command.TheVariants.{Session}
+use Rattle.command_words.specs.declared.command.Command.{Command}
+use Rattle.command_words.specs.declared.command.Command.TheVariants.{Session}
 use Rattle.ixds_run.specs.declared.status.Status.{Status}
 use Rattle.ixds_run.specs.declared.status.Status.TheVariants.{Done, Broken, Usage, ReadFault, WriteFault, NoMemory}
 

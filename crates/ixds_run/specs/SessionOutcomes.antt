@@ -4,7 +4,7 @@ use Rattle.std.specs.List.{concat}
 use Rattle.ix_base.specs.declared.rule.Rule.{Rule}
 use Rattle.ix_base.specs.declared.rule.Rule.TheVariants.{X1}
 use Rattle.page_session.specs.Course.{Course, breaks, course, ends, wants}
-use Rattle.page_session.specs.Handed.{Handed, bytes_of, names_of}
+use Rattle.page_session.specs.HandedPages.{Handed, bytes_of, names_of}
 use Rattle.page_session.specs.Script.{script_of}
 use Rattle.page_session.specs.declared.script.Script.{Script}
 use Rattle.page_session.specs.declared.script.Script.TheVariants.{Good, Bad}

@@ -13,11 +13,11 @@ use Rattle.targets.specs.Forest.{AreTrees}
 use Rattle.targets.specs.SetOutcomes.{IsReport}
 use Rattle.targets.specs.declared.outcome.Outcome.{Outcome}
 use Rattle.targets.specs.declared.outcome.Outcome.TheVariants.{Broken, Whole}
-use Rattle.ixds_run.specs.Commands.{pages_of}
-use Rattle.ixds_run.specs.Sample.{sample_base}
+use Rattle.command_words.specs.Commands.{pages_of}
+use Rattle.sample_page.specs.Sample.{sample_base}
 use Rattle.ixds_run.specs.Texts.{trace_line}
-use Rattle.ixds_run.specs.declared.command.Command.{Command}
-use Rattle.ixds_run.specs.declared.command.Command.TheVariants.{Extract, Check, Sample, Plain, Trace, Session}
+use Rattle.command_words.specs.declared.command.Command.{Command}
+use Rattle.command_words.specs.declared.command.Command.TheVariants.{Extract, Check, Sample, Plain, Trace, Session}
 use Rattle.ixds_run.specs.declared.verdict.Verdict.{Verdict}
 use Rattle.ixds_run.specs.declared.verdict.Verdict.TheVariants.{Reported, Extracted, Printed}
 

@@ -3,18 +3,18 @@ ghost use Rattle.std.specs.Prelude.{◌≡◌, ◌⊎◌, ◌+◌, ◌^◌, ◌<
 ghost use Rattle.ix_base.specs.Outside.{TextGainsFront};
 ghost use Rattle.page_session.specs.Sources.{source_told};
 ghost use Rattle.ixds_run.specs.Answers.{outside};
-ghost use Rattle.ixds_run.specs.Commands.{IsGiven};
+ghost use Rattle.command_words.specs.Commands.{IsGiven};
 ghost use Rattle.ixds_run.specs.Gains.{GainsText};
-ghost use Rattle.ixds_run.specs.Ready.{IsReady};
+ghost use Rattle.ixds_run.specs.ReadyTexts.{IsReady};
 ghost use Rattle.ixds_run.specs.SessionAnswers.{Answered};
 
 use crate::Status;
-use crate::command::Command;
 use crate::deliver::deliver;
 use crate::due::Due;
 use crate::prepare::prepared;
 use crate::read_pages::Stopped;
 use crate::session::follow;
+use command_words::Command;
 use ix_base::{PageSource, TargetSink, TextSink};
 use std::alloc::Global;
 

@@ -2,18 +2,19 @@
 ghost use Rattle.std.specs.Prelude.{◌≡◌, ◌+◌, ◌^◌, ◌<◌, ◌≤◌, false, IfOk};
 ghost use Rattle.ix_base.specs.declared.limits.TheConstants.{MOST_FACTS};
 ghost use Rattle.page_session.specs.Sources.{source_told};
-ghost use Rattle.ixds_run.specs.Asking.{AreGathered};
-ghost use Rattle.ixds_run.specs.Commands.{IsGiven, keeps_pages, pages_of};
+ghost use Rattle.ixds_run.specs.SourceCalls.{AreGathered};
+ghost use Rattle.command_words.specs.Commands.{IsGiven, pages_of};
+ghost use Rattle.ixds_run.specs.CommandKinds.{keeps_pages};
 ghost use Rattle.ixds_run.specs.CommandBytes.{AreSome, bytes_told};
-ghost use Rattle.ixds_run.specs.Reading.{IsRead, IsSound};
-ghost use Rattle.ixds_run.specs.Sample.{sample_bytes, sample_names};
+ghost use Rattle.ixds_run.specs.PageReads.{IsRead, IsSound};
+ghost use Rattle.sample_page.specs.Sample.{sample_bytes, sample_names};
 
-use crate::command::Command;
 use crate::made_pages::build_all;
 use crate::read_pages::{Forest, Stopped, read_all};
-use crate::sample::sample_pages;
 use bumpalo::Bump;
+use command_words::Command;
 use ix_base::{NoMemory, PageSource};
+use sample_page::sample_pages;
 use std::alloc::Global;
 use std::slice::from_ref;
 

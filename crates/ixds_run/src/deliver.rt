@@ -76,26 +76,23 @@ pub fn deliver<S: TargetSink, T: TextSink>(
     requires sink { S.faults sink.old + 1 < 2 ^ 64 }
     requires out { T.faults out.old + 1 < 2 ^ 64 }
     ensures either { (result ≡ status_of due.now.is_broken) ⊎ (result ≡ Status.WriteFault) }
-    ensures targets { result ≡ status_of due.now.is_broken
-        → GainsAll (targets_due (option_map (λ s. s.now) dir.entry) due.now) (S.targets sink.old) (S.targets sink.new) }
-    ensures text { result ≡ status_of due.now.is_broken → GainsText due.now.text (T.taken out.old) (T.taken out.new) }
-    ensures quiet { result ≡ status_of due.now.is_broken
-        → (S.faults sink.new ≡ S.faults sink.old) × (T.faults out.new ≡ T.faults out.old) }
+    ensures whole { result ≡ status_of due.now.is_broken
+        → GainsAll (targets_due (option_map (λ s. s.now) dir.entry) due.now) (S.targets sink.old) (S.targets sink.new)
+        × GainsText due.now.text (T.taken out.old) (T.taken out.new)
+        × (S.faults sink.new ≡ S.faults sink.old) × (T.faults out.new ≡ T.faults out.old) }
     ensures cause { result ≡ Status.WriteFault
         → (S.faults sink.old < S.faults sink.new) ⊎ (T.faults out.old < T.faults out.new) }
-    ensures last { result ≡ Status.WriteFault → S.faults sink.old < S.faults sink.new → IsTrue (S.last_failed sink.new) }
-    ensures last_text { result ≡ Status.WriteFault → S.faults sink.new ≡ S.faults sink.old → IsTrue (T.last_failed out.new) }
-    ensures numbers { (S.numbers sink.new ≡ S.numbers sink.old) × (T.numbers out.new ≡ T.numbers out.old) }
-    ensures part { result ≡ Status.WriteFault → S.faults sink.old < S.faults sink.new
-        → (out.new ≡ out.old)
+    ensures cut { result ≡ Status.WriteFault → S.faults sink.old < S.faults sink.new
+        → IsTrue (S.last_failed sink.new) × (out.new ≡ out.old)
         × GainsPart (targets_due (option_map (λ s. s.now) dir.entry) due.now) (S.targets sink.old) (S.targets sink.new)
         (words_asked S.TargetSink sink.new) }
-    ensures all { result ≡ Status.WriteFault → S.faults sink.new ≡ S.faults sink.old
-        → GainsAll (targets_due (option_map (λ s. s.now) dir.entry) due.now) (S.targets sink.old) (S.targets sink.new)
+    ensures front { result ≡ Status.WriteFault → S.faults sink.new ≡ S.faults sink.old
+        → IsTrue (T.last_failed out.new)
+        × GainsAll (targets_due (option_map (λ s. s.now) dir.entry) due.now) (S.targets sink.old) (S.targets sink.new)
         × TextGainsFront due.now.text (T.taken out.old) (T.taken out.new) }
-    ensures no_dir { dir.entry ≡ None → sink.new ≡ sink.old }
-    ensures none { due.now.targets.items ≡ [] → sink.new ≡ sink.old }
-    ensures silent { due.now.text ≡ [] → out.new ≡ out.old }
+    ensures numbers { (S.numbers sink.new ≡ S.numbers sink.old) × (T.numbers out.new ≡ T.numbers out.old) }
+    ensures still { (dir.entry ≡ None → sink.new ≡ sink.old) × (due.now.targets.items ≡ [] → sink.new ≡ sink.old)
+        × (due.now.text ≡ [] → out.new ≡ out.old) }
 {
     if put_due(due, dir, sink).is_err() {
         return Status::WriteFault;

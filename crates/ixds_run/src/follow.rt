@@ -1,14 +1,14 @@
 //! Following a script line by line.
 ghost use Rattle.std.specs.Prelude.{◌≡◌, ◌+◌, ◌^◌, ◌<◌, ◌≤◌, ◌++◌, ℕ, List, None, Some, length, IfOk, OnOk};
 ghost use Rattle.ix_base.specs.declared.limits.TheConstants.{LONGEST_NAME};
-ghost use Rattle.page_session.specs.Handed.{Handed};
+ghost use Rattle.page_session.specs.HandedPages.{Handed};
 ghost use Rattle.page_session.specs.Sessions.{StandsFor, base_of};
 ghost use Rattle.page_session.specs.Sources.{source_told};
 ghost use Rattle.page_session.specs.declared.script.Line.TheVariants as script_line;
 ghost use Rattle.ixds_run.specs.DueOutcomes.{due_of};
 ghost use Rattle.ixds_run.specs.DueTables.{outcome_of};
 ghost use Rattle.ixds_run.specs.Verdicts.{verdict_of};
-ghost use Rattle.ixds_run.specs.Following.{IsLineFollowed, IsShort, IsSilent, ended};
+ghost use Rattle.ixds_run.specs.ScriptRuns.{IsLineFollowed, IsShort, IsSilent, ended};
 ghost use Rattle.ixds_run.specs.SessionOutcomes.{IsChecked, IsExtracted, broken_line};
 
 use crate::due::{Due, ready};

@@ -5,7 +5,7 @@ ghost use Rattle.ix_base.specs.Trees.{Tree};
 ghost use Rattle.targets.specs.Breaches.{size_rule, PagesComeTo, on_page, text_faults};
 ghost use Rattle.targets.specs.Forest.{AreTrees, page_set};
 ghost use Rattle.targets.specs.SetOutcomes.{ComesTo, CanBeWritten, IsReport};
-ghost use Rattle.ixds_run.specs.Reading.{HasRead, IsRead, IsSound};
+ghost use Rattle.ixds_run.specs.PageReads.{HasRead, IsRead, IsSound};
 
 use crate::read_pages::Forest;
 use bumpalo::Bump;

@@ -7,15 +7,15 @@ ghost use Rattle.ix_base.specs.MemTargets.{sink_targets};
 ghost use Rattle.ix_base.specs.MemText.{text_taken};
 ghost use Rattle.ix_base.specs.declared.breach.Breach.{Breach};
 ghost use Rattle.ixds_run.specs.Answers.{Answers, outside};
-ghost use Rattle.ixds_run.specs.Commands.{command_of, IsGiven};
+ghost use Rattle.command_words.specs.Commands.{command_of, IsGiven};
 ghost use Rattle.ixds_run.specs.DueOutcomes.{AreReadBack, DueOutcome, IsOutcome};
 ghost use Rattle.targets.specs.Breaches.{PagesComeTo};
 ghost use Rattle.ixds_run.specs.Deliveries.{Gives};
 ghost use Rattle.ixds_run.specs.InMemory.{AreFit, memory_outside};
-ghost use Rattle.page_session.specs.Handed.{Handed, bytes_of, names_of};
+ghost use Rattle.page_session.specs.HandedPages.{Handed, bytes_of, names_of};
 ghost use Rattle.ixds_run.specs.Rearrangement.{IsRearranged};
 ghost use Rattle.ixds_run.specs.Texts.{breach_line};
-ghost use Rattle.ixds_run.specs.declared.command.Command.{Command};
+ghost use Rattle.command_words.specs.declared.command.Command.{Command};
 ghost use Rattle.ixds_run.specs.declared.status.Status.{Status};
 ghost use Rattle.ixds_run.specs.declared.status.Status.TheVariants.{NoMemory};
 ghost use Rattle.ixds_run.specs.declared.verdict.Verdict.{Verdict};
@@ -24,7 +24,7 @@ ghost use Rattle.targets.specs.declared.outcome.Outcome.{Outcome};
 
 use fact_trace::laws::traced_in_any_order;
 use facts::laws::one_item;
-use instance_out::read_back;
+use instance_laws::read_back;
 use ix_base::{MemPages, MemTargets, MemText, PageSource, TargetSink, TextSink};
 use page_tree::laws::{no_tree, one_tree, sound_tree};
 

@@ -3,11 +3,10 @@
 
 ghost use Rattle.std.specs.Prelude.{◌≡◌, ◌+◌, ◌^◌, ◌<◌};
 ghost use Rattle.ixds_run.specs.Answers.{outside};
-ghost use Rattle.ixds_run.specs.Commands.{command_of};
+ghost use Rattle.command_words.specs.Commands.{command_of};
 ghost use Rattle.ixds_run.specs.SessionAnswers.{Answered};
 
 mod answer;
-mod command;
 mod command_pages;
 mod deliver;
 mod due;
@@ -21,7 +20,6 @@ mod plain;
 mod prepare;
 mod read_pages;
 mod report;
-mod sample;
 mod session;
 mod status;
 mod summary;
@@ -29,10 +27,10 @@ mod trace;
 mod verdict;
 
 use answer::answer;
-pub use command::{Command, command_of};
+pub use command_words::{Command, command_of};
 use ix_base::{PageSource, TargetSink, Text, TextSink};
 use lines::put_usage;
-pub use sample::sample_pages;
+pub use sample_page::sample_pages;
 pub use status::Status;
 use std::alloc::Global;
 
@@ -55,7 +53,7 @@ pub fn run<P: PageSource, S: TargetSink, T: TextSink>(
         (outside P.PageSource S.TargetSink T.TextSink pages.new sink.new out.new)
         (pages.new ≡ pages.old) (sink.new ≡ sink.old) (out.new ≡ out.old) result }
 {
-    match command::command_of(alloc, words) {
+    match command_of(alloc, words) {
         Err(_) => Status::NoMemory,
         Ok(None) => put_usage(out),
         Ok(Some(command)) => answer(alloc, &command, pages, sink, out),

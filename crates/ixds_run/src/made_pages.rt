@@ -1,7 +1,7 @@
 //! Pages that were made, and lie in memory.
 ghost use Rattle.std.specs.Prelude.{◌≡◌, ◌≤◌, [], Some, false, length, map, IfOk, OnOk};
 ghost use Rattle.ix_base.specs.declared.limits.TheConstants.{MOST_BYTES, MOST_PAGES};
-ghost use Rattle.ixds_run.specs.Reading.{IsRead, IsSound, ReadsOn};
+ghost use Rattle.ixds_run.specs.PageReads.{IsRead, IsSound, ReadsOn};
 
 use crate::open_page::OpenPage;
 use crate::read_pages::{Forest, end_page, no_pages};

@@ -1,8 +1,8 @@
 //! A page that is being read.
 ghost use Rattle.std.specs.Prelude.{◌≡◌, []};
 ghost use Rattle.ix_base.specs.declared.limits.TheConstants.{DEEPEST_ELEMENT};
-ghost use Rattle.page_tree.specs.Standing.{limit, page_number};
-ghost use Rattle.ixds_run.specs.Reading.{HasTaken};
+ghost use Rattle.page_tree.specs.Model.{limit, page_number};
+ghost use Rattle.ixds_run.specs.PageReads.{HasTaken};
 
 use bumpalo::Bump;
 use ix_base::NoMemory;
@@ -43,7 +43,7 @@ impl<'a> OpenPage<'a> {
 }
 
 impl PageTaker for OpenPage<'_> {
-    ghost use Rattle.ixds_run.specs.Reading.{HasTaken};
+    ghost use Rattle.ixds_run.specs.PageReads.{HasTaken};
 
     ghost took = { λ fresh b p. HasTaken fresh b p };
 

@@ -1,12 +1,11 @@
 //! A page that is shown without its inline markup.
 ghost use Rattle.std.specs.Prelude.{◌≡◌, ◌<◌, ℕ, List, All, None, IfOk, length};
 ghost use Rattle.ix_base.specs.declared.limits.TheConstants.{DEEPEST_ELEMENT};
-ghost use Rattle.ix_base.specs.Sound.{IsSoundTree};
-ghost use Rattle.ix_base.specs.Spaces.{AreNumbered, spaces_of};
+ghost use Rattle.ix_base.specs.Sound.{IsSoundRoot};
 ghost use Rattle.ix_base.specs.Trees.{tree_of};
 ghost use Rattle.page_plain.specs.Bare.{is_inline};
 ghost use Rattle.targets.specs.Breaches.{size_rule};
-ghost use Rattle.ixds_run.specs.Reading.{HasRead, IsRead, IsSound};
+ghost use Rattle.ixds_run.specs.PageReads.{HasRead, IsRead, IsSound};
 ghost use Rattle.ixds_run.specs.Verdicts.{AreWritable, IsShown, IsShownBy, Reports};
 
 use crate::judge::size_rule_of;
@@ -38,8 +37,7 @@ fn is_inline_root(root: &Element<'_>) -> bool
 /// What a page comes to that has this root.
 fn root_shown(alloc: Global, names: &[Text], root: &Element<'_>) -> Result<Verdict, NoMemory>
     requires one { length names.now ≡ 1 }
-    requires sound { IsSoundTree (tree_of root.now) DEEPEST_ELEMENT }
-    requires spaces { AreNumbered (spaces_of root.now) }
+    requires sound { (page : ℕ) × IsSoundRoot root.now page DEEPEST_ELEMENT }
     ensures shown { IfOk result (IsShownBy (is_inline (tree_of root.now).head.name) names.now (tree_of root.now)) }
     ensures written { IfOk result AreWritable }
 {

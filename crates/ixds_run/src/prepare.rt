@@ -1,19 +1,20 @@
 //! A command whose pages are read or made, up to what is due of them.
 ghost use Rattle.std.specs.Prelude.{◌≡◌, ◌+◌, ◌^◌, ◌<◌, false, ℕ, List, IfOk};
 ghost use Rattle.page_session.specs.Sources.{source_told};
-ghost use Rattle.ixds_run.specs.Commands.{IsGiven, is_session, keeps_pages, pages_of};
+ghost use Rattle.command_words.specs.Commands.{IsGiven, pages_of};
+ghost use Rattle.ixds_run.specs.CommandKinds.{is_session, keeps_pages};
 ghost use Rattle.ixds_run.specs.DueTables.{IsDueFrom};
-ghost use Rattle.ixds_run.specs.Following.{IsSilent};
-ghost use Rattle.ixds_run.specs.Reading.{IsRead, IsSound};
-ghost use Rattle.ixds_run.specs.Ready.{IsPrepared};
+ghost use Rattle.ixds_run.specs.ScriptRuns.{IsSilent};
+ghost use Rattle.ixds_run.specs.PageReads.{IsRead, IsSound};
+ghost use Rattle.ixds_run.specs.ReadyTexts.{IsPrepared};
 
-use crate::command::Command;
 use crate::command_pages::gathered;
 use crate::due::{Due, ready};
 use crate::laws::{said_in_any_order, said_read_back};
 use crate::read_pages::{Forest, Stopped};
 use crate::verdict::verdict_from;
 use bumpalo::Bump;
+use command_words::Command;
 use ix_base::{NoMemory, PageSource};
 use std::alloc::Global;
 

@@ -2,13 +2,12 @@
 ghost use Rattle.std.specs.Prelude.{◌≡◌, ◌+◌, ◌^◌, ◌<◌, ◌≤◌, ◌⊎◌, ◌++◌, ◌∷◌, [], ℕ, List, All, length, map, true};
 ghost use Rattle.std.specs.Prelude.{IfOk, IfErr, IfSome, OnOk, option_map};
 ghost use Rattle.ix_base.specs.declared.limits.TheConstants.{DEEPEST_ELEMENT, LONGEST_NAME, MOST_BYTES, MOST_PAGES, PIECE};
-ghost use Rattle.ix_base.specs.Outside.{TellsAlso};
-ghost use Rattle.page_tree.specs.Standing.{StandsFor, limit, page_number};
-ghost use Rattle.page_session.specs.Reading.{HasReadCause, IsLastCall};
+ghost use Rattle.page_tree.specs.Model.{StandsFor, limit, page_number};
+ghost use Rattle.page_session.specs.PieceReads.{AsksFor};
 ghost use Rattle.page_session.specs.Sources.{source_told, told};
-ghost use Rattle.ixds_run.specs.Asking.{AreAsked};
+ghost use Rattle.ixds_run.specs.SourceCalls.{AreAsked, IsTried};
 ghost use Rattle.ixds_run.specs.CommandBytes.{AreSome};
-ghost use Rattle.ixds_run.specs.Reading.{HasGained, HasGainedTree, Holds, IsRead, IsSound, ReadsOn, StopsAt, StopsInTime};
+ghost use Rattle.ixds_run.specs.PageReads.{HasGained, HasGainedTree, Holds, IsRead, IsSound, ReadsOn, StopsInTime};
 
 use crate::lines::cannot_read;
 use crate::open_page::{MOST, OpenPage};
@@ -132,19 +131,11 @@ fn read_on<'a, P: PageSource>(
     requires count { P.faults pages.old + 1 < 2 ^ 64 }
     requires name { length name.now ≤ LONGEST_NAME }
     requires room { length buffer.old ≡ PIECE }
-    requires most { forest.old.sums.bytes ≤ MOST_BYTES }
-    requires tags { forest.old.sums.tags ≤ forest.old.sums.bytes }
+    requires sums { (forest.old.sums.bytes ≤ MOST_BYTES) × (forest.old.sums.tags ≤ forest.old.sums.bytes) }
     ensures reads { OnOk result (ReadsOn (P.page pages.old name.now) (P.left pages.new) number forest.old forest.new) }
     ensures keeps { OnOk result (forest.new.keeps ≡ forest.old.keeps) }
-    ensures most { OnOk result (forest.new.sums.bytes ≤ MOST_BYTES + PIECE) }
-    ensures tags { OnOk result (forest.new.sums.tags ≤ forest.new.sums.bytes) }
-    ensures cause { HasReadCause (P.faults pages.old) (P.faults pages.new) result }
-    ensures failed { IsLastCall (P.last_failed pages.new) result }
-    ensures named { IfSome (P.asked pages.new) (λ n. n ≡ name.now) }
-    ensures starts { P.starts pages.new ≡ option_map (λ names. names ++ name.now ∷ []) (P.starts pages.old) }
-    ensures pages { P.page pages.new ≡ P.page pages.old }
-    ensures told { OnOk result (TellsAlso (P.page pages.old) name.now) }
-    ensures numbers { P.numbers pages.new ≡ P.numbers pages.old }
+    ensures sums { OnOk result ((forest.new.sums.bytes ≤ MOST_BYTES + PIECE) × (forest.new.sums.tags ≤ forest.new.sums.bytes)) }
+    ensures asks { AsksFor name.now (source_told P.PageSource pages.old) (source_told P.PageSource pages.new) result }
 {
     let mut page = OpenPage::new(alloc, arena, number, forest.keeps);
     read_page(pages, name, buffer, &mut page, &mut forest.sums, MOST)?;
@@ -208,23 +199,12 @@ fn read_next<'a, P: PageSource>(
     requires count { P.faults pages.old + 1 < 2 ^ 64 }
     requires name { length name.now ≤ LONGEST_NAME }
     requires room { length buffer.old ≡ PIECE }
-    requires most { forest.old.sums.bytes ≤ MOST_BYTES }
-    requires tags { forest.old.sums.tags ≤ forest.old.sums.bytes }
-    ensures most { OnOk result (forest.new.sums.bytes ≤ MOST_BYTES + PIECE) }
-    ensures tags { OnOk result (forest.new.sums.tags ≤ forest.new.sums.bytes) }
+    requires sums { (forest.old.sums.bytes ≤ MOST_BYTES) × (forest.old.sums.tags ≤ forest.old.sums.bytes) }
+    ensures sums { OnOk result ((forest.new.sums.bytes ≤ MOST_BYTES + PIECE) × (forest.new.sums.tags ≤ forest.new.sums.bytes)) }
     ensures reads { OnOk result (ReadsOn (P.page pages.old name.now) (P.left pages.new) number forest.old forest.new) }
     ensures keeps { OnOk result (forest.new.keeps ≡ forest.old.keeps) }
-    ensures named { OnOk result (IfSome (P.asked pages.new) (λ n. n ≡ name.now)) }
-    ensures asked { (pages.new ≡ pages.old) ⊎ IfSome (P.asked pages.new) (λ n. n ≡ name.now) }
-    ensures started { OnOk result (P.starts pages.new ≡ option_map (λ names. names ++ name.now ∷ []) (P.starts pages.old)) }
-    ensures starts { (P.starts pages.new ≡ P.starts pages.old)
-        ⊎ (P.starts pages.new ≡ option_map (λ names. names ++ name.now ∷ []) (P.starts pages.old)) }
-    ensures pages { P.page pages.new ≡ P.page pages.old }
-    ensures ok { OnOk result (P.faults pages.new ≡ P.faults pages.old) }
-    ensures stopped { IfErr result (λ why. StopsAt name.now (P.asked pages.new) (P.faults pages.old) (P.faults pages.new)
-        (P.last_failed pages.new) why) }
-    ensures numbers { P.numbers pages.new ≡ P.numbers pages.old }
-    ensures told { OnOk result (TellsAlso (P.page pages.old) name.now) }
+    ensures tries { IsTried name.now (source_told P.PageSource pages.old) (source_told P.PageSource pages.new)
+        (pages.new ≡ pages.old) result }
 {
     let Ok(line) = cannot_read(alloc, name.as_str()) else {
         return Err(Stopped::NoMemory);

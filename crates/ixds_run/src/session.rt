@@ -3,7 +3,7 @@ ghost use Rattle.std.specs.Prelude.{◌≡◌, ◌+◌, ◌^◌, ◌<◌, ◌≤
 ghost use Rattle.ix_base.specs.declared.limits.TheConstants.{LONGEST_NAME};
 ghost use Rattle.page_session.specs.Course.{names_read};
 ghost use Rattle.page_session.specs.Sources.{source_told};
-ghost use Rattle.ixds_run.specs.Following.{AreLines, IsEnded, IsFollowed, IsSilent, OfLines, WhyUnfollowed};
+ghost use Rattle.ixds_run.specs.ScriptRuns.{AreLines, IsEnded, IsFollowed, IsSilent, OfLines, WhyUnfollowed};
 ghost use Rattle.ixds_run.specs.Gains.{GainsStarts};
 
 use crate::due::Due;

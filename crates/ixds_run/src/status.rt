@@ -1,4 +1,4 @@
-//! How a run ended.
+//! Statuses, with their exit codes.
 ghost use Rattle.std.specs.Prelude.{◌≡◌};
 ghost use Rattle.ixds_run.specs.ExitCodes.{code_of};
 

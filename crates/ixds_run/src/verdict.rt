@@ -1,16 +1,17 @@
-//! What the pages of a command come to.
+//! Verdicts on the pages of a command.
 ghost use Rattle.std.specs.Prelude.{◌≡◌, ℕ, List, IfOk, false};
-ghost use Rattle.ixds_run.specs.Commands.{IsGiven, is_session, keeps_pages, pages_of};
-ghost use Rattle.ixds_run.specs.Reading.{IsRead, IsSound};
+ghost use Rattle.command_words.specs.Commands.{IsGiven, pages_of};
+ghost use Rattle.ixds_run.specs.CommandKinds.{is_session, keeps_pages};
+ghost use Rattle.ixds_run.specs.PageReads.{IsRead, IsSound};
 ghost use Rattle.ixds_run.specs.Verdicts.{AreWritable, CommandMakes, verdict_of};
 ghost use Rattle.targets.specs.SetOutcomes.{CanBeWritten};
 
-use crate::command::Command;
 use crate::judge::judge;
 use crate::plain::shown;
 use crate::read_pages::Forest;
 use crate::trace::traced;
 use bumpalo::Bump;
+use command_words::Command;
 use ix_base::{List, NoMemory, Report, Text};
 use std::alloc::Global;
 use targets::{Outcome, Target};

@@ -8,10 +8,10 @@ use Rattle.ix_base.specs.declared.rule.Rule.TheVariants.{L1}
 use Rattle.ix_base.specs.Asks.{are_many}
 use Rattle.ix_base.specs.Ids.{agree, holders, holds_id, holds_tuple_id, id_of, tuple_id_of}
 use Rattle.ix_base.specs.LinkRules.{found_at}
-use Rattle.ix_base.specs.Located.{Located, is_text}
+use Rattle.ix_base.specs.LocatedElements.{Located, is_text}
 use Rattle.ix_base.specs.Rows.{row}
 use Rattle.ix_base.proofs.OnceLemmas.{Contains-cases, Contains-first, Contains-from_filter, Contains-nil}
-use Rattle.id_table.specs.Held.{AreChosen, Choice, Held, asked, chosen, chosen_in, doubled_at, repeats_held}
+use Rattle.id_table.specs.Model.{AreChosen, Choice, Held, asked, chosen, chosen_in, doubled_at, repeats_held}
 
 row-empty : (b : Bool) (x : Found) (xs : List Found) → row b x ++ xs ≡ [] → (b ≡ false) × (xs ≡ [])
 row-empty true x xs h = absurd (let z : x ∷ xs ≡ [] = h in cc)

@@ -10,10 +10,10 @@ use Rattle.ix_base.specs.declared.rule.Rule.{Rule}
 use Rattle.ix_base.specs.declared.tree.Spot.{Spot}
 use Rattle.ix_base.specs.Asks.{Asks, asks}
 use Rattle.ix_base.specs.LinkRules.{breaks_link, broken_at, breaking, found_at}
-use Rattle.ix_base.specs.Located.{Located, located}
+use Rattle.ix_base.specs.LocatedElements.{Located, located}
 use Rattle.ix_base.specs.Rows.{row}
 use Rattle.ix_base.specs.declared.rule.Rule.TheVariants.{L1}
-use Rattle.id_table.specs.Held.{Held, doubled_at, repeats_held}
+use Rattle.id_table.specs.Model.{Held, doubled_at, repeats_held}
 use Rattle.id_table.specs.Tables.{all_located}
 
 row-within : (P : Found → Type 0) (b : Bool) (x : Found) (xs : List Found) → P x → All P xs → All P (row b x ++ xs)

@@ -1,7 +1,7 @@
 //! Ids and continuations in sets of pages.
 ghost use Rattle.std.specs.Prelude.{◌≡◌, ◌<◌, All, length, nat_lt};
 ghost use Rattle.std.specs.List.{list_all};
-ghost use Rattle.ix_base.specs.Located.{located};
+ghost use Rattle.ix_base.specs.LocatedElements.{located};
 
 use crate::sets::letters;
 use anyhow::{Context, Result, ensure};

@@ -1,6 +1,6 @@
 //! What items say.
 ghost use Rattle.std.specs.Prelude.{◌≡◌, [], OnOk};
-ghost use Rattle.id_table.specs.Held.{AreChosen};
+ghost use Rattle.id_table.specs.Model.{AreChosen};
 
 use anyhow::{Result, bail, ensure};
 use bumpalo::Bump;

@@ -1,9 +1,9 @@
 //! Members and owners of tuples.
 ghost use Rattle.std.specs.Prelude.{◌≡◌, true};
 ghost use Rattle.std.specs.List.{list_all};
-ghost use Rattle.ix_base.specs.Located.{located};
+ghost use Rattle.ix_base.specs.LocatedElements.{located};
 ghost use Rattle.ix_base.specs.Membership.{order_of};
-ghost use Rattle.tuples.specs.Fits.{fits, is_number};
+ghost use Rattle.tuples.specs.OrderNumbers.{fits, is_number};
 
 use anyhow::{Result, ensure};
 use bumpalo::Bump;

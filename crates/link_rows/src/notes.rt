@@ -2,7 +2,7 @@
 ghost use Rattle.std.specs.Prelude.{◌≡◌, IfOk, length, nat_lt};
 ghost use Rattle.std.specs.List.{list_all};
 ghost use Rattle.ix_base.specs.Elements.{place_of};
-ghost use Rattle.continuations.specs.Kept.{AreChainsOf};
+ghost use Rattle.continuations.specs.Model.{AreChainsOf};
 
 use anyhow::{Result, ensure};
 use bumpalo::Bump;

@@ -8,11 +8,11 @@ use Rattle.std.specs.Ordering.{nat_cmp}
 use Rattle.std.proofs.lemmas.List.Elements.{Contains-append_left, Contains-append_right}
 use Rattle.std.proofs.lemmas.Map.Views.{All-values-insert_entry}
 use Rattle.ix_base.specs.Once.{SameMembers, in_order}
-use Rattle.ix_base.specs.Sorted.{text_cmp}
+use Rattle.ix_base.specs.SortedLists.{text_cmp}
 use Rattle.ix_base.specs.Spaces.{AreNumbered, Space}
 use Rattle.ix_base.proofs.OnceLemmas.{Contains-first, SameMembers-sym, SameMembers-trans, in_order-members, in_order-same}
 use Rattle.ix_base.proofs.OrderLemmas.{text_total, same_text}
-use Rattle.page_plain.specs.Numbered.{IsListed, IsThere, space_at, space_met, spaces_at, spaces_met, texts_of}
+use Rattle.page_plain.specs.SpaceNumbers.{IsListed, IsThere, space_at, space_met, spaces_at, spaces_met, texts_of}
 use Rattle.page_plain.proofs.MemberLaws.{Contains-map, members-append, members-insert, members-map, members-same}
 use Rattle.page_plain.proofs.NumberedLaws.{one-space}
 

@@ -13,7 +13,7 @@ use Rattle.ix_base.specs.Trees.{Valued, valued}
 use Rattle.ix_base.proofs.OnceLemmas.{Contains-cases, Contains-nil, SameMembers-trans}
 use Rattle.ix_base.proofs.SpaceParts.{IsPart, numbered-part}
 use Rattle.page_plain.specs.Bare.{attr_spaces, is_inline, kept_attrs, needs_prefix}
-use Rattle.page_plain.specs.Numbered.{Meets, attr_spaces as spaces_named, space_met, spaces_met, texts_of}
+use Rattle.page_plain.specs.SpaceNumbers.{Meets, attr_spaces as spaces_named, space_met, spaces_met, texts_of}
 use Rattle.page_plain.proofs.MemberLaws.{Contains-map, members-append, members-insert, members-map, members-same}
 use Rattle.page_plain.proofs.NumberedLaws.{one-space, space-there}
 use Rattle.page_plain.proofs.Steps.{front}

@@ -14,8 +14,8 @@ use Rattle.ix_base.specs.Spaces.{AreNumbered, IsOuter, Space, space_of, spaces_b
 use Rattle.ix_base.proofs.OnceLemmas.{Contains-cases, Contains-later}
 use Rattle.ix_base.proofs.SpaceParts.{IsPart, numbered-part, outer-part, part-children, part-inside, part-name, part-node, spaces-Element}
 use Rattle.escape_text.proofs.WithinLaws.{outer_named, outer_unnumbered}
-use Rattle.page_tree.proofs.SpanLaws.{bytes-one}
-use Rattle.page_plain.specs.Numbered.{IsWithin, attr_spaces}
+use Rattle.page_constructs.proofs.SpanLaws.{bytes-one}
+use Rattle.page_plain.specs.SpaceNumbers.{IsWithin, attr_spaces}
 use Rattle.page_plain.proofs.MemberLaws.{Contains-map}
 
 -- one number is one namespace

@@ -13,10 +13,10 @@ use Rattle.std.proofs.lemmas.List.{get_or_default, length-map}
 use Rattle.std.proofs.lemmas.List.Sorted.{searchable_from_sorted}
 use Rattle.std.proofs.lemmas.Map.Keys.{Less-from_sorted, sorted_tail}
 use Rattle.std.proofs.lemmas.Map.Text.{is_eq-slice_cmp}
-use Rattle.ix_base.specs.Sorted.{text_cmp}
+use Rattle.ix_base.specs.SortedLists.{text_cmp}
 use Rattle.ix_base.proofs.OnceLemmas.{Contains-first, Contains-later}
 use Rattle.ix_base.proofs.OrderLemmas.{text_total, same_text}
-use Rattle.page_tree.proofs.SpanLaws.{bytes-apart, bytes-same}
+use Rattle.page_constructs.proofs.SpanLaws.{bytes-apart, bytes-same}
 use Rattle.page_plain.specs.Bare.{numbered, prefix_at, prefix_in}
 use Rattle.page_plain.proofs.MemberLaws.{Contains-from_map}
 

@@ -10,13 +10,13 @@ use Rattle.std.proofs.lemmas.Cmp.{eq_by_cmp_equiv, nat_cmp_total}
 use Rattle.std.proofs.lemmas.Map.Lookups.{exact_unsigned}
 use Rattle.std.proofs.lemmas.Map.Views.{Contains-from_lookup, IfSome-lookup_from_All, IsSome-lookup_from_Contains}
 use Rattle.ix_base.specs.declared.tree.Name.{Name}
-use Rattle.ix_base.specs.Sorted.{text_cmp}
+use Rattle.ix_base.specs.SortedLists.{text_cmp}
 use Rattle.ix_base.specs.Spaces.{AreNumbered, Space, space_of}
 use Rattle.ix_base.proofs.OnceLemmas.{Contains-first, Contains-later, in_order-members, in_order-sorted}
 use Rattle.ix_base.proofs.OrderLemmas.{text_total, same_text}
-use Rattle.page_tree.proofs.SpanLaws.{bytes-apart, bytes-same, one_number}
+use Rattle.page_constructs.proofs.SpanLaws.{bytes-apart, bytes-same, one_number}
 use Rattle.page_plain.specs.Bare.{numbered, prefix_at, prefix_in}
-use Rattle.page_plain.specs.Numbered.{IsListed, IsThere, space_at, spaces_at, texts_of}
+use Rattle.page_plain.specs.SpaceNumbers.{IsListed, IsThere, space_at, spaces_at, texts_of}
 use Rattle.page_plain.proofs.MemberLaws.{Contains-from_map, Contains-map}
 use Rattle.page_plain.proofs.NumberedLaws.{one-space}
 use Rattle.page_plain.proofs.PlaceLaws.{prefix-at, prefix-none}

@@ -9,15 +9,15 @@ use Rattle.ix_base.specs.Namespaces.{xml_namespace, xmlns_namespace}
 use Rattle.ix_base.specs.Scope.{has_prefix, namespace_of, bound_over, declared_over, scope_under, element_name}
 use Rattle.ix_base.specs.Sound.{IsSoundName, IsSoundAttribute}
 use Rattle.ix_base.specs.Trees.{Named, Valued, Bound}
-use Rattle.ix_base.specs.Written as written
-use Rattle.ix_base.specs.Written.{Markup, start_text, leaf_text, close_text}
-use Rattle.page_tree.specs.Fine.{past, head_at, scope_in, nodes_at, begins_dark, is_fine_text, is_fine_tag, is_fine}
+use Rattle.ix_base.specs.WrittenMarkup as written
+use Rattle.ix_base.specs.WrittenMarkup.{Markup, start_text, leaf_text, close_text}
+use Rattle.page_tree.specs.FineMarkup.{past, head_at, scope_in, nodes_at, begins_dark, is_fine_text, is_fine_tag, is_fine}
 use Rattle.page_tree.specs.Tags.{valued}
 use Rattle.page_tree.specs.Spellings.{read}
 use Rattle.page_tree.proofs.FineBodies.{default-kept}
 use Rattle.page_tree.proofs.FineLaws.{bound-here}
 use Rattle.page_tree.proofs.FineNames.{ncname-colon}
-use Rattle.page_tree.proofs.SpanLaws.{bytes-one, bytes-apart}
+use Rattle.page_constructs.proofs.SpanLaws.{bytes-one, bytes-apart}
 use Rattle.page_plain.specs.Bare.{Shown, blank, letters, mark, shown_by, attr_spaces, spaces_in, numbered, prefix_in, attr_in, attrs_in, is_blank, spelled}
 use Rattle.page_plain.proofs.ListLaws.{Each, AreApart, each-parts}
 use Rattle.page_plain.proofs.PrefixLaws.{Spaces, prefix-number, prefix-bound, xml-bound, default-bound}

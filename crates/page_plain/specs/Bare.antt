@@ -5,10 +5,10 @@ use Rattle.std.specs.Int.Digits.{digits_of}
 use Rattle.ix_base.specs.Markup.{declaration, element_by, ends_short}
 use Rattle.ix_base.specs.Namespaces.{ix_namespace, xml_namespace}
 use Rattle.ix_base.specs.Once.{in_order}
-use Rattle.ix_base.specs.Sorted.{text_cmp}
+use Rattle.ix_base.specs.SortedLists.{text_cmp}
 use Rattle.ix_base.specs.Trees.{Named, Valued, Bound, Nodes, none, chars, elem, Tree}
-use Rattle.ix_base.specs.Written.{Attribute, Markup, nothing, words, written}
-use Rattle.page_tree.specs.Fine.{declaring}
+use Rattle.ix_base.specs.WrittenMarkup.{Attribute, Markup, nothing, words, written}
+use Rattle.page_tree.specs.FineMarkup.{declaring}
 
 -- What some nodes show, by names, attributes and texts alone, in order: a text and what comes after it, or an element's
 -- name, its attributes, its children and what comes after it. Where they stand and which prefixes are bound there isn't in it.

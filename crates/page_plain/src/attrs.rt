@@ -3,10 +3,10 @@ ghost use Rattle.std.specs.Prelude.{◌≡◌, ◌++◌, ◌∷◌, [], ◌<◌,
 ghost use Rattle.ix_base.specs.Escapes.{ae};
 ghost use Rattle.ix_base.specs.Spaces.{AreNumbered, space_of};
 ghost use Rattle.ix_base.specs.Trees.{named, valued};
-ghost use Rattle.ix_base.specs.Written.{attrs_text};
-ghost use Rattle.page_tree.specs.Fine.{declaring};
+ghost use Rattle.ix_base.specs.WrittenMarkup.{attrs_text};
+ghost use Rattle.page_tree.specs.FineMarkup.{declaring};
 ghost use Rattle.page_plain.specs.Bare as spec;
-ghost use Rattle.page_plain.specs.Numbered.{attr_spaces};
+ghost use Rattle.page_plain.specs.SpaceNumbers.{attr_spaces};
 
 use crate::names::is_inline;
 use crate::prefixes::{Prefixes, push_prefix};

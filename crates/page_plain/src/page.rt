@@ -1,12 +1,12 @@
 //! A page without its inline markup, as it is written.
-ghost use Rattle.std.specs.Prelude.{◌≡◌, ◌++◌, ◌∷◌, [], OnOk, IfOk, flat_map, map, false};
+ghost use Rattle.std.specs.Prelude.{◌≡◌, ◌++◌, ◌∷◌, [], ℕ, OnOk, IfOk, flat_map, map, false};
 ghost use Rattle.ix_base.specs.Markup.{declaration};
 ghost use Rattle.ix_base.specs.Spaces.{AreNumbered, IsOuter, space_of, spaces_in, spaces_of};
 ghost use Rattle.ix_base.specs.Trees.{before, nodes_of, none, tree_of};
-ghost use Rattle.ix_base.specs.Written.{attrs_text};
-ghost use Rattle.ix_base.specs.Sound.{IsSoundTree};
+ghost use Rattle.ix_base.specs.WrittenMarkup.{attrs_text};
+ghost use Rattle.ix_base.specs.Sound.{IsSoundRoot};
 ghost use Rattle.page_plain.specs.Bare as spec;
-ghost use Rattle.page_plain.specs.Numbered.{IsWithin};
+ghost use Rattle.page_plain.specs.SpaceNumbers.{IsWithin};
 ghost use Rattle.page_plain.specs.Theorem.{IsPageOf};
 ghost use Rattle.page_plain.specs.Parts.{element_bytes, is_short, is_silent, kept_bytes, node_bytes, open_bytes, rest_bytes};
 
@@ -181,8 +181,7 @@ fn push_root(
 /// different ones of attributes are put in order by their texts, each once.
 pub fn plain_page(alloc: Global, root: &Element<'_>) -> Result<Text, NoMemory>
     requires kept { spec.is_inline (tree_of root.now).head.name ≡ false }
-    requires sound { IsSoundTree (tree_of root.now) 256 }
-    requires spaces { AreNumbered (spaces_of root.now) }
+    requires sound { (page : ℕ) × IsSoundRoot root.now page 256 }
     ensures text { IfOk result (λ t. t ≡ spec.spell (spec.bare (tree_of root.now))) }
     ensures page { IfOk result (λ t. IsPageOf t (spec.bare (tree_of root.now))) }
 {

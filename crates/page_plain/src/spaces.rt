@@ -3,7 +3,7 @@ ghost use Rattle.std.specs.Prelude.{◌++◌, [], IfOk, OnOk, flat_map, map};
 ghost use Rattle.ix_base.specs.Spaces.{AreNumbered, spaces_in, spaces_of};
 ghost use Rattle.ix_base.specs.Trees.{nodes_of, tree_of, valued};
 ghost use Rattle.page_plain.specs.Bare as spec;
-ghost use Rattle.page_plain.specs.Numbered.{Meets, attr_spaces, spaces_met};
+ghost use Rattle.page_plain.specs.SpaceNumbers.{Meets, attr_spaces, spaces_met};
 ghost use Rattle.page_plain.specs.Parts.{element_spaces, node_spaces};
 
 use crate::names::{is_dropped, is_opened, is_prefixed};

@@ -10,7 +10,7 @@ use Rattle.ix_base.specs.Trees.{Tree, tree_of}
 use Rattle.ix_base.specs.declared.NoMemory.{NoMemory}
 use Rattle.ix_base.specs.declared.breach.Found.{Found}
 use Rattle.ix_base.specs.declared.tree.Element.{Element}
-use Rattle.page_session.specs.Handed.{Handed, bytes_of, names_of}
+use Rattle.page_session.specs.HandedPages.{Handed, bytes_of, names_of}
 use Rattle.targets.specs.Forest.{AreSoundRoots, trees_of}
 use Rattle.targets.specs.Forest.{AreTrees, page_set}
 use Rattle.targets.specs.Breaches.{PagesComeTo}

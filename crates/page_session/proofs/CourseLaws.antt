@@ -4,7 +4,7 @@ use Rattle.std.proofs.lemmas.Bool.{and_left, and_right, lt-leb}
 use Rattle.ix_base.specs.declared.rule.Rule.TheVariants.{X2, X3, X4}
 use Rattle.targets.specs.Breaches.{tags_in}
 use Rattle.page_session.specs.Course.{Standing, StandsAs, breaks, effect_of, leads, put_effect, stops, with_page, without_page}
-use Rattle.page_session.specs.Handed.{handed, is_one_too_many, is_there, names_of}
+use Rattle.page_session.specs.HandedPages.{handed, is_one_too_many, is_there, names_of}
 use Rattle.page_session.specs.Limits.{may_hold, Passes}
 use Rattle.page_session.specs.Sessions.{HasDropped, HasPut, IsOver, IsSame, IsWithin, bytes_put, names_in, tags_put}
 use Rattle.page_session.specs.declared.script.Line.TheVariants as line

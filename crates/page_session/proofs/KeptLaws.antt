@@ -2,7 +2,7 @@
 use Rattle.std.proofs.Common.{◌≡◌, ◌∙◌, ap, sym, refl, ℕ, suc, ◌+◌, ◌≤◌, ◌<◌, ◌⊎◌, inl, inr, Bool, true, false, if◌then◌else◌, List, [], ◌∷◌, ◌++◌, length, bytes_eq, slice_set, subst, arith}
 use Rattle.std.specs.List.{remove}
 use Rattle.std.proofs.lemmas.Bool.{cases_lt}
-use Rattle.page_session.specs.Handed.{Handed, handed, bytes_of, put_in, drop_in, place_of}
+use Rattle.page_session.specs.HandedPages.{Handed, handed, bytes_of, put_in, drop_in, place_of}
 use Rattle.targets.specs.Breaches.{bytes_in, all_tags_in, tags_in}
 use Rattle.page_session.specs.Sessions.{AreKept, IsHeld, IsKept, names_kept}
 use Rattle.page_session.specs.declared.kept.Kept.{Kept}

@@ -8,11 +8,11 @@ use Rattle.std.proofs.lemmas.List.{take-append-drop, length-take-le}
 use Rattle.std.proofs.lemmas.List.Sums.{sum_by-append}
 use Rattle.ix_base.specs.Outside.{ReadsFrom}
 use Rattle.ix_base.specs.declared.NoMemory.{NoMemory}
-use Rattle.page_tree.specs.Standing.{StandsFor, limit, page_number}
+use Rattle.page_tree.specs.Model.{StandsFor, limit, page_number}
 use Rattle.page_tree.specs.declared.builder.TreeBuilder.{TreeBuilder}
 use Rattle.targets.specs.Breaches.{tags_in}
-use Rattle.page_session.specs.Reading.{HasFed, IsWhole, is_within}
-use Rattle.page_session.specs.Taking.{HasBuilt}
+use Rattle.page_session.specs.PieceReads.{HasFed, IsWhole, is_within}
+use Rattle.page_session.specs.Takers.{HasBuilt}
 use Rattle.page_session.specs.declared.reading.Sums.{Sums}
 
 tags-append : (xs ys : List ℕ) → tags_in (xs ++ ys) ≡ tags_in xs + tags_in ys

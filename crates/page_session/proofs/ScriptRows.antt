@@ -4,7 +4,7 @@ use lib.Utf8.{encode}
 use Rattle.std.specs.Str.{chars, is_utf8}
 use Rattle.ix_base.specs.declared.rule.Rule.TheVariants.{X2, X4}
 use Rattle.page_session.specs.Course.{breaks, course, effect_of, ends, names_read, stops, wants}
-use Rattle.page_session.specs.Handed.{handed}
+use Rattle.page_session.specs.HandedPages.{handed}
 use Rattle.page_session.specs.Script.{script_of}
 use Rattle.page_session.specs.declared.script.Line.{Line}
 use Rattle.page_session.specs.declared.script.Line.TheVariants.{Put, Drop, Check, Extract}

@@ -4,7 +4,7 @@ use Rattle.std.specs.List.{remove}
 use Rattle.std.proofs.lemmas.Bool.{le-ltb}
 use Rattle.ix_base.specs.declared.rule.Rule.TheVariants.{S1, S2}
 use Rattle.ix_base.specs.declared.NoMemory.{NoMemory}
-use Rattle.page_session.specs.Handed.{Handed, handed, bytes_of, names_of, drop_in, place_of}
+use Rattle.page_session.specs.HandedPages.{Handed, handed, bytes_of, names_of, drop_in, place_of}
 use Rattle.targets.specs.Breaches.{PagesComeTo}
 use Rattle.page_session.specs.Sessions.{AreKept, HasDropped, HasPut, IsHeld, OfPage, StandsFor, names_in, names_kept}
 use Rattle.targets.specs.Breaches.{bytes_in, all_tags_in, tags_in, set_rule}

@@ -1,7 +1,7 @@
 -- Scripts that are read piece by piece.
 use Rattle.std.proofs.Common.{◌≡◌, ◌∙◌, ap, sym, refl, ℕ, ◌+◌, ◌≤◌, ◌<◌, ◌⊎◌, inl, inr, if◌then◌else◌, List, [], ◌++◌, length, nat_le, Option, Some, None, IfSome, append-nil, length-append, zero-add, arith}
 use Rattle.std.proofs.lemmas.Bool.{and_from, cases_lt, le-leb, lt-ltb}
-use Rattle.page_session.specs.Reading.{HasFed, IsWhole}
+use Rattle.page_session.specs.PieceReads.{HasFed, IsWhole}
 use Rattle.page_session.specs.Script.{lines_from, script_of, unless_none}
 use Rattle.page_session.specs.Sessions.{OfPage}
 use Rattle.page_session.specs.declared.reading.Sums.{Sums}

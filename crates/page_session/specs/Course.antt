@@ -3,7 +3,7 @@ use Rattle.std.specs.Prelude.{◌≡◌, ℕ, ◌+◌, List, [], ◌∷◌, ◌+
 use Rattle.ix_base.specs.declared.rule.Rule.{Rule}
 use Rattle.ix_base.specs.declared.rule.Rule.TheVariants.{X2, X3, X4}
 use Rattle.targets.specs.Breaches.{tags_in}
-use Rattle.page_session.specs.Handed.{Handed, handed, names_of, put_in, drop_in, is_there, is_one_too_many}
+use Rattle.page_session.specs.HandedPages.{Handed, handed, names_of, put_in, drop_in, is_there, is_one_too_many}
 use Rattle.page_session.specs.Limits.{may_hold}
 use Rattle.page_session.specs.Sessions.{StandsFor, bytes_put, tags_put}
 use Rattle.page_session.specs.declared.script.Line.{Line}

@@ -1,11 +1,10 @@
 pub mod Course
-pub mod Handed
+pub mod HandedPages
 pub mod Limits
-pub mod Names
-pub mod Reading
-pub mod Rooted
+pub mod Model
+pub mod PieceReads
 pub mod Script
 pub mod Sessions
 pub mod Sources
 pub mod Steps
-pub mod Taking
+pub mod Takers

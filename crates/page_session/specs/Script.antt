@@ -3,7 +3,7 @@ use Rattle.std.specs.Prelude.{ℕ, suc, ◌==◌, nat_eq, nat_lt, Bool, true, fa
 use Rattle.std.specs.List.{starts_with}
 use Rattle.std.specs.Str.{is_utf8}
 use Rattle.ix_base.specs.declared.limits.TheConstants.{LONGEST_SCRIPT}
-use Rattle.page_session.specs.Names.{is_page_name}
+use Rattle.page_names.specs.Names.{is_page_name}
 use Rattle.page_session.specs.declared.script.Line.{Line}
 use Rattle.page_session.specs.declared.script.Line.TheVariants as line
 use Rattle.page_session.specs.declared.script.Script.{Script}

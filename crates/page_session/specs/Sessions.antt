@@ -6,7 +6,7 @@ use Rattle.ix_base.specs.declared.limits.TheConstants.{DEEPEST_ELEMENT}
 use Rattle.page_tree.specs.Break.{fault, w}
 use Rattle.page_tree.specs.Page.{page}
 use Rattle.targets.specs.Breaches.{all_tags_in, bytes_in, on_page, tags_in}
-use Rattle.page_session.specs.Handed.{Handed, bytes_of, put_in, drop_in}
+use Rattle.page_session.specs.HandedPages.{Handed, bytes_of, put_in, drop_in}
 use Rattle.page_session.specs.Limits.{Passes}
 use Rattle.page_session.specs.declared.kept.Held.{Held}
 use Rattle.page_session.specs.declared.kept.Held.TheVariants as held

@@ -1,6 +1,6 @@
 -- The pages that are there after steps, and sessions that went through them.
 use Rattle.std.specs.Prelude.{ℕ, List, [], ◌∷◌, fold}
-use Rattle.page_session.specs.Handed.{Handed, handed, put_in, drop_in}
+use Rattle.page_session.specs.HandedPages.{Handed, handed, put_in, drop_in}
 use Rattle.page_session.specs.Sessions.{HasDropped, HasPut, IsSame}
 use Rattle.page_session.specs.declared.session.Session.{Session}
 

@@ -1,7 +1,7 @@
 //! What the pages of a session come to.
 ghost use Rattle.std.specs.Prelude.{◌≡◌, ◌+◌, ◌++◌, ◌∷◌, ◌<◌, ◌≤◌, [], List, length, IfOk, OnOk, None};
 ghost use Rattle.ix_base.specs.declared.limits.TheConstants.{MOST_PAGES};
-ghost use Rattle.page_session.specs.Handed.{Handed, bytes_of, names_of};
+ghost use Rattle.page_session.specs.HandedPages.{Handed, bytes_of, names_of};
 ghost use Rattle.page_session.specs.Sessions.{AreKept, break_row, breaks_from, names_kept, tree_row, trees_kept};
 ghost use Rattle.targets.specs.Breaches.{PagesComeTo, set_rule};
 ghost use Rattle.targets.specs.Forest.{AreSoundRoots, page_set, trees_of};

@@ -1,8 +1,8 @@
 //! What a session keeps of its pages.
 ghost use Rattle.std.specs.Prelude.{◌≡◌, ◌<◌, ◌≤◌, ◌++◌, ◌∷◌, [], ℕ, List, length, slice_set, IfOk, OnOk, OnErr};
 ghost use Rattle.ix_base.specs.declared.limits.TheConstants.{DEEPEST_ELEMENT};
-ghost use Rattle.page_tree.specs.Standing.{StandsFor, limit, page_number};
-ghost use Rattle.page_session.specs.Handed.{place_of};
+ghost use Rattle.page_tree.specs.Model.{StandsFor, limit, page_number};
+ghost use Rattle.page_session.specs.HandedPages.{place_of};
 ghost use Rattle.page_session.specs.Sessions.{IsHeld, names_kept};
 
 use crate::root::SoundRoot;

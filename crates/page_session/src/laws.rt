@@ -2,8 +2,8 @@
 ghost use Rattle.std.specs.Prelude.{◌≡◌, ◌++◌, ◌∷◌, [], ℕ, List, true, false};
 ghost use Rattle.ix_base.specs.declared.rule.Rule.TheVariants.{X2, X3, X4};
 ghost use Rattle.page_session.specs.Course.{Standing, StandsAs, breaks, effect_of, leads, nothing_put, stops, with_page, without_page};
-ghost use Rattle.page_session.specs.Handed.{Handed, bytes_of, handed, is_one_too_many, is_there, names_of};
-ghost use Rattle.page_session.specs.Names.{has_repeat};
+ghost use Rattle.page_session.specs.HandedPages.{Handed, bytes_of, handed, is_one_too_many, is_there, names_of};
+ghost use Rattle.page_names.specs.Names.{has_repeat};
 ghost use Rattle.page_session.specs.Sessions.{HasDropped, HasPut, IsOver, IsSame, IsWithin, StandsFor, base_of, bytes_put, names_in, tags_put};
 ghost use Rattle.page_session.specs.Steps.{Does, Goes, Step, after};
 ghost use Rattle.page_session.specs.declared.script.Line.TheVariants as line;

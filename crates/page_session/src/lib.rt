@@ -14,7 +14,6 @@ mod kept;
 pub mod laws;
 pub mod limits;
 pub mod made;
-mod name;
 mod put;
 pub mod reading;
 mod renumbering;
@@ -24,7 +23,7 @@ mod script_reading;
 mod session;
 pub mod taking;
 
-pub use name::is_page_name;
+pub use page_names::is_page_name;
 pub use put::PutFault;
 pub use renumbering::renumbered;
 pub use script::{Line, Script, ScriptLine, parse};

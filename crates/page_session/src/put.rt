@@ -3,7 +3,7 @@ ghost use Rattle.std.specs.Prelude.{◌≡◌, ◌<◌, ◌≤◌, ◌+◌, ◌^
 ghost use Rattle.ix_base.specs.declared.limits.TheConstants.{LONGEST_NAME};
 ghost use Rattle.targets.specs.Breaches.{tags_in};
 ghost use Rattle.page_session.specs.Limits.{may_hold, Passes};
-ghost use Rattle.page_session.specs.Reading.{Tries};
+ghost use Rattle.page_session.specs.PieceReads.{Tries};
 ghost use Rattle.page_session.specs.Sessions.{IsHeld, OfPage};
 ghost use Rattle.page_session.specs.Sources.{source_told};
 

@@ -1,10 +1,10 @@
 //! Reading a page, until sums of what was read pass their numbers.
-ghost use Rattle.std.specs.Prelude.{◌≡◌, ◌+◌, ◌^◌, ◌<◌, ◌≤◌, ◌++◌, ◌∷◌, [], ℕ, List, Option, length, vec_len, true, false};
-ghost use Rattle.std.specs.Prelude.{IsTrue, IfOk, IfSome, OnOk, option_map};
+ghost use Rattle.std.specs.Prelude.{◌≡◌, ◌+◌, ◌^◌, ◌<◌, ◌≤◌, [], ℕ, List, Option, length, vec_len, true, false};
+ghost use Rattle.std.specs.Prelude.{IsTrue, IfOk, IfSome, OnOk};
 ghost use Rattle.ix_base.specs.declared.limits.TheConstants.{LONGEST_NAME, PIECE};
-ghost use Rattle.ix_base.specs.Outside.{TellsAlso};
 ghost use Rattle.targets.specs.Breaches.{tags_in};
-ghost use Rattle.page_session.specs.Reading.{HasFed, HasReadCause, IsLastCall, IsWhole, is_within};
+ghost use Rattle.page_session.specs.PieceReads.{AsksFor, HasFed, HaveGrown, IsWhole, LeavesSource, MayGrow, is_within};
+ghost use Rattle.page_session.specs.Sources.{source_told};
 ghost use Rattle.page_session.specs.declared.reading.Sums.{Sums as SumsOf};
 
 use crate::taking::PageTaker;
@@ -64,22 +64,15 @@ fn read_piece<P: PageSource, T: PageTaker>(
     requires started { IsTrue (P.started pages.old) }
     requires room { 0 < length buffer.old }
     requires took { (fresh : T) × ((b : List ℕ) × T.took fresh b taker.old × (length b ≤ sums.old.bytes)) }
-    requires tags { sums.old.tags ≤ sums.old.bytes }
-    requires most { sums.old.bytes + length buffer.old < 2 ^ 64 }
+    requires sums { (sums.old.tags ≤ sums.old.bytes) × (sums.old.bytes + length buffer.old < 2 ^ 64) }
     ensures reads { OnOk result ((fresh : T) (page : Option (List ℕ)) (before : SumsOf)
         → HasFed (λ b. T.took fresh b taker.old) page (P.left pages.old) before sums.old
         → HasFed (λ b. T.took fresh b taker.new) page (P.left pages.new) before sums.new) }
-    ensures end { IfOk result (λ more. more ≡ false → IfSome (P.left pages.new) (λ rest. rest ≡ [])) }
-    ensures grows { IfOk result (λ more. more ≡ true → sums.old.bytes < sums.new.bytes) }
-    ensures most { OnOk result (sums.new.bytes ≤ sums.old.bytes + length buffer.old) }
-    ensures tags { OnOk result (sums.new.tags ≤ sums.new.bytes) }
-    ensures started { OnOk result (P.started pages.new ≡ P.started pages.old) }
-    ensures asked { P.asked pages.new ≡ P.asked pages.old }
-    ensures starts { P.starts pages.new ≡ P.starts pages.old }
-    ensures pages { P.page pages.new ≡ P.page pages.old }
-    ensures cause { HasReadCause (P.faults pages.old) (P.faults pages.new) result }
-    ensures failed { IsLastCall (P.last_failed pages.new) result }
-    ensures numbers { P.numbers pages.new ≡ P.numbers pages.old }
+    ensures more { IfOk result (λ more. (more ≡ false → IfSome (P.left pages.new) (λ rest. rest ≡ []))
+        × (more ≡ true → sums.old.bytes < sums.new.bytes)) }
+    ensures sums { OnOk result ((sums.new.bytes ≤ sums.old.bytes + length buffer.old) × (sums.new.tags ≤ sums.new.bytes)) }
+    ensures source { LeavesSource (source_told P.PageSource pages.old) (source_told P.PageSource pages.new) result
+        × OnOk result (P.started pages.new ≡ P.started pages.old) }
 {
     let n = match pages.read(buffer) {
         Ok(n) => n,
@@ -107,21 +100,12 @@ pub fn read_page<P: PageSource, T: PageTaker>(
     requires name { length name.now ≤ LONGEST_NAME }
     requires room { length buffer.old ≡ PIECE }
     requires fresh { T.took taker.old [] taker.old }
-    requires least { sums.old.bytes ≤ most.bytes }
-    requires fits { most.bytes + PIECE < 2 ^ 64 }
-    requires tags { sums.old.tags ≤ sums.old.bytes }
+    requires sums { MayGrow sums.old most }
     ensures reads { OnOk result (HasFed (λ b. T.took taker.old b taker.new) (P.page pages.old name.now) (P.left pages.new)
         sums.old sums.new) }
     ensures whole { OnOk result (IsWhole (P.page pages.old name.now) (P.left pages.new) sums.new most) }
-    ensures most { OnOk result (sums.new.bytes ≤ most.bytes + PIECE) }
-    ensures tags { OnOk result (sums.new.tags ≤ sums.new.bytes) }
-    ensures named { IfSome (P.asked pages.new) (λ n. n ≡ name.now) }
-    ensures starts { P.starts pages.new ≡ option_map (λ names. names ++ name.now ∷ []) (P.starts pages.old) }
-    ensures pages { P.page pages.new ≡ P.page pages.old }
-    ensures cause { HasReadCause (P.faults pages.old) (P.faults pages.new) result }
-    ensures failed { IsLastCall (P.last_failed pages.new) result }
-    ensures numbers { P.numbers pages.new ≡ P.numbers pages.old }
-    ensures told { OnOk result (TellsAlso (P.page pages.old) name.now) }
+    ensures sums { OnOk result (HaveGrown sums.new most) }
+    ensures asks { AsksFor name.now (source_told P.PageSource pages.old) (source_told P.PageSource pages.new) result }
 {
     if pages.start(name).is_err() {
         return Err(ReadError::Failed);

@@ -22,7 +22,7 @@ impl<'a> Model for SoundRoot<'a> {
     ghost use Rattle.ix_base.specs.declared.limits.TheConstants.{DEEPEST_ELEMENT};
     ghost use Rattle.ix_base.specs.Sound.{IsSoundRoot};
     ghost use Rattle.ix_base.specs.Trees.{tree_of};
-    ghost use Rattle.page_session.specs.Rooted.{Rooted, rooted_code};
+    ghost use Rattle.page_session.specs.Model.{Rooted, rooted_code};
 
     ghost Value = { Rooted };
 

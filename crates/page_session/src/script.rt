@@ -2,9 +2,9 @@
 ghost use Rattle.std.specs.Prelude.{◌≡◌, ◌==◌, IfOk, position};
 ghost use Rattle.page_session.specs.Script as spec;
 
-use crate::name::is_page_name;
 use ix_base::limits::LONGEST_SCRIPT;
 use ix_base::{List, NoMemory, Text};
+use page_names::is_page_name;
 use std::alloc::Global;
 
 /// A line of a script.

@@ -29,7 +29,7 @@ pub struct Session<'a> {
 
 impl<'a> Session<'a> {
     ghost use Rattle.ix_base.specs.Outside.{TellsAlso};
-    ghost use Rattle.page_session.specs.Handed.{Handed, bytes_of, handed, is_one_too_many, is_there, names_of};
+    ghost use Rattle.page_session.specs.HandedPages.{Handed, bytes_of, handed, is_one_too_many, is_there, names_of};
     ghost use Rattle.page_session.specs.Sessions.{HasDropped, HasPut, HasPutCause, IsOver, IsSame, IsWithin, OfPage, StandsFor, base_of, bytes_put, names_in, tags_put};
     ghost use Rattle.targets.specs.Breaches.{PagesComeTo};
     ghost use Rattle.targets.specs.SetOutcomes.{CanBeWritten};

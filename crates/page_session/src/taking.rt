@@ -1,4 +1,4 @@
-//! What takes a page piece by piece.
+//! Takers of pages.
 ghost use Rattle.std.specs.Prelude.{◌≡◌, ◌+◌, ◌^◌, ◌<◌, ◌++◌, ℕ, List, OnOk, length};
 
 use ix_base::NoMemory;
@@ -17,7 +17,7 @@ pub trait PageTaker {
 
 /// By its bytes so far it stands for them, with the limit of depth and the page number as they were.
 impl PageTaker for TreeBuilder<'_> {
-    ghost use Rattle.page_session.specs.Taking.{HasBuilt};
+    ghost use Rattle.page_session.specs.Takers.{HasBuilt};
 
     ghost took = { λ fresh b t. HasBuilt fresh b t };
 

@@ -8,7 +8,7 @@ use Rattle.bstr.proofs.lemmas.PieceLemmas.{piece-bounds}
 use Rattle.page_text.specs.Characters.{mark, Scan, scan_on, scan_from, scan, unified, chars, begun}
 use Rattle.page_text.specs.Fronts.{front_on, is_allowed, is_part}
 use Rattle.page_text.specs.Order.{AreInOrder}
-use Rattle.page_text.specs.Reading.{Reading, after, seen, due_on, due}
+use Rattle.page_text.specs.Model.{Reading, after, seen, due_on, due}
 use Rattle.page_text.specs.declared.Mark.{Mark}
 use Rattle.page_text.specs.declared.TextFault.{TextFault}
 use Rattle.page_text.proofs.Readings.{IsSound, pushed-after}

@@ -14,7 +14,7 @@ use Rattle.bstr.proofs.lemmas.EncodeLemmas.{decoded-encode}
 use Rattle.page_text.specs.Characters.{scan_on, scan, unified}
 use Rattle.page_text.specs.Fronts.{is_allowed, front_on}
 use Rattle.page_text.specs.Plain.{is_plain, are_plain, marks_from}
-use Rattle.page_text.specs.Reading.{Reading, ends_in_cr, after_on, after, due}
+use Rattle.page_text.specs.Model.{Reading, ends_in_cr, after_on, after, due}
 use Rattle.page_text.specs.declared.TextFault.{TextFault}
 use Rattle.page_text.proofs.Scans.{scan-nil, scan-step}
 

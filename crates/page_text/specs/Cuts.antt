@@ -1,7 +1,7 @@
 -- A page in any number of pieces.
 use Rattle.std.specs.Prelude.{ℕ, List, [], ◌∷◌, ◌++◌}
 use Rattle.page_text.specs.declared.Mark.{Mark}
-use Rattle.page_text.specs.Reading.{Reading, after, due}
+use Rattle.page_text.specs.Model.{Reading, after, due}
 
 -- the bytes of all pieces
 unfoldable pub joined : List (List ℕ) → List ℕ

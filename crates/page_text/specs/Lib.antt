@@ -1,7 +1,7 @@
-pub mod Fronts
 pub mod Characters
-pub mod Reading
-pub mod Growth
 pub mod Cuts
-pub mod Plain
+pub mod Fronts
+pub mod Growth
+pub mod Model
 pub mod Order
+pub mod Plain

@@ -2,7 +2,7 @@
 
 ghost use Rattle.std.specs.Prelude.{◌≡◌, ◌≢◌, ◌++◌, ◌∷◌, [], ◌+◌, ◌<◌, ◌≤◌, ◌^◌, ℕ, List, length, take, option_to_list, is_some, true, IfSome, OnOk, OnErr, Some, None, Ok, Err};
 ghost use Rattle.page_text.specs.Characters.{chars, stop, begun, first_break, shown};
-ghost use Rattle.page_text.specs.Reading.{begin, Stands, after, due, answer};
+ghost use Rattle.page_text.specs.Model.{begin, Stands, after, due, answer};
 ghost use Rattle.std.specs.Char.{len_utf8};
 ghost use Rattle.std.specs.Str.{chars as text_chars};
 ghost use Rattle.page_text.specs.Plain.{are_plain, marks_from};
@@ -28,7 +28,7 @@ pub struct Feed {
 
 impl Model for Feed {
     ghost use Rattle.std.specs.Prelude.{take, ◌≤◌, ◌<◌, ◌≡◌};
-    ghost use Rattle.page_text.specs.Reading.{Reading};
+    ghost use Rattle.page_text.specs.Model.{Reading};
     ghost use Rattle.page_text.specs.Fronts.{front};
     ghost use Rattle.page_text.specs.declared.fronts.Front.TheVariants.{Part};
 

@@ -3,7 +3,7 @@
 ghost use Rattle.std.specs.Prelude.{◌≡◌, List, ℕ, length};
 ghost use Rattle.page_text.specs.Characters.{begun, chars};
 ghost use Rattle.page_text.specs.Order.{AreInOrder};
-ghost use Rattle.page_text.specs.Reading.{begin, Stands};
+ghost use Rattle.page_text.specs.Model.{begin, Stands};
 ghost use Rattle.page_text.specs.Cuts.{joined, after_all, due_all};
 
 /// It doesn't matter how a page is cut: pieces that are pushed one after another reach what all their bytes reach.

@@ -2,12 +2,12 @@
 use Rattle.std.proofs.Common.{◌≡◌, ℕ, ◌&&◌, Bool, true, false, List, ◌++◌, length, drop, Option, Some, None, refl, sym, ap, ◌∙◌, subst, arith, append_assoc, append-nil}
 use Rattle.std.proofs.lemmas.List.{drop-append-le, map-append}
 use Rattle.ix_base.specs.declared.rule.Rule.{Rule}
-use Rattle.page_tree.specs.Acting.{judged, state_behind, act_past, acted, acted_on, MayFollow, Leads, Breaks}
+use Rattle.page_tree.specs.MachineSteps.{judged, state_behind, act_past, acted, acted_on, MayFollow, Leads, Breaks}
 use Rattle.page_tree.specs.Break.{Fault, fault}
-use Rattle.page_tree.specs.Constructs.{Byte, values, size, is_run, settled_or, whole_size, kind_of, construct, offset_of, finished}
+use Rattle.page_constructs.specs.Constructs.{Byte, values, size, is_run, settled_or, whole_size, kind_of, construct, offset_of, finished}
 use Rattle.page_tree.specs.Machine.{State}
 use Rattle.page_tree.specs.Spellings.{put_first}
-use Rattle.page_tree.proofs.CutLaws.{size_by-takes, size-append}
+use Rattle.page_constructs.proofs.CutLaws.{size_by-takes, size-append}
 use Rattle.page_tree.proofs.PieceLaws.{length-values, finished-step, same-construct}
 
 -- a construct that is whole comes first, whatever may follow

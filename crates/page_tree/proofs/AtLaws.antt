@@ -3,15 +3,15 @@ use Rattle.std.proofs.Common.{◌≡◌, ◌∙◌, ⊎_elim, ℕ, ◌+◌, ◌�
 use Rattle.std.proofs.lemmas.List.{length-drop}
 use Rattle.ix_base.proofs.OnceLemmas.{Contains-later, Contains-same}
 use Rattle.page_tree.specs.Break.{w}
-use Rattle.page_tree.specs.Constructs.{Construct, kind_of, whole_size, text_of, cut, cut_from, starts}
+use Rattle.page_constructs.specs.Constructs.{Construct, kind_of, whole_size, text_of, cut, cut_from, starts}
 use Rattle.page_tree.proofs.PageLaws.{found}
 use Rattle.page_tree.proofs.PlacingLaws.{drop-behind}
-use Rattle.page_tree.proofs.SizeLaws.{same-number}
-use Rattle.page_tree.proofs.SpanLaws.{clash, one_number, starts-front}
+use Rattle.page_constructs.proofs.SizeLaws.{same-number}
+use Rattle.page_constructs.proofs.SpanLaws.{clash, one_number, starts-front}
 use Rattle.std.proofs.lemmas.Bool.Decides.{nat_tests}
 use Rattle.page_tree.specs.Raw.{raw, mark_bytes, mark_size, is_front}
 use Rattle.page_tree.specs.Reaches.{Reach, reaches_to, reaches, reach_at, told, StandsAt}
-use Rattle.page_tree.specs.declared.kind.Kind.{Kind}
+use Rattle.page_constructs.specs.declared.kind.Kind.{Kind}
 use Rattle.page_tree.proofs.ReachLaws.{IsAt, walk}
 use Rattle.page_tree.proofs.TextRaw.{text-raw}
 

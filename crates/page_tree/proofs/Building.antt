@@ -6,12 +6,13 @@ use Rattle.ix_base.specs.Sound.{IsApart}
 use Rattle.ix_base.specs.Scope.{outermost}
 use Rattle.ix_base.specs.Trees.{Head, Bound, Nodes, none, chars, elem, Tree}
 use Rattle.ix_base.specs.declared.rule.Rule.{Rule}
-use Rattle.page_tree.specs.Tokens.{Tag, Token, start, empty, close, words, refer, section, declaration, doctype, silent}
+use Rattle.page_constructs.specs.Tokens.{Tag, Token, start, empty, close, words, refer, section, declaration, doctype, silent}
 use Rattle.page_tree.specs.Tags.{opened, head_of}
 use Rattle.page_tree.specs.Page.{is_within, AreRuns, AreBefore, AreBehind, Joins, IsElement, Spells, SpellsPage}
 use Rattle.page_tree.specs.Break.{broken_or, broken_by, broken_by_tag, matches}
 use Rattle.page_tree.specs.Machine.{Frame, State, begin, outline_of, is_rooted, append, flush, flushed, scope_in, closed, moved, unless_broken, step, steps, whole, built}
-use Rattle.page_tree.proofs.TagLaws.{tag_kept, or_none, not_false, fair-opened, one_name}
+use Rattle.page_tree.proofs.TagLaws.{tag_kept, or_none, fair-opened, one_name}
+use Rattle.page_constructs.proofs.BoolLaws.{not_false}
 use Rattle.page_tree.proofs.Spelled.{st, scope-outlined, length-outlined, length-flushed, scope-flushed, MayBegin}
 
 runs-join : (ts us : List Token) (s t : List ℕ) → AreRuns s ts → AreRuns t us → AreRuns (s ++ t) (ts ++ us)

@@ -3,8 +3,8 @@ use Rattle.std.proofs.Common.{◌≡◌, ℕ, suc, ◌+◌, ◌<◌, ◌≤◌, 
 use Rattle.std.proofs.lemmas.List.{length-take-le}
 use Rattle.std.specs.Str.{IsUtf8, IsCharBoundary}
 use Rattle.std.proofs.lemmas.Str.{IsCharBoundary-end, IsCharBoundary-before_ascii, IsCharBoundary-after_ascii}
-use Rattle.page_tree.specs.Constructs.{whole_size}
-use Rattle.page_tree.proofs.AllowedText.{at-seam}
+use Rattle.page_constructs.specs.Constructs.{whole_size}
+use Rattle.page_constructs.proofs.AllowedText.{at-seam}
 use Rattle.page_tree.proofs.PieceLaws.{whole-takes}
 use Rattle.page_tree.proofs.SoundCuts.{PartsWell, whole-parts}
 

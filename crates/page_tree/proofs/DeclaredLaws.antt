@@ -7,7 +7,7 @@ use Rattle.ix_base.specs.Bindings.{Bound, are_ordered, bound}
 use Rattle.ix_base.specs.Scope.{namespace_of, bound_as, bound_over, declared_over, scope_under}
 use Rattle.ix_base.proofs.UnderLemmas.{over, over-same, over-other, found-declared, found-under, ordered-over, ordered-under, one-scope}
 use Rattle.page_tree.specs.Orders.{bound_under, entered}
-use Rattle.page_tree.proofs.SpanLaws.{bytes-one}
+use Rattle.page_constructs.proofs.SpanLaws.{bytes-one}
 
 ordered-bound : (bs s : List Bound) → are_ordered s ≡ true → are_ordered (bound_under s bs) ≡ true
 ordered-bound [] s h = h

@@ -2,12 +2,12 @@
 use Rattle.std.proofs.Common.{◌≡◌, ℕ, suc, ◌+◌, ◌==◌, Bool, true, false, ◌&&◌, ◌||◌, if◌then◌else◌, inl, inr, List, [], ◌∷◌, ◌++◌, length, take, drop, Option, Some, None, option_map, refl, sym, ap, ◌∙◌, arith, subst, append_assoc, length-append, codes}
 use Rattle.std.proofs.lemmas.Bool.Decides.{Decides-eqb}
 use Rattle.std.proofs.lemmas.Bool.{and_parts}
-use Rattle.page_tree.specs.Constructs.{starts, after, after_tag, starts_white, kind_of, with_front, size_by, size, is_run, settled_or, whole_size}
-use Rattle.page_tree.specs.Forms.{between}
-use Rattle.page_tree.specs.declared.kind.Kind.{Kind}
-use Rattle.page_tree.specs.declared.kind.Kind.TheVariants.{Declaration, Instruction, Comment, Cdata, Doctype, Unknown, EndTag, StartTag, Reference, Text}
-use Rattle.page_tree.proofs.SpanLaws.{clash, one_number, starts-front, take-front}
-use Rattle.page_tree.specs.Ends.{HasEnds}
+use Rattle.page_constructs.specs.Constructs.{starts, after, after_tag, starts_white, kind_of, with_front, size_by, size, is_run, settled_or, whole_size}
+use Rattle.page_constructs.specs.Forms.{between}
+use Rattle.page_constructs.specs.declared.kind.Kind.{Kind}
+use Rattle.page_constructs.specs.declared.kind.Kind.TheVariants.{Declaration, Instruction, Comment, Cdata, Doctype, Unknown, EndTag, StartTag, Reference, Text}
+use Rattle.page_constructs.proofs.SpanLaws.{clash, one_number, starts-front, take-front}
+use Rattle.page_constructs.specs.Ends.{HasEnds}
 
 -- where the first end is found
 pub record Found (ends cs : List ℕ) (k : ℕ) : Type 0 where
@@ -207,7 +207,7 @@ unfolding kind_of
 run-ends first [] piece h = absurd (cc)
 run-ends first (c ∷ cs) piece h = rw (not_less) (by_and (c == 38)) where
   not_less : (c == 60) ≡ false
-  not_less = Rattle.page_tree.proofs.TagLaws.not_true (c == 60) h
+  not_less = Rattle.page_constructs.proofs.BoolLaws.not_true (c == 60) h
 
   by_and : (b : Bool) → HasEnds (if b && true then Reference else Text) piece
   by_and true = tt

@@ -1,14 +1,14 @@
 -- What is left at the end of a page.
 use Rattle.std.proofs.Common.{◌≡◌, ℕ, Bool, true, false, List, [], ◌∷◌, length, drop, Option, Some, None, is_none, Ok, Err, refl, sym, ap, ◌∙◌, subst, append-nil}
-use Rattle.page_text.specs.Reading.{answer}
+use Rattle.page_text.specs.Model.{answer}
 use Rattle.page_text.specs.declared.TextFault.{TextFault}
 use Rattle.page_text.specs.declared.TextFault.TheVariants.{BadBytes, BadChar, NoMemory}
 use Rattle.ix_base.specs.Trees.{Tree}
-use Rattle.page_tree.specs.Acting.{acted_on, acted, MayFollow, Leads, Breaks, ended_by, end_of}
+use Rattle.page_tree.specs.MachineSteps.{acted_on, acted, MayFollow, Leads, Breaks, ended_by, end_of}
 use Rattle.page_tree.specs.Break.{Fault, behind_constructs, ended}
-use Rattle.page_tree.specs.Constructs.{Byte, values, first_offset, whole_size, cut_at, cut_from, finished}
+use Rattle.page_constructs.specs.Constructs.{Byte, values, first_offset, whole_size, cut_at, cut_from, finished}
 use Rattle.page_tree.specs.Machine.{Frame, State, outline_of, whole}
-use Rattle.page_tree.specs.Placing.{IsPlaced}
+use Rattle.page_tree.specs.TextPlaces.{IsPlaced}
 use Rattle.page_tree.specs.declared.pending.Places.{Places}
 use Rattle.page_tree.proofs.PlacingLaws.{says-behind}
 use Rattle.page_tree.proofs.Spelled.{st}

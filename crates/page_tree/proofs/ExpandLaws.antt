@@ -7,9 +7,9 @@ use Rattle.ix_base.specs.Bindings.{Bound}
 use Rattle.ix_base.specs.Spaces.{Space, space_of}
 use Rattle.page_tree.specs.Expansions.{Expansion, expansion, expansion_of}
 use Rattle.page_tree.specs.Spaces.{AreFrom, HasNumber, IsFrom, spaces_expanded}
-use Rattle.page_tree.specs.Views.{attribute_of}
+use Rattle.page_constructs.specs.Model.{attribute_of}
 use Rattle.page_tree.specs.declared.names.Expanded.{Expanded}
-use Rattle.page_tree.specs.declared.token.Attribute.{Attribute}
+use Rattle.page_constructs.specs.declared.token.Attribute.{Attribute}
 
 -- what is due of the attributes from a place on
 abbrev from : List Bound → ℕ → List Attribute → List Expansion

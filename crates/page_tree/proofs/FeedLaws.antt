@@ -6,11 +6,11 @@ use Rattle.std.specs.Char.{encode_utf8, len_utf8}
 use Rattle.std.specs.Str.{chars, encode_utf8_all}
 use Rattle.page_text.specs.Characters.{begun}
 use Rattle.page_text.specs.Plain.{are_plain, marks_from}
-use Rattle.page_text.specs.Reading.{Reading, Stands, after, due}
+use Rattle.page_text.specs.Model.{Reading, Stands, after, due}
 use Rattle.page_text.specs.declared.Mark.{Mark}
 use Rattle.page_text.proofs.Plain.{plain-encodes}
 use Rattle.page_text.proofs.Readings.{stands-after, begun-due}
-use Rattle.page_tree.specs.Constructs.{counted, spread}
+use Rattle.page_constructs.specs.Constructs.{counted, spread}
 use Rattle.page_tree.proofs.PlacingLaws.{spread-append, counted-append}
 
 -- the bytes of characters one behind another

@@ -6,14 +6,14 @@ use Rattle.ix_base.specs.NcName.{are_allowed, is_ncname, is_name_start, is_name_
 use Rattle.ix_base.specs.Scope.{is_qname, prefix_of, local_of, namespace_of, bound_over, declared_over, scope_under, attribute_name}
 use Rattle.ix_base.specs.Namespaces.{xmlns_namespace}
 use Rattle.ix_base.specs.Trees.{Bound}
-use Rattle.ix_base.specs.Written as written
-use Rattle.page_tree.specs.Fine.{scope_in, is_fine_attribute, is_fine_tag, default_of, IsBodyName, AreBodyAttributes}
+use Rattle.ix_base.specs.WrittenMarkup as written
+use Rattle.page_tree.specs.FineMarkup.{scope_in, is_fine_attribute, is_fine_tag, default_of, IsBodyName, AreBodyAttributes}
 use Rattle.page_tree.specs.Spellings.{read, tag_at}
 use Rattle.page_tree.specs.Tags.{declares, bindings, scope_of, is_expanded, is_same, same_name, repeats, is_unbound, misnames, is_bad}
-use Rattle.page_tree.proofs.AllowedText.{low-ncname}
+use Rattle.page_constructs.proofs.AllowedText.{low-ncname}
 use Rattle.page_tree.proofs.FineLaws.{bytes-swapped, bound-here, good-values}
 use Rattle.page_tree.proofs.FineNames.{ncname-colon, prefixed-qname, local-qname}
-use Rattle.page_tree.proofs.SpanLaws.{either, or_left, or_right, bytes-one}
+use Rattle.page_constructs.proofs.SpanLaws.{either, or_left, or_right, bytes-one}
 
 xml_prefix : is_ncname (codes "xml") ≡ true
 unfolding is_name_start is_name_char

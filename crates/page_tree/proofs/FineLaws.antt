@@ -7,13 +7,13 @@ use Rattle.std.proofs.lemmas.Bool.{and_parts, and_right, not-true}
 use Rattle.ix_base.specs.NcName.{are_allowed}
 use Rattle.ix_base.specs.Scope.{local_of, namespace_of, bound_over, scope_under, attribute_name}
 use Rattle.ix_base.specs.Trees.{Bound}
-use Rattle.ix_base.specs.Written as written
-use Rattle.ix_base.specs.Written.{Markup, nothing, words, node, leaf, verbatim}
-use Rattle.page_tree.specs.Fine.{scope_in, begins_dark, is_fine_text, is_fine_tag, is_fine, are_plain, names_of, IsPlainTag, are_allowed_values, IsFine, HasValues}
+use Rattle.ix_base.specs.WrittenMarkup as written
+use Rattle.ix_base.specs.WrittenMarkup.{Markup, nothing, words, node, leaf, verbatim}
+use Rattle.page_tree.specs.FineMarkup.{scope_in, begins_dark, is_fine_text, is_fine_tag, is_fine, are_plain, names_of, IsPlainTag, are_allowed_values, IsFine, HasValues}
 use Rattle.page_tree.specs.Spellings.{read, tag_at}
 use Rattle.page_tree.specs.Tags.{declares, bindings, scope_of, same_name, is_expanded, is_same, repeats, misrefers, is_unbound, misnames}
-use Rattle.page_tree.specs.Tokens.{Attribute}
-use Rattle.page_tree.proofs.SpanLaws.{either, clash, or_left, or_right, bytes-one, bytes-same}
+use Rattle.page_constructs.specs.Tokens.{Attribute}
+use Rattle.page_constructs.proofs.SpanLaws.{either, clash, or_left, or_right, bytes-one, bytes-same}
 
 -- attributes with other local names
 same-apart : (scope : List Bound) (a b : Attribute) → bytes_eq (local_of a.name) (local_of b.name) ≡ false → is_same scope a b ≡ false

@@ -7,8 +7,8 @@ use Rattle.ix_base.specs.NcName.{is_ncname, is_name_start, is_name_char, is_allo
 use Rattle.ix_base.specs.Scope.{outermost}
 use Rattle.ix_base.specs.Trees.{Tree, none, elem}
 use Rattle.ix_base.specs.Trees as tree
-use Rattle.ix_base.specs.Written.{Attribute, Markup, nothing, words, node, leaf, verbatim, written}
-use Rattle.page_tree.specs.Fine.{is_fine, tree_at, first_line, page_with}
+use Rattle.ix_base.specs.WrittenMarkup.{Attribute, Markup, nothing, words, node, leaf, verbatim, written}
+use Rattle.page_tree.specs.FineMarkup.{is_fine, tree_at, first_line, page_with}
 use Rattle.page_tree.specs.Page.{page}
 use Rattle.page_tree.proofs.WrittenPages.{written-page}
 

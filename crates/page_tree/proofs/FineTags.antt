@@ -6,12 +6,12 @@ use Rattle.std.proofs.lemmas.Bool.Decides.{nat_tests}
 use Rattle.ix_base.specs.NcName.{lies, are_allowed, is_name_start, is_name_char, is_ncname}
 use Rattle.ix_base.specs.Scope.{is_qname, has_prefix, prefix_of, local_of, namespace_of}
 use Rattle.ix_base.specs.Trees.{Bound}
-use Rattle.ix_base.specs.Written as written
-use Rattle.page_tree.specs.Fine.{is_fine_attribute, are_plain, names_of, IsPlainTag, is_letter, is_simple, is_simple_name, are_bound, are_simple_names, are_allowed_values}
+use Rattle.ix_base.specs.WrittenMarkup as written
+use Rattle.page_tree.specs.FineMarkup.{is_fine_attribute, are_plain, names_of, IsPlainTag, is_letter, is_simple, is_simple_name, are_bound, are_simple_names, are_allowed_values}
 use Rattle.page_tree.specs.Tags.{is_unbound}
-use Rattle.page_tree.proofs.AllowedText.{is_low, low-ncname}
-use Rattle.page_tree.proofs.NameBytes.{cond-then, cond-else}
-use Rattle.page_tree.proofs.SpanLaws.{either, bytes-one}
+use Rattle.page_constructs.proofs.AllowedText.{is_low, low-ncname}
+use Rattle.page_constructs.proofs.NameBytes.{cond-then, cond-else}
+use Rattle.page_constructs.proofs.SpanLaws.{either, bytes-one}
 
 letter-start : (c : ℕ) → is_letter c ≡ true → (is_low c ≡ true) × (is_name_start c ≡ true)
 unfolding is_name_start

@@ -5,13 +5,13 @@ use Rattle.ix_base.specs.declared.rule.Rule.{Rule}
 use Rattle.page_text.specs.Characters.{chars, begun, stop}
 use Rattle.page_text.specs.declared.TextFault.{TextFault}
 use Rattle.page_text.proofs.Readings.{chars-begun}
-use Rattle.page_tree.specs.Acting.{judged_by, behind_by, act_past, acted, acted_on, Leads, Breaks, ended_by, end_of}
+use Rattle.page_tree.specs.MachineSteps.{judged_by, behind_by, act_past, acted, acted_on, Leads, Breaks, ended_by, end_of}
 use Rattle.page_tree.specs.Break.{Outline, Fault, broken_by, outline_behind, walk_past, walk_on, walked, verdict, w}
-use Rattle.page_tree.specs.Constructs.{Construct, Byte, spread, cut, finished}
+use Rattle.page_constructs.specs.Constructs.{Construct, Byte, spread, cut, finished}
 use Rattle.page_tree.specs.Machine.{State, begin, outline_of, moved, unless_broken, steps, whole}
-use Rattle.page_tree.specs.Meanings.{meant}
+use Rattle.page_constructs.specs.Meanings.{meant}
 use Rattle.page_tree.specs.Page.{page}
-use Rattle.page_tree.specs.Tokens.{Token}
+use Rattle.page_constructs.specs.Tokens.{Token}
 use Rattle.page_tree.proofs.Building.{page_of_built}
 use Rattle.page_tree.proofs.PageLaws.{read-mean, cut-ends}
 use Rattle.page_tree.proofs.Walking.{AllMeant, outline-moved}

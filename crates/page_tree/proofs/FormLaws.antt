@@ -5,17 +5,17 @@ use Rattle.std.specs.Char.{to_ascii_lowercase}
 use Rattle.std.proofs.lemmas.Bool.{lt-ltb, and_parts, or_cases, not-true}
 use Rattle.ix_base.specs.NcName.{is_white, is_ncname}
 use Rattle.ix_base.specs.Scope.{is_qname}
-use Rattle.page_tree.specs.Constructs.{starts}
-use Rattle.page_tree.specs.Ends.{HasEnds}
-use Rattle.page_tree.specs.Forms.{AreWhite, holds, has_bracket, between, IsPart, IsStandalone, IsDeclared, IsInstruction, IsInTag, HasForm}
-use Rattle.page_tree.specs.Meanings.{given, ◌>>=◌, before, from, is_dark, behind_white, is_white_text, behind_front, equalled, inside, slash, tag, start_tag, end_tag, part_at, is_answer, ends_standalone, ends_declaration, declared_behind, declared, instructed, commented, doctyped, meant_by}
-use Rattle.page_tree.specs.Tokens.{Tag, Token, start, empty, close, words, refer, section, declaration, doctype, silent}
-use Rattle.page_tree.specs.Values.{referred_by}
-use Rattle.page_tree.specs.declared.kind.Kind.{Kind}
-use Rattle.page_tree.specs.declared.kind.Kind.TheVariants.{Declaration, Instruction, Comment, Cdata, Doctype, Unknown, EndTag, StartTag, Reference, Text}
-use Rattle.page_tree.proofs.SpanLaws.{and_both, NoneStops, Stops, before-span, from-span, before-from, before-none, from-stops, none-all, bind-some, given-some, starts-append, drop-front, take-front}
-use Rattle.page_tree.proofs.NameBytes.{is_name_byte, is_qname_byte, ncname-bytes, ncname-some, qname-bytes, name-not-white}
-use Rattle.page_tree.proofs.TagForms.{white-dark, dark-white, equal-in, equal-out, behind-is, some-same, end_of, tag-in, tag-out, white-some}
+use Rattle.page_constructs.specs.Constructs.{starts}
+use Rattle.page_constructs.specs.Ends.{HasEnds}
+use Rattle.page_constructs.specs.Forms.{AreWhite, holds, has_bracket, between, IsPart, IsStandalone, IsDeclared, IsInstruction, IsInTag, HasForm}
+use Rattle.page_constructs.specs.Meanings.{given, ◌>>=◌, before, from, is_dark, behind_white, is_white_text, behind_front, equalled, inside, slash, tag, start_tag, end_tag, part_at, is_answer, ends_standalone, ends_declaration, declared_behind, declared, instructed, commented, doctyped, meant_by}
+use Rattle.page_constructs.specs.Tokens.{Tag, Token, start, empty, close, words, refer, section, declaration, doctype, silent}
+use Rattle.page_constructs.specs.Values.{referred_by}
+use Rattle.page_constructs.specs.declared.kind.Kind.{Kind}
+use Rattle.page_constructs.specs.declared.kind.Kind.TheVariants.{Declaration, Instruction, Comment, Cdata, Doctype, Unknown, EndTag, StartTag, Reference, Text}
+use Rattle.page_constructs.proofs.SpanLaws.{and_both, NoneStops, Stops, before-span, from-span, before-from, before-none, from-stops, none-all, bind-some, given-some, starts-append, drop-front, take-front}
+use Rattle.page_constructs.proofs.NameBytes.{is_name_byte, is_qname_byte, ncname-bytes, ncname-some, qname-bytes, name-not-white}
+use Rattle.page_constructs.proofs.TagForms.{white-dark, dark-white, equal-in, equal-out, behind-is, some-same, end_of, tag-in, tag-out, white-some}
 
 -- what stands between two texts
 pub inside-between : (front inner back : List ℕ) → inside (length front) (length back) (between front inner back) ≡ inner

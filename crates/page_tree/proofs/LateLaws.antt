@@ -3,11 +3,11 @@ use Rattle.std.proofs.Common.{◌≡◌, ◌≢◌, ℕ, zero, suc, ◌+◌, ◌
 use Rattle.std.proofs.lemmas.Bool.{cases_lt}
 use Rattle.std.proofs.lemmas.List.{drop-append-le, length-take-le}
 use Rattle.ix_base.specs.NcName.{is_white}
-use Rattle.page_tree.specs.Constructs.{starts, after, after_tag, text_size, reference_size, starts_white, kind_else, kind_of, with_front, size_by, size, settled_or, is_run, whole_size}
-use Rattle.page_tree.specs.declared.kind.Kind.{Kind}
-use Rattle.page_tree.specs.declared.kind.Kind.TheVariants.{Declaration, Instruction, Comment, Cdata, Doctype, Unknown, EndTag, StartTag, Reference, Text}
-use Rattle.page_tree.proofs.CutLaws.{starts-append, starts-length, size_by-takes}
-use Rattle.page_tree.proofs.SpanLaws.{clash, starts-front}
+use Rattle.page_constructs.specs.Constructs.{starts, after, after_tag, text_size, reference_size, starts_white, kind_else, kind_of, with_front, size_by, size, settled_or, is_run, whole_size}
+use Rattle.page_constructs.specs.declared.kind.Kind.{Kind}
+use Rattle.page_constructs.specs.declared.kind.Kind.TheVariants.{Declaration, Instruction, Comment, Cdata, Doctype, Unknown, EndTag, StartTag, Reference, Text}
+use Rattle.page_constructs.proofs.CutLaws.{starts-append, starts-length, size_by-takes}
+use Rattle.page_constructs.proofs.SpanLaws.{clash, starts-front}
 
 -- a length that is found in more bytes, and ends within the first n, is found in these
 abbrev Near : Option ℕ → Option ℕ → ℕ → Type 0

@@ -1,12 +1,12 @@
 -- What a tree builder has led to, when more bytes come.
 use Rattle.std.proofs.Common.{◌≡◌, ℕ, true, false, List, ◌++◌, Option, None, is_some, sym, ap, subst}
 use Rattle.page_text.specs.Characters.{begun}
-use Rattle.page_tree.specs.Acting.{Leads, Breaks}
+use Rattle.page_tree.specs.MachineSteps.{Leads, Breaks}
 use Rattle.page_tree.specs.Buildings.{state_of}
-use Rattle.page_tree.specs.Constructs.{Byte, spread}
+use Rattle.page_constructs.specs.Constructs.{Byte, spread}
 use Rattle.page_tree.specs.Machine.{begin}
-use Rattle.page_tree.specs.Standing.{HasLedTo}
-use Rattle.page_tree.specs.Waiting.{Waits, fault_at}
+use Rattle.page_tree.specs.Model.{HasLedTo}
+use Rattle.page_tree.specs.PendingText.{Waits, fault_at}
 use Rattle.page_tree.specs.declared.pending.Pending.{Pending}
 use Rattle.page_tree.specs.declared.setting.Setting.{Setting}
 use Rattle.page_tree.specs.declared.settle.Break.{Break}

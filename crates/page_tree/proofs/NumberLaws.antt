@@ -12,7 +12,7 @@ use Rattle.text_map.specs.Texts.{Texts, get_in}
 use Rattle.page_tree.specs.Spaces.{AreApart, HasNumber, HaveNumbers, Keeps, number_in}
 use Rattle.page_tree.specs.Buildings.{state_of}
 use Rattle.page_tree.specs.Stacks.{AreAll, pages_built, spaces_built, spaces_open}
-use Rattle.page_tree.specs.Taking.{Becomes}
+use Rattle.page_tree.specs.Effects.{Becomes}
 use Rattle.page_tree.specs.declared.tree.Building.{Building}
 use Rattle.page_tree.specs.declared.opened.Open.{Open}
 use Rattle.page_tree.proofs.BuiltLaws.{all-left, all-right}

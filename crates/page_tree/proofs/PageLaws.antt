@@ -3,12 +3,12 @@ use Rattle.std.proofs.Common.{◌≡◌, ℕ, suc, zero, Bool, true, false, List
 use Rattle.std.proofs.lemmas.List.{take-map}
 use Rattle.ix_base.specs.Trees.{Tree}
 use Rattle.page_text.specs.Characters.{stop}
-use Rattle.page_tree.specs.Constructs.{Byte, values, whole_size, construct, Construct, Cut, cut_at, cut_from, cut}
+use Rattle.page_constructs.specs.Constructs.{Byte, values, whole_size, construct, Construct, Cut, cut_at, cut_from, cut}
 use Rattle.page_tree.specs.Page.{AllMean, page}
 use Rattle.page_tree.specs.Break.{Fault, w}
 use Rattle.page_tree.specs.Machine.{built}
-use Rattle.page_tree.specs.Tokens.{Token}
-use Rattle.page_tree.specs.Ends.{HasEnds}
+use Rattle.page_constructs.specs.Tokens.{Token}
+use Rattle.page_constructs.specs.Ends.{HasEnds}
 use Rattle.page_tree.proofs.Spelled.{page_built}
 use Rattle.page_tree.proofs.Building.{page_of_built}
 use Rattle.page_tree.proofs.Walking.{AllMeant, Clean, clean, unclean, meant-one}
@@ -25,7 +25,7 @@ unfolding cut_from
 cut-ends zero ended first us = tt
 cut-ends (suc n) ended first us = (elim (whole_size ended first (values us)) as (λ o. whole_size ended first (values us) ≡ o → AllEnd (cut_at o first us (cut_from n ended false)).constructs) [
   | None ↦ λ e. tt
-  | Some k ↦ λ e. (subst (HasEnds (Rattle.page_tree.specs.Constructs.kind_of first (values us))) (take-map (λ u. u.value) k us) (whole-ends ended first (values us) k e), cut-ends n ended false (drop k us))
+  | Some k ↦ λ e. (subst (HasEnds (Rattle.page_constructs.specs.Constructs.kind_of first (values us))) (take-map (λ u. u.value) k us) (whole-ends ended first (values us) k e), cut-ends n ended false (drop k us))
 ]) refl
 
 pub read-mean : (cs : List Construct) (ts : List Token) → AllEnd cs → AllMeant cs ts → AllMean cs ts

@@ -10,8 +10,8 @@ use Rattle.page_text.specs.Fronts as fronts
 use Rattle.page_text.specs.Order.{AreInOrder}
 use Rattle.page_text.specs.declared.Mark.{Mark}
 use Rattle.page_text.proofs.InOrder.{page-in-order}
-use Rattle.page_tree.specs.Constructs.{Byte, counted, spread, values, text_of}
-use Rattle.page_tree.proofs.AllowedText.{allowed-nil, allowed-append, allowed-char}
+use Rattle.page_constructs.specs.Constructs.{Byte, counted, spread, values, text_of}
+use Rattle.page_constructs.proofs.AllowedText.{allowed-nil, allowed-append, allowed-char}
 
 -- the two say the same
 same-allowed : (c : ℕ) → fronts.is_allowed c ≡ true → is_allowed c ≡ true

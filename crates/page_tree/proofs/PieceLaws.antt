@@ -1,9 +1,9 @@
 -- It doesn't matter in which pieces constructs are cut.
 use Rattle.std.proofs.Common.{if◌then◌else◌, ◌&&◌, ◌≡◌, ℕ, suc, zero, ◌<◌, ◌≤◌, Bool, true, false, List, [], ◌∷◌, ◌++◌, length, take, drop, Option, Some, None, refl, ap, ◌∙◌, arith, length-drop}
 use Rattle.std.proofs.lemmas.List.{take-append-le, drop-append-le, map-append}
-use Rattle.page_tree.specs.Constructs.{Byte, values, size, is_run, settled_or, whole_size, Construct, construct, offset_of, kind_of, cut_at, cut_from, settled, finished, is_first, continued}
+use Rattle.page_constructs.specs.Constructs.{Byte, values, size, is_run, settled_or, whole_size, Construct, construct, offset_of, kind_of, cut_at, cut_from, settled, finished, is_first, continued}
 use Rattle.page_tree.specs.Spellings.{put_first}
-use Rattle.page_tree.proofs.CutLaws.{size_by-takes, size-append, kind_of-append}
+use Rattle.page_constructs.proofs.CutLaws.{size_by-takes, size-append, kind_of-append}
 
 pub length-values : (us : List Byte) → length (values us) ≡ length us
 length-values [] = refl

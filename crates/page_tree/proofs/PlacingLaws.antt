@@ -4,11 +4,11 @@ use Rattle.std.proofs.lemmas.List.{drop-append-le, map-append, drop-map}
 use Rattle.std.proofs.Math.Seq.{drop-nil}
 use Rattle.std.proofs.Math.ListN.{drop_of_length-le}
 use Rattle.page_text.specs.declared.Mark.{Mark}
-use Rattle.page_tree.specs.Constructs.{Byte, values, counted, offset_of, first_offset, spread}
-use Rattle.page_tree.specs.Placing.{offset_at, IsPlaced}
+use Rattle.page_constructs.specs.Constructs.{Byte, values, counted, offset_of, first_offset, spread}
+use Rattle.page_tree.specs.TextPlaces.{offset_at, IsPlaced}
 use Rattle.page_tree.specs.declared.pending.Places.{Places}
 use Rattle.page_tree.proofs.PieceLaws.{length-values}
-use Rattle.page_tree.proofs.SizeLaws.{other-number}
+use Rattle.page_constructs.proofs.SizeLaws.{other-number}
 
 pub spread-append : (ms ns : List Mark) → spread (ms ++ ns) ≡ spread ms ++ spread ns
 spread-append [] ns = refl

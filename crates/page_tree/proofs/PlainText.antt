@@ -8,13 +8,13 @@ use Rattle.ix_base.specs.Escapes.{te, ae, te_ref, ae_ref, escaped}
 use Rattle.ix_base.specs.NcName.{is_allowed, are_allowed, is_name_start, is_name_char, is_name_of, is_ncname}
 use Rattle.ix_base.specs.Scope.{is_qname, has_prefix, prefix_of, local_of}
 use Rattle.ix_base.specs.Trees.{Bound}
-use Rattle.ix_base.specs.Written as written
-use Rattle.ix_base.specs.Written.{Markup, nothing, words, node, leaf, verbatim, attrs_text, start_text, leaf_text, close_text}
-use Rattle.page_tree.specs.Fine.{scope_in, is_fine_attribute, is_fine}
-use Rattle.page_tree.specs.Forms.{has}
-use Rattle.page_tree.proofs.AllowedText.{is_low, low-allowed, allowed-append, allowed-before, allowed-behind}
-use Rattle.page_tree.proofs.NameBytes.{is_name_byte, is_qname_byte, name-chars, qname-bytes, qname-splits, qname-parts, qname-plain, name-not}
-use Rattle.page_tree.proofs.SpanLaws.{either, one_number, or_left, or_right}
+use Rattle.ix_base.specs.WrittenMarkup as written
+use Rattle.ix_base.specs.WrittenMarkup.{Markup, nothing, words, node, leaf, verbatim, attrs_text, start_text, leaf_text, close_text}
+use Rattle.page_tree.specs.FineMarkup.{scope_in, is_fine_attribute, is_fine}
+use Rattle.page_constructs.specs.Forms.{has}
+use Rattle.page_constructs.proofs.AllowedText.{is_low, low-allowed, allowed-append, allowed-before, allowed-behind}
+use Rattle.page_constructs.proofs.NameBytes.{is_name_byte, is_qname_byte, name-chars, qname-bytes, qname-splits, qname-parts, qname-plain, name-not}
+use Rattle.page_constructs.proofs.SpanLaws.{either, one_number, or_left, or_right}
 use Rattle.page_tree.proofs.WrittenTokens.{fine-text, fine-words, fine-node, fine-leaf}
 
 -- allowed characters, and no carriage return

@@ -6,13 +6,13 @@ use Rattle.std.proofs.lemmas.List.{drop-map}
 use Rattle.std.proofs.Math.ListN.{drop_of_length-le}
 use Rattle.std.proofs.lemmas.Bool.Decides.{nat_tests}
 use Rattle.ix_base.specs.NcName.{is_white}
-use Rattle.page_tree.specs.Constructs.{Byte, values, starts, after, after_tag, text_size, reference_size, starts_white, kind_of, with_front, size_by, size, is_run, settled_or, whole_size}
+use Rattle.page_constructs.specs.Constructs.{Byte, values, starts, after, after_tag, text_size, reference_size, starts_white, kind_of, with_front, size_by, size, is_run, settled_or, whole_size}
 use Rattle.page_tree.specs.Raw.{raw}
-use Rattle.page_tree.specs.declared.kind.Kind.{Kind}
-use Rattle.page_tree.specs.declared.kind.Kind.TheVariants.{Declaration, Instruction, Comment, Cdata, Doctype, Unknown, EndTag, StartTag, Reference, Text}
+use Rattle.page_constructs.specs.declared.kind.Kind.{Kind}
+use Rattle.page_constructs.specs.declared.kind.Kind.TheVariants.{Declaration, Instruction, Comment, Cdata, Doctype, Unknown, EndTag, StartTag, Reference, Text}
 use Rattle.page_tree.proofs.EndLaws.{front_of, kind-starts}
 use Rattle.page_tree.proofs.PlacingLaws.{drop-behind}
-use Rattle.page_tree.proofs.SpanLaws.{one_number, clash}
+use Rattle.page_constructs.proofs.SpanLaws.{one_number, clash}
 
 -- What is behind a number of bytes, where the unified text has so many and the bytes so many: nothing of either, or the same.
 abbrev pub IsPast : ℕ → List Byte → List ℕ → Option ℕ → Option ℕ → Type 0

@@ -2,12 +2,12 @@
 use Rattle.std.proofs.Common.{◌≡◌, ◌≢◌, ◌∙◌, ⊎_elim, ℕ, zero, suc, ◌+◌, ◌<◌, ◌≤◌, ◌==◌, Bool, true, false, ◌&&◌, List, [], ◌∷◌, map, length, drop, Contains, Option, Some, None, refl, sym, ap, subst, arith}
 use Rattle.std.proofs.lemmas.List.{length-drop}
 use Rattle.ix_base.proofs.OnceLemmas.{Contains-nil, Contains-cases}
-use Rattle.page_tree.specs.Constructs.{Byte, Construct, values, offset_of, kind_of, size_by, whole_size, construct, cut_at, cut_from}
+use Rattle.page_constructs.specs.Constructs.{Byte, Construct, values, offset_of, kind_of, size_by, whole_size, construct, cut_at, cut_from}
 use Rattle.page_tree.specs.Raw.{raw}
 use Rattle.page_tree.specs.Reaches.{Reach, reaches_to, reach_at}
 use Rattle.page_tree.proofs.PieceLaws.{whole-takes}
 use Rattle.page_tree.proofs.PlacingLaws.{drop-behind}
-use Rattle.page_tree.proofs.SizeLaws.{same-number, other-number}
+use Rattle.page_constructs.proofs.SizeLaws.{same-number, other-number}
 use Rattle.page_tree.proofs.RawLaws.{IsPast, whole-past, kind-raw}
 
 -- bytes begin at their offset

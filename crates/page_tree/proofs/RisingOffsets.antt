@@ -3,13 +3,13 @@ use Rattle.std.proofs.Common.{◌≡◌, inl, inr, ℕ, suc, zero, ◌<◌, ◌�
 use Rattle.ix_base.specs.Trees.{Bound, Head, Nodes, none, chars, elem, Tree}
 use Rattle.ix_base.specs.Sound.{Rise, offsets_of}
 use Rattle.ix_base.specs.Scope.{outermost}
-use Rattle.page_tree.specs.Constructs.{Byte, Construct, values, whole_size, cut_at, cut_from, construct}
-use Rattle.page_tree.specs.Forms.{HasForm}
+use Rattle.page_constructs.specs.Constructs.{Byte, Construct, values, whole_size, cut_at, cut_from, construct}
+use Rattle.page_constructs.specs.Forms.{HasForm}
 use Rattle.page_tree.specs.Page.{AreRuns, AreBehind, AreBefore, HasTags, Spells, SpellsPage, AllMean}
 use Rattle.page_tree.specs.Tags.{opened}
-use Rattle.page_tree.specs.Tokens.{Tag, Token, start, empty, close, words, refer, section, declaration, doctype, silent}
-use Rattle.page_tree.specs.declared.kind.Kind.{Kind}
-use Rattle.page_tree.specs.declared.kind.Kind.TheVariants.{StartTag}
+use Rattle.page_constructs.specs.Tokens.{Tag, Token, start, empty, close, words, refer, section, declaration, doctype, silent}
+use Rattle.page_constructs.specs.declared.kind.Kind.{Kind}
+use Rattle.page_constructs.specs.declared.kind.Kind.TheVariants.{StartTag}
 use Rattle.page_tree.proofs.PageMarks.{BytesClimb, lower-bytes}
 use Rattle.page_tree.proofs.PieceLaws.{whole-takes}
 use Rattle.page_tree.proofs.TagLaws.{opened-fair}

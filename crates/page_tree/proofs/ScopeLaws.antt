@@ -11,10 +11,10 @@ use Rattle.ix_base.specs.Trees.{Bound}
 use Rattle.ix_base.specs.Scope.{bound_over}
 use Rattle.page_tree.specs.Orders.{bound_under, entered}
 use Rattle.page_tree.specs.Tags.{binding_of}
-use Rattle.page_tree.specs.Views.{attribute_of}
-use Rattle.page_tree.specs.declared.token.Attribute.{Attribute}
+use Rattle.page_constructs.specs.Model.{attribute_of}
+use Rattle.page_constructs.specs.declared.token.Attribute.{Attribute}
 use Rattle.ix_base.proofs.ScopeLemmas.{same-order}
-use Rattle.page_tree.proofs.SpanLaws.{bytes-one}
+use Rattle.page_constructs.proofs.SpanLaws.{bytes-one}
 
 -- a map's entries as the bindings of a scope
 abbrev Key : Type 0

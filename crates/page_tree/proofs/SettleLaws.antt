@@ -4,14 +4,14 @@ use Rattle.std.proofs.lemmas.Bool.Decides.{nat_tests}
 use Rattle.std.proofs.Math.ListN.{drop_of_length-le}
 use Rattle.std.proofs.lemmas.List.{take-map}
 use Rattle.ix_base.specs.declared.rule.Rule.{Rule}
-use Rattle.page_tree.specs.Acting.{judged, state_behind, Leads, Breaks}
+use Rattle.page_tree.specs.MachineSteps.{judged, state_behind, Leads, Breaks}
 use Rattle.page_tree.specs.Break.{fault}
-use Rattle.page_tree.specs.Constructs.{Byte, values, kind_of, whole_size, construct, offset_of}
+use Rattle.page_constructs.specs.Constructs.{Byte, values, kind_of, whole_size, construct, offset_of}
 use Rattle.page_tree.specs.Machine.{State}
-use Rattle.page_tree.specs.declared.kind.Kind.{Kind}
+use Rattle.page_constructs.specs.declared.kind.Kind.{Kind}
 use Rattle.page_tree.proofs.ActingLaws.{one-step, one-break}
 use Rattle.page_tree.proofs.PieceLaws.{whole-takes}
-use Rattle.page_tree.proofs.SpanLaws.{one_number}
+use Rattle.page_constructs.proofs.SpanLaws.{one_number}
 
 pub none-whole : (closed first : Bool) → whole_size closed first [] ≡ None
 none-whole closed first = (elim (whole_size closed first []) as (λ o. whole_size closed first [] ≡ o → o ≡ None) [

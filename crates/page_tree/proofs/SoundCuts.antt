@@ -4,14 +4,14 @@ use Rattle.std.proofs.lemmas.List.{take-map, drop-map}
 use Rattle.std.proofs.Math.Seq.{take-nil, drop-nil, drop-length}
 use Rattle.std.proofs.lemmas.Bool.Decides.{nat_tests}
 use Rattle.ix_base.specs.NcName.{is_white, are_allowed}
-use Rattle.page_tree.specs.Constructs.{starts, text_size, reference_size, kind_of, size_by, size, is_run, settled_or, whole_size, Byte, values, Construct, cut_at, cut_from}
-use Rattle.page_tree.specs.Forms.{between}
-use Rattle.page_tree.specs.declared.kind.Kind.{Kind}
-use Rattle.page_tree.specs.declared.kind.Kind.TheVariants.{Declaration, Instruction, Comment, Cdata, Doctype, Unknown, EndTag, StartTag, Reference, Text}
-use Rattle.page_tree.proofs.AllowedText.{allowed-nil, allowed-before, allowed-through, allowed-behind}
+use Rattle.page_constructs.specs.Constructs.{starts, text_size, reference_size, kind_of, size_by, size, is_run, settled_or, whole_size, Byte, values, Construct, cut_at, cut_from}
+use Rattle.page_constructs.specs.Forms.{between}
+use Rattle.page_constructs.specs.declared.kind.Kind.{Kind}
+use Rattle.page_constructs.specs.declared.kind.Kind.TheVariants.{Declaration, Instruction, Comment, Cdata, Doctype, Unknown, EndTag, StartTag, Reference, Text}
+use Rattle.page_constructs.proofs.AllowedText.{allowed-nil, allowed-before, allowed-through, allowed-behind}
 use Rattle.page_tree.proofs.EndLaws.{front_of, kind-starts, kind-ends, map-suc, map-behind, found-behind, ends-behind}
-use Rattle.page_tree.specs.Ends.{HasEnds}
-use Rattle.page_tree.proofs.SpanLaws.{one_number}
+use Rattle.page_constructs.specs.Ends.{HasEnds}
+use Rattle.page_constructs.proofs.SpanLaws.{one_number}
 
 -- the first k bytes end with an ASCII byte, or one follows them, or nothing does
 pub record Through (k : ℕ) (cs : List ℕ) : Type 0 where

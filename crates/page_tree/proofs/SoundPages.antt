@@ -3,9 +3,9 @@ use Rattle.std.proofs.Common.{ℕ, true, List, [], ◌∷◌, length, is_none, s
 use Rattle.ix_base.specs.Trees.{Tree}
 use Rattle.ix_base.specs.Sound.{IsSoundTree, Rise}
 use Rattle.page_text.specs.Characters.{stop}
-use Rattle.page_tree.specs.Constructs.{Construct, cut, text_of}
+use Rattle.page_constructs.specs.Constructs.{Construct, cut, text_of}
 use Rattle.page_tree.specs.Page.{AllMean, page}
-use Rattle.page_tree.specs.Tokens.{Token}
+use Rattle.page_constructs.specs.Tokens.{Token}
 use Rattle.page_tree.proofs.PageMarks.{page-climbs, page-allowed}
 use Rattle.page_tree.proofs.RisingOffsets.{climb-rise, cut-climbs, tokens-climb, tag_offsets, page-offsets}
 use Rattle.page_tree.proofs.SoundCuts.{AreAllowed, cut-allowed}

@@ -6,17 +6,17 @@ use Rattle.std.proofs.lemmas.Bool.{and_parts}
 use Rattle.std.proofs.lemmas.Bool.Decides.{nat_tests}
 use Rattle.std.proofs.lemmas.List.Elements.{All-nil, All-cons}
 use Rattle.ix_base.specs.NcName.{is_white, is_allowed, are_allowed}
-use Rattle.page_tree.specs.Constructs.{starts}
-use Rattle.page_tree.specs.Forms.{AreWhite, IsEqual, AreAttributes, IsInTag, HasForm, is_quote}
-use Rattle.page_tree.specs.Values.{number_in, allowed, referred, spelled, meant_in, value_of, referred_by}
-use Rattle.page_tree.specs.Tokens.{Attribute, Tag, Token, start, empty, close, words, refer, section, declaration, doctype, silent}
-use Rattle.page_tree.specs.declared.kind.Kind.{Kind}
-use Rattle.page_tree.specs.declared.kind.Kind.TheVariants.{Declaration, Instruction, Comment, Cdata, Doctype, EndTag, StartTag, Reference, Text}
-use Rattle.page_tree.proofs.AllowedText.{allowed-append, allowed-before, allowed-tail, allowed-behind, allowed-char, low-allowed, is_low}
+use Rattle.page_constructs.specs.Constructs.{starts}
+use Rattle.page_constructs.specs.Forms.{AreWhite, IsEqual, AreAttributes, IsInTag, HasForm, is_quote}
+use Rattle.page_constructs.specs.Values.{number_in, allowed, referred, spelled, meant_in, value_of, referred_by}
+use Rattle.page_constructs.specs.Tokens.{Attribute, Tag, Token, start, empty, close, words, refer, section, declaration, doctype, silent}
+use Rattle.page_constructs.specs.declared.kind.Kind.{Kind}
+use Rattle.page_constructs.specs.declared.kind.Kind.TheVariants.{Declaration, Instruction, Comment, Cdata, Doctype, EndTag, StartTag, Reference, Text}
+use Rattle.page_constructs.proofs.AllowedText.{allowed-append, allowed-before, allowed-tail, allowed-behind, allowed-char, low-allowed, is_low}
 use Rattle.page_tree.proofs.SoundNames.{IsFormed}
 use Rattle.page_tree.proofs.SoundHeads.{IsFormedTag}
 use Rattle.page_tree.proofs.SoundTrees.{IsFormedToken}
-use Rattle.page_tree.proofs.SpanLaws.{one_number}
+use Rattle.page_constructs.proofs.SpanLaws.{one_number}
 use Rattle.page_tree.proofs.Building.{and-then-some}
 
 -- a reference means an allowed character

@@ -5,8 +5,8 @@ use Rattle.ix_base.specs.Trees.{Bound, Head, Nodes, none, chars, elem, Tree}
 use Rattle.ix_base.specs.Sound.{IsSoundHead, AreSound}
 use Rattle.ix_base.specs.Scope.{outermost}
 use Rattle.page_tree.specs.Page.{AreRuns, HasTags, Spells, SpellsPage}
-use Rattle.page_tree.specs.Tokens.{Tag, Token, start, empty, close, words, refer, section, declaration, doctype, silent}
-use Rattle.page_tree.proofs.AllowedText.{allowed-nil, allowed-append}
+use Rattle.page_constructs.specs.Tokens.{Tag, Token, start, empty, close, words, refer, section, declaration, doctype, silent}
+use Rattle.page_constructs.proofs.AllowedText.{allowed-nil, allowed-append}
 use Rattle.page_tree.proofs.SoundScopes.{IsSoundScope, outermost-sound}
 use Rattle.page_tree.proofs.SoundHeads.{IsFormedTag, head-sound}
 

@@ -2,7 +2,7 @@
 use Rattle.std.proofs.Common.{◌≡◌, ◌≢◌, ℕ, ◌+◌, ◌<◌, ◌⊎◌, inl, inr, Bool, true, false, ◌&&◌, List, [], ◌∷◌, ◌++◌, length, map, Option, Some, None, option_and_then, refl, sym, ap, ◌∙◌, arith, append_assoc, append-nil, zero-add}
 use Rattle.ix_base.specs.Sound.{IsApart}
 use Rattle.ix_base.specs.Trees.{Head, Bound, Nodes, none, chars, elem, Tree}
-use Rattle.page_tree.specs.Tokens.{Tag, Token, start, empty, close, words, refer, section, declaration, doctype, silent}
+use Rattle.page_constructs.specs.Tokens.{Tag, Token, start, empty, close, words, refer, section, declaration, doctype, silent}
 use Rattle.page_tree.specs.Tags.{opened}
 use Rattle.page_tree.specs.Page.{AreRuns, AreBefore, AreBehind, IsElement, Spells, SpellsPage}
 use Rattle.page_tree.specs.Break.{Outline, broken_by, inner_scope}

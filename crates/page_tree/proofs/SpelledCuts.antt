@@ -6,16 +6,16 @@ use Rattle.std.proofs.lemmas.List.Elements.{All-head, All-tail}
 use Rattle.ix_base.specs.Escapes.{ae}
 use Rattle.ix_base.specs.NcName.{is_name_char, is_name_start}
 use Rattle.ix_base.specs.Scope.{is_qname}
-use Rattle.ix_base.specs.Written as written
-use Rattle.page_tree.specs.Constructs.{Byte, values, offset_of, after, after_tag, kind_of, size_by, size, whole_size, settled_or, is_run, with_front, finished}
-use Rattle.page_tree.specs.Forms.{has}
+use Rattle.ix_base.specs.WrittenMarkup as written
+use Rattle.page_constructs.specs.Constructs.{Byte, values, offset_of, after, after_tag, kind_of, size_by, size, whole_size, settled_or, is_run, with_front, finished}
+use Rattle.page_constructs.specs.Forms.{has}
 use Rattle.page_tree.specs.Spellings.{HasName, put_first}
-use Rattle.page_tree.specs.declared.kind.Kind.TheVariants.{StartTag, EndTag}
-use Rattle.page_tree.proofs.NameBytes.{is_name_byte, is_qname_byte, qname-bytes, qname-some, name-not}
+use Rattle.page_constructs.specs.declared.kind.Kind.TheVariants.{StartTag, EndTag}
+use Rattle.page_constructs.proofs.NameBytes.{is_name_byte, is_qname_byte, qname-bytes, qname-some, name-not}
 use Rattle.page_tree.proofs.PieceLaws.{finished-step}
-use Rattle.page_tree.specs.Seeking.{further as more}
-use Rattle.page_tree.proofs.SizeLaws.{further-zero as more-zero}
-use Rattle.page_tree.proofs.SpanLaws.{NoneStops, none-all, either, one_number, clash, take-front, drop-front}
+use Rattle.page_constructs.specs.Searches.{further as more}
+use Rattle.page_constructs.proofs.SizeLaws.{further-zero as more-zero}
+use Rattle.page_constructs.proofs.SpanLaws.{NoneStops, none-all, either, one_number, clash, take-front, drop-front}
 use Rattle.page_tree.proofs.SpelledTags.{unquoted, attrs-end}
 
 more-more : (m n : ℕ) (o : Option ℕ) → more m (more n o) ≡ more (m + n) o
@@ -33,8 +33,8 @@ ends_plain c = c == 62 || (c == 34 || c == 39)
 plain-next : (c : ℕ) (x : List ℕ) → ends_plain c ≡ false → after_tag None (c ∷ x) ≡ option_map suc (after_tag None x)
 unfolding ends_plain
 plain-next c x h =
-    let e = Rattle.page_tree.proofs.SpanLaws.or_left (c == 62) (c == 34 || c == 39) h in
-    let q = Rattle.page_tree.proofs.SpanLaws.or_right (c == 62) (c == 34 || c == 39) h in
+    let e = Rattle.page_constructs.proofs.SpanLaws.or_left (c == 62) (c == 34 || c == 39) h in
+    let q = Rattle.page_constructs.proofs.SpanLaws.or_right (c == 62) (c == 34 || c == 39) h in
     rw (e, q) refl
 
 plain-skip : (p x : List ℕ) → NoneStops ends_plain p → after_tag None (p ++ x) ≡ more (length p) (after_tag None x)
@@ -51,8 +51,8 @@ quoted-skip [] x h = option-suc (after_tag None x) where
   option-suc None = refl
   option-suc (Some k) = ap Some (omega arith)
 quoted-skip (c ∷ v) x h =
-    let e = Rattle.page_tree.proofs.SpanLaws.or_left (c == 34) (has 34 v) h in
-    let r = Rattle.page_tree.proofs.SpanLaws.or_right (c == 34) (has 34 v) h in
+    let e = Rattle.page_constructs.proofs.SpanLaws.or_left (c == 34) (has 34 v) h in
+    let r = Rattle.page_constructs.proofs.SpanLaws.or_right (c == 34) (has 34 v) h in
     rw e (ap (option_map suc) (quoted-skip v x r) ∙ suc-more (length v + 1) (after_tag None x) ∙ ap (λ k. more k (after_tag None x)) (let z : suc (length v + 1) ≡ suc (length v) + 1 = omega arith in z))
 
 attrs-skip : (attrs : List written.Attribute) (end : List ℕ) → All HasName attrs → after_tag None (written.attrs_text attrs end) ≡ more (length (written.attrs_text attrs [])) (after_tag None end)
@@ -119,7 +119,7 @@ after-name : (name rest : List ℕ) → NoneStops ends_plain name → after (62 
 unfolding ends_plain
 after-name [] rest h = refl
 after-name (c ∷ name) rest h =
-    let e = Rattle.page_tree.proofs.SpanLaws.or_left (c == 62) (c == 34 || c == 39) h.0 in rw e (ap (option_map suc) (after-name name rest h.1) ∙ ap Some (omega arith))
+    let e = Rattle.page_constructs.proofs.SpanLaws.or_left (c == 62) (c == 34 || c == 39) h.0 in rw e (ap (option_map suc) (after-name name rest h.1) ∙ ap Some (omega arith))
 
 pub close-size : (first : Bool) (name rest : List ℕ) → is_qname name ≡ true
     → (kind_of first (written.close_text name ++ rest) ≡ EndTag) × (size first (written.close_text name ++ rest) ≡ Some (length (written.close_text name)))

@@ -2,13 +2,13 @@
 use Rattle.std.proofs.Common.{◌≡◌, ℕ, suc, ◌+◌, ◌-◌, ◌==◌, Bool, true, false, ◌||◌, if◌then◌else◌, List, [], ◌∷◌, ◌++◌, length, take, drop, Some, None, option_map, refl, sym, ap, ◌∙◌, arith, append_assoc, length-append, bytes_eq, codes}
 use Rattle.std.specs.List.{list_any}
 use Rattle.ix_base.specs.NcName.{is_white}
-use Rattle.page_tree.specs.Constructs.{text_size, reference_size, kind_of, size_by, size, with_front}
-use Rattle.page_tree.specs.Forms.{HasForm, holds}
+use Rattle.page_constructs.specs.Constructs.{text_size, reference_size, kind_of, size_by, size, with_front}
+use Rattle.page_constructs.specs.Forms.{HasForm, holds}
 use Rattle.page_tree.specs.Spellings.{is_markup, ends_reference}
-use Rattle.page_tree.specs.Tokens.{words, refer}
-use Rattle.page_tree.specs.Values.{spelled, referred}
-use Rattle.page_tree.specs.declared.kind.Kind.TheVariants.{Reference, Text}
-use Rattle.page_tree.proofs.SpanLaws.{or_left, or_right, take-front, drop-front}
+use Rattle.page_constructs.specs.Tokens.{words, refer}
+use Rattle.page_constructs.specs.Values.{spelled, referred}
+use Rattle.page_constructs.specs.declared.kind.Kind.TheVariants.{Reference, Text}
+use Rattle.page_constructs.proofs.SpanLaws.{or_left, or_right, take-front, drop-front}
 
 text-goes : (text : List ℕ) (next : ℕ) (rest : List ℕ) → list_any is_markup text ≡ false → is_markup next ≡ true → text_size (text ++ next ∷ rest) ≡ Some (length text)
 text-goes [] next rest h n = rw n refl

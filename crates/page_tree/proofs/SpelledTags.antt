@@ -5,13 +5,13 @@ use Rattle.std.proofs.lemmas.List.Elements.{All-head, All-tail}
 use Rattle.ix_base.specs.Escapes.{ae, te_ref, put}
 use Rattle.ix_base.specs.NcName.{is_allowed}
 use Rattle.ix_base.specs.Scope.{is_qname}
-use Rattle.ix_base.specs.Written as written
-use Rattle.page_tree.specs.Forms.{has, AreAttributes, IsInTag, HasForm}
+use Rattle.ix_base.specs.WrittenMarkup as written
+use Rattle.page_constructs.specs.Forms.{has, AreAttributes, IsInTag, HasForm}
 use Rattle.page_tree.specs.Spellings.{HasName, read, tag_at}
-use Rattle.page_tree.specs.Tokens.{start, empty, close}
-use Rattle.page_tree.specs.Values.{meant_in, referred, value_of}
-use Rattle.page_tree.specs.declared.kind.Kind.TheVariants.{StartTag, EndTag}
-use Rattle.page_tree.proofs.SpanLaws.{one_number}
+use Rattle.page_constructs.specs.Tokens.{start, empty, close}
+use Rattle.page_constructs.specs.Values.{meant_in, referred, value_of}
+use Rattle.page_constructs.specs.declared.kind.Kind.TheVariants.{StartTag, EndTag}
+use Rattle.page_constructs.proofs.SpanLaws.{one_number}
 
 -- values: what stands in the quotes has no quote and no `<`, and means the value
 escaped : (c : ℕ) (cs : List ℕ) → (P : List ℕ → Type 0) → (c ≡ 34 → P (38 ∷ (codes "quot;" ++ ae cs))) → (c ≡ 9 → P (38 ∷ (codes "#9;" ++ ae cs))) → (c ≡ 10 → P (38 ∷ (codes "#10;" ++ ae cs)))

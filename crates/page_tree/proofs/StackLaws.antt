@@ -10,7 +10,7 @@ use Rattle.page_tree.specs.Break.{is_empty, matches}
 use Rattle.page_tree.specs.Machine.{Frame, State, append, flush, flushed, closed, scope_in, running, outlined, is_rooted}
 use Rattle.page_tree.specs.Stacks.{frame, frames_onto, frames_of}
 use Rattle.page_tree.specs.Tags.{scope_of, valued, head_of}
-use Rattle.page_tree.specs.Tokens.{Tag}
+use Rattle.page_constructs.specs.Tokens.{Tag}
 use Rattle.page_tree.specs.declared.opened.Open.{Open}
 
 pub frames-snoc : (fs : List Frame) (os : List Open) (o : Open) → frames_onto fs (os ++ o ∷ []) ≡ frame o ∷ frames_onto fs os

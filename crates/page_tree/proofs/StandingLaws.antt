@@ -1,12 +1,12 @@
 -- What a tree builder stands for, when a piece comes.
 use Rattle.std.proofs.Common.{◌≡◌, ℕ, Bool, true, false, List, [], ◌++◌, length, Result, Ok, Err, OnOk, IfOk, refl, sym, ap, ◌∙◌, subst}
 use Rattle.page_text.specs.Characters.{begun, scan, scan_from, unified}
-use Rattle.page_text.specs.Reading.{reading_of, due}
+use Rattle.page_text.specs.Model.{reading_of, due}
 use Rattle.page_text.specs.declared.Mark.{Mark}
 use Rattle.page_text.proofs.Readings.{gains}
-use Rattle.page_tree.specs.Acting.{Leads, Breaks}
+use Rattle.page_tree.specs.MachineSteps.{Leads, Breaks}
 use Rattle.page_tree.specs.Break.{Fault}
-use Rattle.page_tree.specs.Constructs.{Byte, spread}
+use Rattle.page_constructs.specs.Constructs.{Byte, spread}
 use Rattle.page_tree.specs.Machine.{State, begin}
 use Rattle.page_tree.proofs.ActingLaws.{leads-stay, leads-more, breaks-more}
 use Rattle.page_tree.proofs.PlacingLaws.{spread-append}

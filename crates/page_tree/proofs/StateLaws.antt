@@ -8,7 +8,7 @@ use Rattle.page_tree.specs.Break.{is_outside, inner_scope, broken_or, broken_by_
 use Rattle.page_tree.specs.Machine.{Frame, State, outlined, outline_of, scope_in, flush, flushed, closed, opening, closing}
 use Rattle.page_tree.specs.Stacks.{frame, frames_of}
 use Rattle.page_tree.specs.Tags.{scope_of, tag_break, head_of}
-use Rattle.page_tree.specs.Tokens.{Tag}
+use Rattle.page_constructs.specs.Tokens.{Tag}
 use Rattle.page_tree.specs.declared.opened.Open.{Open}
 use Rattle.page_tree.proofs.Spelled.{st, scope-outlined, length-outlined}
 use Rattle.page_tree.proofs.StackLaws.{frames-snoc, pushed-frames}

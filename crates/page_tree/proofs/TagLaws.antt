@@ -4,26 +4,11 @@ use Rattle.std.proofs.lemmas.Bool.{lt-ltb, ltb-true}
 use Rattle.std.proofs.lemmas.Slice.Eq.{bytes_eq-Decides}
 use Rattle.ix_base.specs.Trees.{Bound, Head}
 use Rattle.ix_base.specs.declared.rule.Rule.{Rule}
+use Rattle.page_constructs.proofs.BoolLaws.{and_left, and_right, not_false, not_true}
 use Rattle.page_tree.specs.Break.{Outline, inner_scope, is_outside, broken_or, broken_by_tag}
 use Rattle.ix_base.specs.declared.rule.Rule.TheVariants.{W7, W8, W9, W10, W12}
 use Rattle.page_tree.specs.Tags.{repeats, misrefers, misnames, scope_of, is_fair, head_of, opened, tag_break}
-use Rattle.page_tree.specs.Tokens.{Tag}
-
-pub and_left : (a b : Bool) → (a && b) ≡ true → a ≡ true
-and_left true b h = refl
-and_left false b h = absurd (cc)
-
-pub and_right : (a b : Bool) → (a && b) ≡ true → b ≡ true
-and_right true b h = h
-and_right false b h = absurd (cc)
-
-pub not_true : (a : Bool) → not a ≡ true → a ≡ false
-not_true true h = absurd (cc)
-not_true false h = refl
-
-pub not_false : (a : Bool) → not a ≡ false → a ≡ true
-not_false true h = refl
-not_false false h = absurd (cc)
+use Rattle.page_constructs.specs.Tokens.{Tag}
 
 -- a rule that isn't broken, before others that aren't
 pub or_none : (b : Bool) (r : Rule) (next : Option Rule) → broken_or b r next ≡ None → (b ≡ false) × (next ≡ None)

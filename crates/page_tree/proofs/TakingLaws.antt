@@ -1,7 +1,7 @@
 -- What a refusal tells further up.
 use Rattle.std.proofs.Common.{◌≡◌, Option, Some}
 use Rattle.ix_base.specs.declared.rule.Rule.{Rule}
-use Rattle.page_tree.specs.Taking.{Refuses}
+use Rattle.page_tree.specs.Effects.{Refuses}
 use Rattle.page_tree.specs.declared.refusal.Refusal.{Refusal}
 use Rattle.page_tree.specs.declared.refusal.Refusal.TheVariants.{Breaks, NoMemory}
 

@@ -12,9 +12,9 @@ use Rattle.page_text.specs.Characters.{mark, scan, shown, unified, stop}
 use Rattle.page_text.specs.declared.Mark.{Mark}
 use Rattle.page_text.proofs.Scans.{scan-nil}
 use Rattle.page_text.proofs.NextChar.{IsNext, next-char}
-use Rattle.page_tree.specs.Constructs.{Byte, counted, spread, text_of, starts}
+use Rattle.page_constructs.specs.Constructs.{Byte, counted, spread, text_of, starts}
 use Rattle.page_tree.proofs.PlacingLaws.{spread-append}
-use Rattle.page_tree.proofs.SpanLaws.{one_number, starts-front, clash}
+use Rattle.page_constructs.proofs.SpanLaws.{one_number, starts-front, clash}
 use Rattle.page_tree.specs.Raw.{raw, mark_bytes, mark_size}
 use Rattle.page_tree.proofs.RawLaws.{raw-returns, raw-skips, raw-stays}
 

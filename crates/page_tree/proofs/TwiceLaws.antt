@@ -11,10 +11,10 @@ use Rattle.ix_base.specs.Scope.{has_prefix, attribute_name}
 use Rattle.page_tree.specs.Expansions.{Expansion, expansion, named_pair, expansion_of, prefix_in, known_name, is_unknown, repeats_by}
 use Rattle.page_tree.specs.declared.names.PrefixState.TheVariants.{Missing, Known, Unknown}
 use Rattle.page_tree.specs.Tags.{declares, is_bound, is_expanded, is_unbound, same_name, repeats, valued}
-use Rattle.page_tree.specs.Tokens.{Attribute}
-use Rattle.page_tree.specs.Views.{attribute_of}
+use Rattle.page_constructs.specs.Tokens.{Attribute}
+use Rattle.page_constructs.specs.Model.{attribute_of}
 use Rattle.page_tree.specs.declared.names.Expanded.{Expanded}
-use Rattle.page_tree.specs.declared.token.Attribute as code
+use Rattle.page_constructs.specs.declared.token.Attribute as code
 use Rattle.std.specs.Borrow.{Bor}
 use Rattle.std.proofs.lemmas.List.{drop_more}
 use Rattle.ix_base.proofs.ScopeLemmas.{same-order}

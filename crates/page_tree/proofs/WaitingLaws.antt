@@ -3,11 +3,11 @@ use Rattle.std.proofs.Common.{◌≡◌, ℕ, Bool, true, false, List, [], ◌++
 use Rattle.std.specs.Str.{chars}
 use Rattle.page_text.specs.Characters.{begun, first_break}
 use Rattle.page_text.specs.declared.TextFault.{TextFault}
-use Rattle.page_tree.specs.Acting.{acted, acted_on, Leads, Breaks}
+use Rattle.page_tree.specs.MachineSteps.{acted, acted_on, Leads, Breaks}
 use Rattle.page_tree.specs.Break.{Fault, blank, walked}
-use Rattle.page_tree.specs.Constructs.{Byte, values, spread, whole_size, finished}
+use Rattle.page_constructs.specs.Constructs.{Byte, values, spread, whole_size, finished}
 use Rattle.page_tree.specs.Machine.{State, begin}
-use Rattle.page_tree.specs.Unsettled.{begun_cut, waiting, pending_of}
+use Rattle.page_tree.specs.OpenEnds.{begun_cut, waiting, pending_of}
 use Rattle.page_tree.proofs.EndingLaws.{finished-none}
 use Rattle.page_tree.proofs.FinishLaws.{outlined_result, walked-acted}
 

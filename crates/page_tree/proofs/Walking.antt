@@ -4,9 +4,9 @@ use Rattle.ix_base.specs.Trees.{Tree}
 use Rattle.page_text.specs.declared.TextFault.{TextFault}
 use Rattle.page_text.specs.declared.TextFault.TheVariants.{BadBytes, BadChar, NoMemory}
 use Rattle.page_text.specs.Characters.{stop}
-use Rattle.page_tree.specs.Constructs.{Construct, Byte, cut}
-use Rattle.page_tree.specs.Meanings.{meant}
-use Rattle.page_tree.specs.Tokens.{Token, start, empty, close, words, refer, section, declaration, doctype, silent}
+use Rattle.page_constructs.specs.Constructs.{Construct, Byte, cut}
+use Rattle.page_constructs.specs.Meanings.{meant}
+use Rattle.page_constructs.specs.Tokens.{Token, start, empty, close, words, refer, section, declaration, doctype, silent}
 use Rattle.page_tree.specs.Break.{Outline, Fault, blank, broken_by, outline_behind, walk_past, walk_on, walked, ended, verdict, w}
 use Rattle.page_tree.specs.Machine.{Frame, State, begin, outlined, outline_of, flushed, moved, unless_broken, step, steps, whole, built}
 use Rattle.page_tree.proofs.Spelled.{st}

@@ -4,21 +4,21 @@ use Rattle.std.specs.List.{list_any}
 use Rattle.ix_base.specs.Escapes.{te}
 use Rattle.ix_base.specs.Scope.{is_qname}
 use Rattle.ix_base.specs.Trees.{Bound}
-use Rattle.ix_base.specs.Written as written
-use Rattle.ix_base.specs.Written.{Markup, nothing, words, node, leaf, verbatim, attrs_text, start_text, leaf_text, close_text}
-use Rattle.page_tree.specs.Constructs.{counted, values, kind_of, size, finished, starts}
-use Rattle.page_tree.specs.Fine.{past, scope_in, begins_dark, is_fine}
-use Rattle.page_tree.specs.Forms.{HasForm, has, holds}
+use Rattle.ix_base.specs.WrittenMarkup as written
+use Rattle.ix_base.specs.WrittenMarkup.{Markup, nothing, words, node, leaf, verbatim, attrs_text, start_text, leaf_text, close_text}
+use Rattle.page_constructs.specs.Constructs.{counted, values, kind_of, size, finished, starts}
+use Rattle.page_tree.specs.FineMarkup.{past, scope_in, begins_dark, is_fine}
+use Rattle.page_constructs.specs.Forms.{HasForm, has, holds}
 use Rattle.page_tree.specs.Page.{AllMean}
 use Rattle.page_tree.specs.Spellings.{tag_at, put_first, IsCut, is_markup}
-use Rattle.page_tree.specs.Tokens as token
-use Rattle.page_tree.specs.Tokens.{Token, start, empty, close, refer}
-use Rattle.page_tree.specs.declared.kind.Kind.{Kind}
-use Rattle.page_tree.specs.declared.kind.Kind.TheVariants.{StartTag, EndTag, Reference, Text}
+use Rattle.page_constructs.specs.Tokens as token
+use Rattle.page_constructs.specs.Tokens.{Token, start, empty, close, refer}
+use Rattle.page_constructs.specs.declared.kind.Kind.{Kind}
+use Rattle.page_constructs.specs.declared.kind.Kind.TheVariants.{StartTag, EndTag, Reference, Text}
 use Rattle.page_tree.proofs.PageMarks.{values-counted}
 use Rattle.page_tree.proofs.PlacingLaws.{counted-append}
 use Rattle.page_tree.proofs.PlainText.{any-append}
-use Rattle.page_tree.proofs.SpanLaws.{either, clash, or_right, starts-front}
+use Rattle.page_constructs.proofs.SpanLaws.{either, clash, or_right, starts-front}
 use Rattle.page_tree.proofs.SpelledCuts.{start-size, leaf-size, close-size, cut-front}
 use Rattle.page_tree.proofs.SpelledTags.{start-means, leaf-means, close-means}
 use Rattle.page_tree.proofs.SpelledRuns.{text-size, text-means, reference-size, reference-means}

@@ -9,16 +9,16 @@ use Rattle.ix_base.specs.NcName.{is_allowed, are_allowed}
 use Rattle.ix_base.specs.Scope.{is_qname}
 use Rattle.ix_base.specs.Sound.{IsApart}
 use Rattle.ix_base.specs.Trees.{Bound}
-use Rattle.ix_base.specs.Written as written
-use Rattle.ix_base.specs.Written.{Markup, nothing, words, node, leaf, verbatim, start_text, leaf_text, close_text}
-use Rattle.page_tree.specs.Fine.{past, head_at, scope_in, nodes_at, begins_dark, is_fine_text, is_fine_attribute, is_fine_tag, is_fine}
+use Rattle.ix_base.specs.WrittenMarkup as written
+use Rattle.ix_base.specs.WrittenMarkup.{Markup, nothing, words, node, leaf, verbatim, start_text, leaf_text, close_text}
+use Rattle.page_tree.specs.FineMarkup.{past, head_at, scope_in, nodes_at, begins_dark, is_fine_text, is_fine_attribute, is_fine_tag, is_fine}
 use Rattle.page_tree.specs.Page.{AreRuns, Spells}
 use Rattle.page_tree.specs.Spellings.{HasName, tag_at, is_markup, ends_reference}
 use Rattle.page_tree.specs.Tags.{is_fair, opened}
-use Rattle.page_tree.specs.Tokens as token
-use Rattle.page_tree.specs.Tokens.{Token, start, empty, close, refer}
-use Rattle.page_tree.specs.Values.{spelled, referred}
-use Rattle.page_tree.proofs.SpanLaws.{one_number}
+use Rattle.page_constructs.specs.Tokens as token
+use Rattle.page_constructs.specs.Tokens.{Token, start, empty, close, refer}
+use Rattle.page_constructs.specs.Values.{spelled, referred}
+use Rattle.page_constructs.proofs.SpanLaws.{one_number}
 
 -- a character that is written by this reference
 pub record IsRef (c : ℕ) (inner : List ℕ) : Type 0 where

@@ -9,11 +9,11 @@ use Rattle.ix_base.specs.declared.rule.Rule.TheVariants.{W1, W2, W3, W4, W5, W6,
 use Rattle.page_text.specs.Characters.{stop}
 use Rattle.page_text.specs.declared.TextFault.{TextFault}
 use Rattle.page_text.specs.declared.TextFault.TheVariants.{BadBytes, BadChar, NoMemory}
-use Rattle.page_tree.specs.Constructs.{Construct, Byte, cut}
-use Rattle.page_tree.specs.Meanings.{meant}
+use Rattle.page_constructs.specs.Constructs.{Construct, Byte, cut}
+use Rattle.page_constructs.specs.Meanings.{meant}
 use Rattle.page_tree.specs.Page.{is_within}
 use Rattle.page_tree.specs.Tags.{scope_of, repeats, misrefers, misnames}
-use Rattle.page_tree.specs.Tokens.{Tag, Token, start, empty, close, words, refer, section, declaration, doctype, silent}
+use Rattle.page_constructs.specs.Tokens.{Tag, Token, start, empty, close, words, refer, section, declaration, doctype, silent}
 
 -- an open element: its written name and its scope
 pub record Opened : Type 0 where

@@ -6,9 +6,10 @@ use Rattle.ix_base.specs.Trees.{Bound, Named, Valued, named, valued}
 use Rattle.ix_base.specs.Scope.{has_prefix, prefix_of, attribute_name}
 use Rattle.ix_base.specs.declared.tree.Name.{Name}
 use Rattle.page_tree.specs.Tags.{declares, is_bound}
-use Rattle.page_tree.specs.Tokens.{Attribute, Tag}
+use Rattle.page_constructs.specs.Tokens.{Attribute, Tag}
 use Rattle.page_tree.specs.declared.names.PrefixState.{PrefixState}
 use Rattle.page_tree.specs.declared.names.PrefixState.TheVariants.{Missing, Known, Unknown}
+use Rattle.page_tree.specs.declared.names.Declaration.{Declaration}
 use Rattle.page_tree.specs.declared.names.Expanded.{Expanded}
 
 -- an attribute with its expanded name, and its prefix in the scope
@@ -68,3 +69,7 @@ repeats_by same (x ∷ more) = list_any (same x) more || repeats_by same more
 -- a local part and a namespace
 abbrev pub named_pair : Bor (List ℕ) × Bor (List ℕ) → Named
 named_pair p = record { ns = p.1.now; local = p.0.now }
+
+-- what a declaration binds
+abbrev pub declared : Declaration → Bound
+declared d = record { prefix = d.prefix.now; ns = d.ns.now }

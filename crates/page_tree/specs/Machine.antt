@@ -6,7 +6,7 @@ use Rattle.ix_base.specs.Scope.{outermost}
 use Rattle.ix_base.specs.declared.rule.Rule.{Rule}
 use Rattle.page_tree.specs.Break.{Opened, Outline, broken_by}
 use Rattle.page_tree.specs.Tags.{head_of}
-use Rattle.page_tree.specs.Tokens.{Tag, Token, start, empty, close, words, refer, section, declaration, doctype, silent}
+use Rattle.page_constructs.specs.Tokens.{Tag, Token, start, empty, close, words, refer, section, declaration, doctype, silent}
 
 -- an open element: its written name, its head and its finished children
 pub record Frame : Type 0 where

@@ -7,10 +7,10 @@ use Rattle.ix_base.specs.Trees.{Bound, Head, Nodes, none, chars, elem, Tree}
 use Rattle.ix_base.specs.Sound.{IsApart}
 use Rattle.ix_base.specs.Scope.{outermost}
 use Rattle.page_text.specs.Characters.{stop}
-use Rattle.page_tree.specs.Constructs.{Construct, cut}
-use Rattle.page_tree.specs.Forms.{Means}
+use Rattle.page_constructs.specs.Constructs.{Construct, cut}
+use Rattle.page_constructs.specs.Forms.{Means}
 use Rattle.page_tree.specs.Tags.{opened}
-use Rattle.page_tree.specs.Tokens.{Tag, Token, start, empty, close, words, refer, section, declaration, doctype, silent}
+use Rattle.page_constructs.specs.Tokens.{Tag, Token, start, empty, close, words, refer, section, declaration, doctype, silent}
 
 -- A declaration is within the profile: version 1.0, and no encoding but these. It is the page's first construct, by its
 -- kind; below it stands with what gives nothing.

@@ -1,6 +1,6 @@
 -- A page's text byte by byte, with its line ends unified (XML 1.0, section 2.11).
 use Rattle.std.specs.Prelude.{ℕ, ◌+◌, ◌==◌, Bool, ◌&&◌, ◌||◌, List, [], ◌∷◌, ◌++◌, if◌then◌else◌}
-use Rattle.page_tree.specs.Constructs.{Byte, starts}
+use Rattle.page_constructs.specs.Constructs.{Byte, starts}
 
 -- a byte behind a carriage return or not: CR LF is one line feed where the CR stands, as is a lone CR
 abbrev pub raw_byte : Bool → ℕ → ℕ → List Byte

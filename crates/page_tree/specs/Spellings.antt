@@ -2,10 +2,10 @@
 use Rattle.std.specs.Prelude.{◌≡◌, ℕ, ◌==◌, Bool, true, ◌||◌, List, ◌∷◌, ◌++◌, length, map, Some}
 use Rattle.ix_base.specs.NcName.{is_white}
 use Rattle.ix_base.specs.Scope.{is_qname}
-use Rattle.ix_base.specs.Written as written
-use Rattle.page_tree.specs.Constructs.{Construct, Cut, kind_of, size}
-use Rattle.page_tree.specs.declared.kind.Kind.{Kind}
-use Rattle.page_tree.specs.Tokens.{Attribute, Tag}
+use Rattle.ix_base.specs.WrittenMarkup as written
+use Rattle.page_constructs.specs.Constructs.{Construct, Cut, kind_of, size}
+use Rattle.page_constructs.specs.declared.kind.Kind.{Kind}
+use Rattle.page_constructs.specs.Tokens.{Attribute, Tag}
 
 -- the attribute has a qualified name
 abbrev pub HasName : written.Attribute → Type 0

@@ -5,10 +5,10 @@ use crate::ending::{end, fault_of};
 use crate::pending::Pending;
 use crate::setting::Setting;
 use crate::settle::{Break, settle};
-use crate::token::Attribute;
 use crate::tree::Building;
 use bumpalo::Bump;
 use ix_base::{Element, NoMemory, Rule};
+use page_constructs::Attribute;
 use page_text::{Feed, Mark};
 use std::alloc::Global;
 use thiserror::Error;
@@ -57,13 +57,13 @@ impl<'a> TreeBuilder<'a> {
     ghost use Rattle.page_tree.specs.Break.{w};
     ghost use Rattle.page_tree.specs.Page.{page as page_with};
     ghost use Rattle.page_tree.specs.Stacks.{AreAll};
-    ghost use Rattle.page_tree.specs.Standing.{HasLed, HasRead, HasBuilt, StandsFor, IsSameBut};
-    ghost use Rattle.page_tree.specs.Waiting.{IsNext};
-    ghost use Rattle.page_tree.specs.Constructs.{whole_size, spread, counted};
+    ghost use Rattle.page_tree.specs.Model.{HasLed, HasRead, HasBuilt, StandsFor, IsSameBut};
+    ghost use Rattle.page_tree.specs.PendingText.{IsNext};
+    ghost use Rattle.page_constructs.specs.Constructs.{whole_size, spread, counted};
     ghost use Rattle.page_text.specs.Characters.{begun};
     ghost use Rattle.std.specs.Char.{len_utf8};
-    ghost use Rattle.page_tree.specs.Unsettled.{pending_of};
-    ghost use Rattle.page_tree.specs.Standing.{limit, page_number, fed_bytes, is_spent as is_spent_of, verdict_of};
+    ghost use Rattle.page_tree.specs.OpenEnds.{pending_of};
+    ghost use Rattle.page_tree.specs.Model.{limit, page_number, fed_bytes, is_spent as is_spent_of, verdict_of};
 
     /// A builder of the page of this number, whose elements lie in the arena. None of them may be deeper than the limit,
     /// the root's depth being 1.

@@ -3,23 +3,23 @@ ghost use Rattle.std.specs.Prelude.{◌≡◌, ◌≢◌, ◌≤◌, ℕ, List, 
 ghost use Rattle.ix_base.specs.Elements.{pages_of};
 ghost use Rattle.ix_base.specs.Spaces.{AreNumbered, spaces_of};
 ghost use Rattle.ix_base.specs.Trees.{tree_of};
-ghost use Rattle.page_text.specs.Reading.{answer};
-ghost use Rattle.page_tree.specs.Acting.{acted_on, end_of};
+ghost use Rattle.page_text.specs.Model.{answer};
+ghost use Rattle.page_tree.specs.MachineSteps.{acted_on, end_of};
 ghost use Rattle.page_tree.specs.Break.{fault, behind_constructs};
 ghost use Rattle.page_tree.specs.Buildings.{state_of, IsOnPage};
-ghost use Rattle.page_tree.specs.Constructs.{Byte, finished, first_offset};
+ghost use Rattle.page_constructs.specs.Constructs.{Byte, finished, first_offset};
 ghost use Rattle.page_tree.specs.Machine.{outline_of, whole, State};
 ghost use Rattle.page_tree.specs.Stacks.{AreAll};
-ghost use Rattle.page_tree.specs.Standing.{verdict_of};
-ghost use Rattle.page_tree.specs.Waiting.{Waits, fault_at};
+ghost use Rattle.page_tree.specs.Model.{verdict_of};
+ghost use Rattle.page_tree.specs.PendingText.{Waits, fault_at};
 
 use crate::builder::PageFault;
 use crate::pending::Pending;
 use crate::setting::Setting;
 use crate::settle::{Break, settle};
-use crate::token::Attribute;
 use crate::tree::Building;
 use ix_base::{Element, Rule};
+use page_constructs::Attribute;
 use page_text::TextFault;
 
 pub(crate) fn fault_of(broken: Break) -> PageFault

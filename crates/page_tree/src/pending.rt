@@ -1,11 +1,11 @@
 //! Characters of a page that aren't built in yet.
 ghost use Rattle.std.specs.Prelude.{◌≡◌, ◌≢◌, ◌++◌, ◌+◌, ◌-◌, ◌<◌, ◌≤◌, ◌^◌, ◌==◌, ◌&&◌, [], true, None, List, OnOk, length, take, drop, string_bytes};
-ghost use Rattle.page_tree.specs.Constructs.{size};
-ghost use Rattle.page_tree.specs.Placing.{offset_at};
-ghost use Rattle.page_tree.specs.Seeking.{IsSought};
+ghost use Rattle.page_constructs.specs.Constructs.{size};
+ghost use Rattle.page_tree.specs.TextPlaces.{offset_at};
+ghost use Rattle.page_constructs.specs.Searches.{IsSought};
 
-use crate::size::{Sought, unsought};
 use ix_base::NoMemory;
+use page_constructs::{Sought, unsought};
 use std::alloc::Global;
 
 /// How many bytes are taken at most before it is tried to build them in.
@@ -62,8 +62,8 @@ pub(crate) struct Pending {
 
 impl Pending {
     ghost use Rattle.std.specs.Str.{IsCharBoundary};
-    ghost use Rattle.page_tree.specs.Constructs.{Byte, counted};
-    ghost use Rattle.page_tree.specs.Waiting.{Waits, IsNext};
+    ghost use Rattle.page_constructs.specs.Constructs.{Byte, counted};
+    ghost use Rattle.page_tree.specs.PendingText.{Waits, IsNext};
 
     pub(crate) fn new(alloc: Global) -> Pending
         ensures bytes { Waits result [] }

@@ -6,17 +6,17 @@ ghost use Rattle.ix_base.specs.Spaces.{space_bound, spaces_bound};
 ghost use Rattle.ix_base.specs.Trees.{bound, bindings_in};
 ghost use Rattle.ix_base.specs.Scope.{scope_under, outermost};
 ghost use Rattle.ix_base.specs.Namespaces.{xml_namespace};
-ghost use Rattle.page_tree.specs.Views.{attribute_of};
+ghost use Rattle.page_constructs.specs.Model.{attribute_of};
 ghost use Rattle.page_tree.specs.Orders.{bound_under, entered};
 ghost use Rattle.page_tree.specs.Spaces.{AreFrom, HaveNumbers, Keeps};
 ghost use Rattle.page_tree.specs.Tags.{binding_of as binding_of_attribute};
 
 use crate::names::declaration_of;
 use crate::spaces::Spaces;
-use crate::token::Attribute;
 use bumpalo::Bump;
 use ix_base::namespaces::XML;
 use ix_base::{Binding, Declared, Level, NoMemory, Scope};
+use page_constructs::Attribute;
 use std::alloc::Global;
 use std::collections::BTreeMap;
 

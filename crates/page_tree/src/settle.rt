@@ -1,24 +1,21 @@
 //! The constructs at the front of a text, built in one after another.
 ghost use Rattle.std.specs.Prelude.{◌≡◌, ◌≢◌, ◌≤◌, ◌<◌, ◌+◌, ◌^◌, ◌==◌, ◌&&◌, List, IfOk, OnOk, Some, None, Ok, length, take, drop, false};
 ghost use Rattle.std.specs.Str.{IsCharBoundary};
-ghost use Rattle.page_tree.specs.Acting.{judged, state_behind, Leads, Breaks};
+ghost use Rattle.page_tree.specs.MachineSteps.{judged, state_behind, Leads, Breaks};
 ghost use Rattle.page_tree.specs.Break.{fault};
-ghost use Rattle.page_tree.specs.Constructs.{Byte, Construct, values, offset_of, size, whole_size as whole_size_of};
+ghost use Rattle.page_constructs.specs.Constructs.{Byte, Construct, values, offset_of, size, whole_size as whole_size_of};
 ghost use Rattle.page_tree.specs.Buildings.{state_of, IsOnPage};
-ghost use Rattle.page_tree.specs.Ends.{HasEnds};
-ghost use Rattle.page_tree.specs.Placing.{IsPlaced};
-ghost use Rattle.page_tree.specs.Seeking.{IsSought};
-ghost use Rattle.page_tree.specs.Taking.{Meets};
+ghost use Rattle.page_constructs.specs.Ends.{HasEnds};
+ghost use Rattle.page_tree.specs.TextPlaces.{IsPlaced};
+ghost use Rattle.page_constructs.specs.Searches.{IsSought};
+ghost use Rattle.page_tree.specs.Effects.{Meets};
 
-use crate::kind::{Kind, kind_of};
-use crate::meaning::meant;
 use crate::pending::Places;
 use crate::refusal::Refusal;
 use crate::setting::Setting;
-use crate::size::{End, Sought, unsought, whole_size};
-use crate::token::Attribute;
 use crate::tree::Building;
 use ix_base::{NoMemory, Rule};
+use page_constructs::{Attribute, End, Kind, Sought, kind_of, meant, unsought, whole_size};
 
 /// Where a page breaks a rule: the offset is in bytes from its front.
 #[derive(Clone, Copy, Debug)]
@@ -170,11 +167,10 @@ pub(crate) fn settle<'a>(
     requires fits { places.base + length text.now < 2 ^ 64 + places.even }
     requires unsettled { size first (take places.even text.now) ≡ None }
     requires sought { IsSought first text.now sought }
-    ensures boundary { IfOk result (λ r. IsCharBoundary text.now r.taken) }
-    ensures behind { IfOk result (λ r. r.taken ≢ 0 → places.even ≤ r.taken) }
-    ensures whole { IfOk result (λ r. r.broken ≡ None
-        → whole_size_of ended (first && (r.taken == 0)) (drop r.taken text.now) ≡ None) }
-    ensures sought { IfOk result (λ r. r.broken ≡ None → IsSought (first && (r.taken == 0)) (drop r.taken text.now) r.sought) }
+    ensures taken { IfOk result (λ r. IsCharBoundary text.now r.taken × (r.taken ≢ 0 → places.even ≤ r.taken)) }
+    ensures waits { IfOk result (λ r. r.broken ≡ None
+        → (whole_size_of ended (first && (r.taken == 0)) (drop r.taken text.now) ≡ None)
+        × IsSought (first && (r.taken == 0)) (drop r.taken text.now) r.sought) }
     ensures leads { IfOk result (λ r. r.broken ≡ None → (us : List Byte) → IsPlaced text.now places us
         → Leads ended setting.now.depth (state_of building.old) first us
         (state_of building.new) (first && (r.taken == 0)) (drop r.taken us)) }

@@ -6,7 +6,7 @@ ghost use Rattle.ix_base.specs.Trees.{none, tree_of, nodes_of, bindings_in};
 ghost use Rattle.text_map.specs.Texts.{Texts};
 ghost use Rattle.page_tree.specs.Machine.{flushed, scope_in, closed};
 ghost use Rattle.page_tree.specs.Tags.{head_of, scope_of as scope_under_tag};
-ghost use Rattle.page_tree.specs.Views.{tag_of};
+ghost use Rattle.page_constructs.specs.Model.{tag_of};
 ghost use Rattle.page_tree.specs.Expansions.{expansion, expansions};
 ghost use Rattle.page_tree.specs.Spaces.{AreFrom, HaveNumbers, spaces_expanded};
 ghost use Rattle.page_tree.specs.Stacks.{frame, frames_of, pages_open, pages_built, spaces_built, spaces_open, AreAll};
@@ -14,9 +14,9 @@ ghost use Rattle.page_tree.specs.Stacks.{frame, frames_of, pages_open, pages_bui
 use crate::names::{Expanded, attributes_of, element_name};
 use crate::opened::Open;
 use crate::scope::outermost_scope;
-use crate::token::Tag;
 use bumpalo::Bump;
 use ix_base::{Attr, Element, NoMemory, Node, Place, Scope};
+use page_constructs::Tag;
 use std::alloc::Global;
 
 /// The pending text becomes a child of the innermost open element.

@@ -5,14 +5,14 @@ ghost use Rattle.ix_base.specs.NcName.{is_white as is_white_byte};
 ghost use Rattle.page_tree.specs.Break.{is_outside as is_outside_of};
 ghost use Rattle.page_tree.specs.Machine.{outline_of};
 ghost use Rattle.page_tree.specs.Page.{is_within as is_within_profile, is_encoding as is_known_encoding};
-ghost use Rattle.page_tree.specs.Tokens.{start, empty, close, words, refer, section, declaration, doctype};
-ghost use Rattle.page_tree.specs.Views.{tag_of, token_of};
+ghost use Rattle.page_constructs.specs.Tokens.{start, empty, close, words, refer, section, declaration, doctype};
+ghost use Rattle.page_constructs.specs.Model.{tag_of, token_of};
 
 use crate::refusal::Refusal;
 use crate::setting::Setting;
-use crate::token::{Tag, Token};
 use crate::tree::Building;
 use ix_base::{Rule, is_white};
+use page_constructs::{Tag, Token};
 
 /// Version 1.0, and no encoding but UTF-8, ASCII or US-ASCII, in any ASCII case.
 fn is_within(version: &str, encoding: Option<&str>) -> bool
@@ -43,7 +43,7 @@ fn is_all_white(text: &str) -> bool
 
 impl<'a> Building<'a> {
     ghost use Rattle.page_tree.specs.Buildings.{state_of};
-    ghost use Rattle.page_tree.specs.Taking.{Takes};
+    ghost use Rattle.page_tree.specs.Effects.{Takes};
 
     /// Takes a start tag.
     #[tactic(auto, unfolding(crate::specs::Break::broken_by, crate::specs::Machine::moved))]

@@ -9,7 +9,7 @@ ghost use Rattle.page_tree.specs.Machine.{outline_of, scope_in, begin, flushed, 
 ghost use Rattle.page_tree.specs.Spaces.{AreFrom, HaveNumbers, Keeps, spaces_expanded};
 ghost use Rattle.page_tree.specs.Stacks.{frame, frames_of, pages_open, spaces_open, AreAll};
 ghost use Rattle.page_tree.specs.Tags.{head_of, scope_of as scope_under_tag};
-ghost use Rattle.page_tree.specs.Views.{tag_of};
+ghost use Rattle.page_constructs.specs.Model.{tag_of};
 
 use crate::names::{Expanded, expand, judge_names};
 use crate::opened::Open;
@@ -20,8 +20,8 @@ use crate::spaces::Spaces;
 use crate::stack::{
     close_element, empty_list, flush_innermost, innermost_scope, open_element, put,
 };
-use crate::token::Tag;
 use ix_base::{Attr, Element, NoMemory, Node, Rule, Scope};
+use page_constructs::Tag;
 use std::alloc::Global;
 
 /// What is built of the constructs so far: the open elements, the innermost last, the text since the last tag, the root
@@ -44,7 +44,7 @@ pub(crate) struct Building<'a> {
 
 impl<'a> Building<'a> {
     ghost use Rattle.page_tree.specs.Buildings.{state_of, IsOnPage};
-    ghost use Rattle.page_tree.specs.Taking.{Judges, Becomes};
+    ghost use Rattle.page_tree.specs.Effects.{Judges, Becomes};
 
     /// Nothing is built yet.
     pub(crate) fn new(alloc: Global) -> Building<'a>
@@ -166,9 +166,8 @@ impl<'a> Building<'a> {
           head = head_of (scope_in (state_of self.old).frames) (tag_of tag.now);
           done = none;
         }) }
-        ensures frames { OnOk result (frames_of self.new.elements.items
-            ≡ flushed (frames_of self.old.elements.items) (string_bytes self.old.text)) }
-        ensures text { OnOk result (string_bytes self.new.text ≡ []) }
+        ensures flushed { OnOk result ((frames_of self.new.elements.items
+            ≡ flushed (frames_of self.old.elements.items) (string_bytes self.old.text)) × (string_bytes self.new.text ≡ [])) }
         ensures rest { (self.new.root ≡ self.old.root) × (self.new.doctyped ≡ self.old.doctyped) × (self.new.spaces ≡ self.old.spaces) }
         ensures pages { IfOk result (λ o. pages_open o ≡ setting.now.page ∷ []) }
         ensures on_page { OnOk result (flat_map pages_open self.new.elements.items ≡ flat_map pages_open self.old.elements.items) }

@@ -2,13 +2,13 @@
 ghost use Rattle.std.specs.Prelude.{◌≡◌, IfOk, List, map, option_map, bytes_eq};
 ghost use Rattle.std.specs.List.{filter_map};
 ghost use Rattle.ix_base.specs.Trees.{Bound};
-ghost use Rattle.page_tree.specs.Views.{attribute_of};
+ghost use Rattle.page_constructs.specs.Model.{attribute_of};
 ghost use Rattle.page_tree.specs.Expansions.{expansion, expansion_of, known_name as known_name_of, repeats_by, named_pair};
 ghost use Rattle.page_tree.specs.Tags as spec;
 
 use crate::names::{Expanded, PrefixState};
-use crate::token::Attribute;
 use ix_base::NoMemory;
+use page_constructs::Attribute;
 use std::alloc::Global;
 use std::collections::BTreeSet;
 

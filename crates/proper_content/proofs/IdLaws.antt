@@ -6,7 +6,7 @@ use Rattle.std.proofs.lemmas.List.{map-append}
 use Rattle.std.proofs.lemmas.List.Sorted.{IsPermutation-append_right, IsPermutation-map}
 use Rattle.ix_base.specs.declared.content.Footnote.{Footnote}
 use Rattle.ix_base.specs.NcName.{is_ncname}
-use Rattle.ix_base.specs.Said.{Said}
+use Rattle.ix_base.specs.PlainContents.{Said}
 use Rattle.ix_base.proofs.ExchangeLemmas.{by_exchanges}
 use Rattle.instance_out.specs.Lists.{are_apart}
 use Rattle.instance_out.specs.Proper.{all_ids, counted_once, ids_fit}

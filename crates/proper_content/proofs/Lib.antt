@@ -1,11 +1,8 @@
-mod DecimalLaws
 mod FactLaws
-mod GainLaws
 mod IdLaws
 mod ListLaws
 mod NoteLaws
 mod OnceLaws
 mod OrderLaws
 mod SearchLaws
-mod TextLaws
 mod ToldLaws

@@ -13,11 +13,11 @@ use Rattle.ix_base.specs.ContextForm.{by_dimension, stand_once}
 use Rattle.ix_base.specs.OwnNames.{name_cmp, same_own}
 use Rattle.ix_base.specs.declared.content.Dim.{Dim}
 use Rattle.ix_base.specs.declared.content.OwnName.{OwnName}
-use Rattle.ix_base.specs.Sorted.{put, put_by, sorted, text_cmp}
+use Rattle.ix_base.specs.SortedLists.{put, put_by, sorted, text_cmp}
 use Rattle.ix_base.proofs.ExchangeLemmas.{by_exchanges}
 use Rattle.ix_base.proofs.OrderLemmas.{name_total, same_names, text_total, same_text}
 use Rattle.ix_base.proofs.SortedLemmas.{sorted-same, sorted-is}
-use Rattle.ix_base.specs.Written.{Markup}
+use Rattle.ix_base.specs.WrittenMarkup.{Markup}
 use Rattle.instance_out.specs.Canonical.{line, line_cmp}
 use Rattle.instance_out.specs.Lists.{are_apart, has, is_within, rises, strictly}
 use Rattle.instance_out.specs.Tables.{values_of}

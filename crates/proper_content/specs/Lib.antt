@@ -1,5 +1,3 @@
-pub mod Fits
-pub mod Held
+pub mod ContentTests
 pub mod InOrder
 pub mod Notes
-pub mod TextTests

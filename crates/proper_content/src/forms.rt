@@ -1,7 +1,7 @@
 //! The normal forms of contexts and units.
 ghost use Rattle.std.specs.Prelude.{◌≡◌};
 ghost use Rattle.std.specs.List.{list_all};
-ghost use Rattle.ix_base.specs.Said.{said_of};
+ghost use Rattle.ix_base.specs.PlainContents.{said_of};
 ghost use Rattle.instance_out.specs.Proper as spec;
 
 use crate::order::{dims_rise, names_never_fall};

@@ -3,17 +3,17 @@ ghost use Rattle.std.specs.Prelude.{◌≡◌, ◌++◌, map, option_map, IfOk};
 ghost use Rattle.std.specs.List.{list_all};
 ghost use Rattle.std.specs.List.Sorted.{IsPermutation};
 ghost use Rattle.ix_base.specs.NcName.{is_ncname as is_ncname_text};
-ghost use Rattle.ix_base.specs.Said.{said_of};
-ghost use Rattle.proper_content.specs.Held.{IsHeld};
+ghost use Rattle.ix_base.specs.PlainContents.{said_of};
+ghost use Rattle.proper_texts.specs.Model.{IsHeld};
 ghost use Rattle.proper_content.specs.Notes.{note_seen};
 ghost use Rattle.instance_out.specs.Proper as spec;
 ghost use Rattle.instance_out.specs.Proper.{all_ids, counted_once};
 ghost use Rattle.instance_out.specs.Tables.{values_of};
 
 use crate::gathered::names_of;
-use crate::held::Held;
 use crate::order::are_apart;
 use ix_base::{Content, Footnote, NoMemory, Text, shown};
+use proper_texts::Held;
 use scopes::is_ncname;
 use std::alloc::Global;
 

@@ -6,41 +6,35 @@
 #![tactic(auto)]
 
 ghost use Rattle.std.specs.Prelude.{◌≡◌, IfOk};
-ghost use Rattle.ix_base.specs.Said.{said_of};
-ghost use Rattle.proper_content.specs.Fits.{first_fit, last_fit, second_fit, third_fit};
-ghost use Rattle.proper_content.specs.Held.{IsHeld};
+ghost use Rattle.ix_base.specs.PlainContents.{said_of};
+ghost use Rattle.proper_content.specs.ContentTests.{first_fit, last_fit, second_fit, third_fit};
+ghost use Rattle.proper_texts.specs.Model.{IsHeld};
 ghost use Rattle.instance_out.specs.Proper as spec;
 
 mod among;
-mod decimals;
 mod forms;
 mod gathered;
-mod held;
 mod ids;
 mod lines;
 mod links;
 mod names;
-mod numbers;
 mod order;
 mod parts;
 mod roles;
-mod texts;
-mod tokens;
 mod tuples;
 
 use crate::forms::forms_fit;
-use crate::held::{Held, held_in};
 use crate::ids::ids_fit;
 use crate::lines::lists_fit;
 use crate::links::{links_fit, orders_fit};
 use crate::names::names_fit;
-use crate::numbers::{fractions_fit, numbers_fit, unitless_fit};
 use crate::parts::parts_fit;
 use crate::roles::roles_fit;
-use crate::texts::texts_fit;
-use crate::tokens::tokens_fit;
 use crate::tuples::tuples_fit;
 use ix_base::{Content, NoMemory};
+use proper_texts::{
+    Held, fractions_fit, held_in, numbers_fit, texts_fit, tokens_fit, unitless_fit,
+};
 use std::alloc::Global;
 
 /// Whether ids, names and characters are those of a proper content.

@@ -3,11 +3,11 @@ ghost use Rattle.std.specs.Prelude.{◌≡◌, map, IfOk};
 ghost use Rattle.std.specs.List.{list_all};
 ghost use Rattle.std.specs.Ordering.{on};
 ghost use Rattle.ix_base.specs.Facts.{facts_of};
-ghost use Rattle.ix_base.specs.Said.{said_of};
-ghost use Rattle.ix_base.specs.Sorted.{text_cmp};
+ghost use Rattle.ix_base.specs.PlainContents.{said_of};
+ghost use Rattle.ix_base.specs.SortedLists.{text_cmp};
 ghost use Rattle.proper_content.specs.InOrder.{notes_in_order, parts_in_order, references_in_order};
 ghost use Rattle.instance_out.specs.Canonical.{arc_line_cmp, arcrole_markup, fact_markups, line_cmp, linkbase_markup, role_markup, schema_markup};
-ghost use Rattle.instance_out.specs.Holds.{said_spaces};
+ghost use Rattle.instance_out.specs.Holdings.{said_spaces};
 ghost use Rattle.instance_out.specs.Lists.{rises, strictly};
 ghost use Rattle.instance_out.specs.Proper as spec;
 

@@ -2,17 +2,16 @@
 ghost use Rattle.std.specs.Prelude.{◌≡◌, ◌++◌, ◌∷◌, ◌&&◌, [], flat_map, map, IfOk};
 ghost use Rattle.std.specs.List.{list_all};
 ghost use Rattle.ix_base.specs.Forms.{is_canonical_decimal as is_canonical};
-ghost use Rattle.ix_base.specs.Said.{said_of};
-ghost use Rattle.proper_content.specs.Held.{IsHeld};
+ghost use Rattle.ix_base.specs.PlainContents.{said_of};
+ghost use Rattle.proper_texts.specs.Model.{IsHeld};
 ghost use Rattle.instance_out.specs.Lists.{is_within};
 ghost use Rattle.instance_out.specs.Proper as spec;
 ghost use Rattle.instance_out.specs.Tables.{values_of};
 
 use crate::among::{Among, have_same};
-use crate::decimals::is_canonical_decimal;
 use crate::gathered::names_of;
-use crate::held::Held;
 use ix_base::{Arc, Content, NoMemory, NoteLink};
+use proper_texts::{Held, is_canonical_decimal};
 use std::alloc::Global;
 
 /// From where and to where arcs go.

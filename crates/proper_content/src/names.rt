@@ -1,14 +1,14 @@
 //! Names.
 ghost use Rattle.std.specs.Prelude.{◌≡◌};
 ghost use Rattle.std.specs.List.{list_all};
-ghost use Rattle.ix_base.specs.Said.{said_of};
-ghost use Rattle.proper_content.specs.Held.{IsHeld};
+ghost use Rattle.ix_base.specs.PlainContents.{said_of};
+ghost use Rattle.proper_texts.specs.Model.{IsHeld};
 ghost use Rattle.instance_out.specs.Proper as spec;
 ghost use Rattle.instance_out.specs.Tables.{values_of};
 
-use crate::held::Held;
 use ix_base::namespaces::{LINK, XBRLI, XMLNS};
 use ix_base::{Content, OwnName};
+use proper_texts::Held;
 use scopes::is_ncname;
 
 /// Whether a name is an NCName in no namespace of declarations.

@@ -2,7 +2,7 @@
 ghost use Rattle.std.specs.Prelude.{◌≡◌, map};
 ghost use Rattle.ix_base.specs.ContextForm.{by_dimension};
 ghost use Rattle.ix_base.specs.OwnNames.{name_cmp};
-ghost use Rattle.ix_base.specs.Sorted.{text_cmp};
+ghost use Rattle.ix_base.specs.SortedLists.{text_cmp};
 ghost use Rattle.instance_out.specs.Lists.{are_apart as stand_apart, rises, strictly};
 ghost use Rattle.instance_out.specs.Tables.{values_of};
 

@@ -1,15 +1,15 @@
 //! Contexts and units, and the items that name them.
 ghost use Rattle.std.specs.Prelude.{◌≡◌, ◌&&◌, flat_map, map, IfOk};
-ghost use Rattle.ix_base.specs.Said.{said_of};
-ghost use Rattle.proper_content.specs.Held.{IsHeld};
+ghost use Rattle.ix_base.specs.PlainContents.{said_of};
+ghost use Rattle.proper_texts.specs.Model.{IsHeld};
 ghost use Rattle.instance_out.specs.Lists.{of_option};
 ghost use Rattle.instance_out.specs.Proper as spec;
 ghost use Rattle.instance_out.specs.Tables.{values_of};
 
 use crate::among::have_same;
 use crate::gathered::names_of;
-use crate::held::Held;
 use ix_base::{Content, Item, NoMemory};
+use proper_texts::Held;
 use std::alloc::Global;
 
 /// The contexts that items name.

@@ -1,17 +1,17 @@
 //! References to roles and arcroles.
 ghost use Rattle.std.specs.Prelude.{◌≡◌, ◌++◌, map, IfOk};
-ghost use Rattle.ix_base.specs.Said.{said_of};
-ghost use Rattle.proper_content.specs.Held.{IsHeld};
-ghost use Rattle.instance_out.specs.Holds.{all_arcs, all_notes};
+ghost use Rattle.ix_base.specs.PlainContents.{said_of};
+ghost use Rattle.proper_texts.specs.Model.{IsHeld};
+ghost use Rattle.instance_out.specs.Holdings.{all_arcs, all_notes};
 ghost use Rattle.instance_out.specs.Lists.{are_apart as are_apart_texts, is_within};
 ghost use Rattle.instance_out.specs.Proper as spec;
 ghost use Rattle.instance_out.specs.Tables.{values_of};
 
 use crate::among::are_within;
 use crate::gathered::names_of;
-use crate::held::Held;
 use crate::order::are_apart;
 use ix_base::{Arc, Content, Footnote, NoMemory, NoteLink, RoleRef};
+use proper_texts::Held;
 use std::alloc::Global;
 
 /// The roles of footnote links and of footnotes.

@@ -1,7 +1,7 @@
 //! Tuples.
 ghost use Rattle.std.specs.Prelude.{◌≡◌, nat_le};
 ghost use Rattle.ix_base.specs.Facts.{before, facts_of, none};
-ghost use Rattle.ix_base.specs.Said.{said_of};
+ghost use Rattle.ix_base.specs.PlainContents.{said_of};
 ghost use Rattle.instance_out.specs.Proper as spec;
 ghost use Rattle.instance_out.specs.Writable.{depth};
 

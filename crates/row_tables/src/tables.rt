@@ -4,7 +4,7 @@ ghost use Rattle.std.specs.Process.{exit_status};
 
 use crate::cells::{Cell, cells_of};
 use anyhow::{Context, Result};
-use compare_rows::other_bytes;
+use compare_rows::differing_line;
 use std::alloc::Global;
 use std::process::ExitCode;
 use std::rt::{Env, Files};
@@ -23,7 +23,7 @@ fn call_difference<F: Fn(Global, &str, &[Cell]) -> Result<String>>(
         → ((text : _) × F.post seen.now alloc table.entry given.entry (Ok text) × (string_bytes text ≡ due.now.bytes.items))) }
 {
     let text = seen(alloc, table, given)?;
-    other_bytes(alloc, "what is seen", due.bytes(), text.as_str().as_bytes())
+    differing_line(alloc, "what is seen", due.bytes(), text.as_str().as_bytes())
 }
 
 /// What is told of a row of a table, where it isn't as due.

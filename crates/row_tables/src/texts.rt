@@ -1,7 +1,7 @@
 //! Texts of cells, and how what is seen of a call is written.
 ghost use Rattle.std.specs.Prelude.{◌≡◌, ◌++◌, ◌==◌, if◌then◌else◌, IfOk, OnOk, codes, map, option_map, string_bytes};
 ghost use Rattle.std.specs.List.{slice_split};
-ghost use Rattle.row_tables.specs.Seen.{quoted, written_name};
+ghost use Rattle.row_tables.specs.SeenTexts.{quoted, written_name};
 
 use anyhow::Result;
 use std::alloc::Global;

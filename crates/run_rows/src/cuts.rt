@@ -1,7 +1,7 @@
 //! Runs over a page that is cut behind each of its bytes.
 use crate::row::{Page, Row};
 use anyhow::{Context, Result};
-use compare_rows::other_bytes;
+use compare_rows::differing_line;
 use ix_base::{List, MemPage, MemPages, MemTargets, MemText, Text};
 use ixds_run::{Status, run};
 use std::alloc::Global;
@@ -47,7 +47,7 @@ fn front_difference(
     if status != Status::Broken {
         return Ok(Some(format!(in alloc; "status {}", status.code())?));
     }
-    other_bytes(alloc, "the text", due.as_bytes(), out.taken())
+    differing_line(alloc, "the text", due.as_bytes(), out.taken())
 }
 
 /// How the first front of a row's page that isn't as it is due differs from that.

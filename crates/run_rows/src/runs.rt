@@ -7,7 +7,7 @@ use crate::cuts;
 use crate::due::{Calls, Due, End, Target};
 use crate::row::{Fails, Page, Row};
 use anyhow::{Result, ensure};
-use compare_rows::other_bytes;
+use compare_rows::differing_line;
 use ix_base::{List, MemPage, MemPages, MemTargets, MemText, Text};
 use ixds_run::{Status, run};
 use std::alloc::Global;
@@ -30,7 +30,7 @@ struct Ended {
 /// How a command differs from the one that is due, where it does.
 fn command_difference(alloc: Global, words: &[Text], due: &str) -> Result<Option<String>> {
     let text = command_text(alloc, words)?;
-    other_bytes(alloc, "the command", due.as_bytes(), text.as_bytes())
+    differing_line(alloc, "the command", due.as_bytes(), text.as_bytes())
 }
 
 /// The first page of these that doesn't end as it is due.
@@ -89,8 +89,8 @@ fn target_difference(alloc: Global, due: &Target, sink: &MemTargets) -> Result<O
         (_, Some(bytes)) => bytes,
     };
     match due {
-        Target::Open(due) if !finished => other_bytes(alloc, "the target", due, bytes),
-        Target::Finished(due) if finished => other_bytes(alloc, "the target", due, bytes),
+        Target::Open(due) if !finished => differing_line(alloc, "the target", due, bytes),
+        Target::Finished(due) if finished => differing_line(alloc, "the target", due, bytes),
         Target::Length(due) if finished && bytes.len() as u64 == *due => Ok(None),
         _ => {
             let length = bytes.len();
@@ -103,7 +103,7 @@ fn target_difference(alloc: Global, due: &Target, sink: &MemTargets) -> Result<O
 fn run_difference(alloc: Global, due: &Due, ended: &Ended) -> Result<Option<String>> {
     let status = u64::from(ended.status.code());
     if let Some(text) = &due.text
-        && let Some(told) = other_bytes(alloc, "the text", text, ended.out.taken())?
+        && let Some(told) = differing_line(alloc, "the text", text, ended.out.taken())?
     {
         return Ok(Some(format!(in alloc; "status {status}: {told}")?));
     }

@@ -6,7 +6,7 @@ use Rattle.std.proofs.lemmas.Bool.{and_from, and_parts, cases_eq, eq-eqb, le-leb
 use Rattle.std.specs.List.{list_all}
 use Rattle.ix_base.specs.Decimals.{AreDigits, number_in, IsWholePart, IsFraction, front_of, back_of, pointed}
 use Rattle.ix_base.specs.Forms.{is_digit}
-use Rattle.scale_sign.specs.Written.{strip, cut, kept, or_zero}
+use Rattle.scale_sign.specs.WrittenDigits.{strip, cut, kept, or_zero}
 use Rattle.scale_sign.proofs.Values.{number_in-below, number_in-lead, number_in-pad, cut-append, cut-zeros_alone, cut_zero}
 
 -- The test of digits, and what they are.

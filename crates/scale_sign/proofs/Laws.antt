@@ -6,7 +6,7 @@ use Rattle.std.proofs.lemmas.Nat.{same_from_place, pow-add}
 use Rattle.std.proofs.lemmas.Bool.{cases_lt, cases_eq, eq-eqb, ne_eqb}
 use Rattle.ix_base.specs.Decimals.{AreDigits, number_in, whole, behind, IsWholePart, IsFraction, front_of, back_of, pointed, IsUnsigned, IsCanonical}
 use Rattle.scale_sign.specs.Scaled.{signed, IsMoved, IsNumber}
-use Rattle.scale_sign.specs.Written.{strip, cut, or_zero, written, front_by, back_by, moved_decimal}
+use Rattle.scale_sign.specs.WrittenDigits.{strip, cut, or_zero, written, front_by, back_by, moved_decimal}
 use Rattle.scale_sign.proofs.Values.{number_in-append, number_in-below, number_in-lead, number_in-pad, number_in-strip, number_in-or_zero, cut-zeros, pow_pos-ten}
 use Rattle.scale_sign.proofs.Digits.{AreDigits-append, AreDigits-left, AreDigits-right, AreDigits-zeros, AreDigits-take, AreDigits-drop, IsWholePart-strip, IsFraction-cut, same_whole, same_fraction, front-digits, back-digits, front-alone, back-alone, front-pointed, back-pointed}
 

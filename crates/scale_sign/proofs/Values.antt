@@ -4,7 +4,7 @@ use Rattle.std.proofs.lemmas.List.{length-replicate, nil_from_length}
 use Rattle.std.proofs.lemmas.Nat.{pow-add, mul-le}
 use Rattle.std.proofs.lemmas.Bool.{cases_eq, eq-eqb, ne_eqb}
 use Rattle.ix_base.specs.Decimals.{AreDigits, number_in}
-use Rattle.scale_sign.specs.Written.{strip, cut, kept, or_zero, stripped_rest, cut_rest, zeros_by}
+use Rattle.scale_sign.specs.WrittenDigits.{strip, cut, kept, or_zero, stripped_rest, cut_rest, zeros_by}
 use Rattle.ix_base.specs.Decimals.{pointed}
 
 pub pow_pos-ten : (k : ℕ) → 0 < 10 ^ k

@@ -8,9 +8,11 @@ ghost use Rattle.ix_base.specs.Decimals.{IsUnsigned};
 ghost use Rattle.ix_base.specs.declared.limits.TheConstants.{LARGEST_SCALE};
 ghost use Rattle.scale_sign.specs.Scaled.{IsNumber};
 
+mod lexical;
 mod parts;
 mod writer;
 
+pub use lexical::{all_digits, has_minus, is_digit, unsigned_of};
 use parts::{are_both_digits, are_empty};
 pub use parts::{is_negative, parts_of};
 use writer::{put_sign, write_moved};

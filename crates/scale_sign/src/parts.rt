@@ -3,7 +3,7 @@
 ghost use Rattle.std.specs.Prelude.{◌≡◌, ◌+◌, ◌<◌, ◌≤◌, ◌++◌, ◌==◌, ◌↔◌, ◌&&◌, not, IsTrue, length, take, drop};
 ghost use Rattle.ix_base.specs.Decimals.{front_of, back_of, AreDigits, number_in};
 
-use ix_base::all_digits;
+use crate::lexical::all_digits;
 
 // Where the first point stands, or the length.
 fn point_of(text: &[u8]) -> usize

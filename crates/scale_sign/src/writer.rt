@@ -3,7 +3,7 @@
 ghost use Rattle.std.specs.Prelude.{◌≡◌, ◌+◌, ◌<◌, ◌≤◌, ◌++◌, ◌==◌, pos, negsuc, ℕ, [], ◌∷◌, length, take, replicate, unsigned_abs};
 ghost use Rattle.ix_base.specs.Decimals.{pointed};
 ghost use Rattle.scale_sign.specs.Scaled.{signed};
-ghost use Rattle.scale_sign.specs.Written.{strip, or_zero, cut, stripped_rest, cut_rest, zeros_by, moved_decimal};
+ghost use Rattle.scale_sign.specs.WrittenDigits.{strip, or_zero, cut, stripped_rest, cut_rest, zeros_by, moved_decimal};
 
 use crate::parts::are_empty;
 

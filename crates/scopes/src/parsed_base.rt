@@ -27,7 +27,7 @@ impl Model for ParsedBase {
 
     ghost Value = { List ℕ };
 
-    ghost use Rattle.scopes.specs.Parsed.{IsParsed, text_of};
+    ghost use Rattle.scopes.specs.ParsedBases.{IsParsed, text_of};
 
     ghost view = { λ b. text_of b.origin };
 

@@ -15,7 +15,6 @@
 //! number behind the colon decides which one of the run that is. Where all rows are as due the program ends with status 0, else with 1.
 #![tactic(auto)]
 
-mod compare;
 mod due;
 mod faults;
 mod files;

@@ -2,10 +2,10 @@
 ghost use Rattle.std.specs.Prelude.{◌≡◌, ◌<◌, None, IfOk, All};
 ghost use Rattle.set_rows.specs.AsDue.{IsAsDue, IsWritten};
 
-use crate::compare::differing_line;
 use crate::due::{Due, Target};
 use crate::row::{Page, Row};
 use anyhow::Result;
+use compare_rows::differing_line;
 use ix_base::{List, MemPage, MemPages, MemTargets, MemText, Text};
 use ixds_run::{Status, run};
 use std::alloc::Global;

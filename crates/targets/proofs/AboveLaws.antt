@@ -12,7 +12,7 @@ use Rattle.ix_base.specs.Asks.{asks, only}
 use Rattle.ix_base.specs.Elements.{Placed, below, elements_of, placed_at, tree_at}
 use Rattle.ix_base.specs.Ids.{holds_tuple_id}
 use Rattle.ix_base.specs.Kinds.{kind_of, same_kind}
-use Rattle.ix_base.specs.Located.{Located, Paged, is_marked, is_tuple, marked, marked_from, on_page, page_marked}
+use Rattle.ix_base.specs.LocatedElements.{Located, Paged, is_marked, is_tuple, marked, marked_from, on_page, page_marked}
 use Rattle.ix_base.specs.Membership.{nearest_tuple, owner, owner_by, tuple_ref_of}
 use Rattle.ix_base.specs.Trees.{Nodes, Tree, none, chars, elem}
 use Rattle.ix_base.proofs.OnceLemmas.{Contains-cases, Contains-filter, Contains-first, Contains-from_filter, Contains-later, Contains-nil, Contains-same}

@@ -8,7 +8,7 @@ use Rattle.ix_base.specs.declared.kind.Kind.TheVariants as kind
 use Rattle.ix_base.specs.Alike.{alike, alike_as, same_context, same_unit}
 use Rattle.ix_base.specs.ContextForm.{context}
 use Rattle.ix_base.specs.Kinds.{kind_of}
-use Rattle.ix_base.specs.Located.{Located}
+use Rattle.ix_base.specs.LocatedElements.{Located}
 use Rattle.ix_base.specs.Trees.{Tree}
 use Rattle.ix_base.specs.UnitForm.{unit}
 use Rattle.xbrl_parts.proofs.AlikeLaws.{context-Decides, forms-Decides, unit-Decides}

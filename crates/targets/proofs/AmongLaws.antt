@@ -13,13 +13,13 @@ use Rattle.std.specs.declared.cmp.Ordering.{Ordering}
 use Rattle.std.specs.declared.cmp.Ordering.TheVariants.{Less, Equal, Greater}
 use Rattle.ix_base.specs.declared.tree.Spot.{Spot}
 use Rattle.ix_base.specs.Asks.{asks}
-use Rattle.ix_base.specs.Located.{Located, is_fact, located, same_place}
+use Rattle.ix_base.specs.LocatedElements.{Located, is_fact, located, same_place}
 use Rattle.ix_base.specs.Membership.{is_owned_by, members, order_of, owner}
 use Rattle.ix_base.specs.Orders.{order_cmp}
-use Rattle.ix_base.specs.Sorted.{put, put_by, sorted}
+use Rattle.ix_base.specs.SortedLists.{put, put_by, sorted}
 use Rattle.ix_base.proofs.OnceLemmas.{Contains-from_filter}
 use Rattle.id_table.specs.Tables.{all_located}
-use Rattle.targets.specs.Seen.{AreAmong}
+use Rattle.targets.specs.Visits.{AreAmong}
 
 pub &&-left : (a b : Bool) → (a && b) ≡ true → a ≡ true
 &&-left true b h = refl

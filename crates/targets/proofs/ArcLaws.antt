@@ -15,19 +15,19 @@ use Rattle.ix_base.specs.declared.content.NoteLink.{NoteLink}
 use Rattle.ix_base.specs.Asks.{asks}
 use Rattle.ix_base.specs.Ids.{one_such}
 use Rattle.ix_base.specs.LinkRules.{from_ids, is_end, is_footnote, is_relationship, named_by, target_of, to_ids}
-use Rattle.ix_base.specs.Located.{Located, is_fact}
+use Rattle.ix_base.specs.LocatedElements.{Located, is_fact}
 use Rattle.ix_base.specs.Once.{in_order}
-use Rattle.ix_base.specs.Sorted.{sorted, text_cmp}
+use Rattle.ix_base.specs.SortedLists.{sorted, text_cmp}
 use Rattle.ix_base.proofs.OnceLemmas.{Contains-filter, Contains-from_filter, Contains-nil, in_order-members, in_order-sorted}
 use Rattle.ix_base.proofs.OnceOrdered.{same_text}
 use Rattle.footnotes.specs.FootnoteLinks.{arc_texts_cmp as by_parts}
 use Rattle.footnotes.specs.FootnoteLinks.{Between, arcs_by, arcs_in, between, ends, footnote_of, label, link_of, notes, sources}
-use Rattle.instance_out.specs.Arranged.{arranged, arranged_link, firsts}
+use Rattle.instance_out.specs.Arrangement.{arranged, arranged_link, firsts}
 use Rattle.instance_out.specs.Canonical.{arc_line_cmp}
 use Rattle.footnotes.proofs.OnceLaws.{same_arc}
 use Rattle.instance_out.specs.Elements.{arc_text, footnote_text}
-use Rattle.instance_out.specs.Holds.{all_arcs, all_notes}
-use Rattle.ix_base.specs.Said.{said_of}
+use Rattle.instance_out.specs.Holdings.{all_arcs, all_notes}
+use Rattle.ix_base.specs.PlainContents.{said_of}
 use Rattle.instance_out.proofs.ArrangedLaws.{sorted-risen}
 use Rattle.targets.specs.Contents.{IsGathered}
 use Rattle.targets.proofs.HasLaws.{from-order, from-sorted, in-order, strict-rises}

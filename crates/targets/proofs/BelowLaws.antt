@@ -13,7 +13,7 @@ use Rattle.ix_base.specs.ElementRules.{breaks, element_rules, found, found_on}
 use Rattle.ix_base.specs.Elements.{Placed, elements_of}
 use Rattle.ix_base.specs.LinkRules as rules
 use Rattle.ix_base.specs.LinkRules.{broken, found_at, link_rules}
-use Rattle.ix_base.specs.Located.{Located, Paged}
+use Rattle.ix_base.specs.LocatedElements.{Located, Paged}
 use Rattle.ix_base.specs.Once.{SameMembers}
 use Rattle.ix_base.specs.Rows.{row}
 use Rattle.ix_base.specs.Trees.{Tree}

@@ -5,14 +5,14 @@ use Rattle.ix_base.specs.declared.content.Content.{Content}
 use Rattle.ix_base.specs.declared.content.Footnote.{Footnote}
 use Rattle.ix_base.specs.Asks.{asks}
 use Rattle.ix_base.specs.Chain.{chain}
-use Rattle.ix_base.specs.Located.{Located, is_continuation}
+use Rattle.ix_base.specs.LocatedElements.{Located, is_continuation}
 use Rattle.ix_base.proofs.OnceLemmas.{Contains-first, Contains-later}
 use Rattle.footnotes.specs.FootnoteLinks.{footnote_of}
-use Rattle.instance_out.specs.Arranged.{arranged}
-use Rattle.instance_out.specs.Holds.{all_notes}
+use Rattle.instance_out.specs.Arrangement.{arranged}
+use Rattle.instance_out.specs.Holdings.{all_notes}
 use Rattle.instance_out.specs.Proper.{AreBodies, IsBody}
-use Rattle.ix_base.specs.Said.{said_of}
-use Rattle.targets.specs.Clean.{IsClean}
+use Rattle.ix_base.specs.PlainContents.{said_of}
+use Rattle.targets.specs.ValidSets.{IsClean}
 use Rattle.targets.specs.Contents.{IsContent}
 use Rattle.targets.specs.PageSet.{PageSet, base_at, elements}
 use Rattle.targets.proofs.ArcLaws.{note-from}

@@ -8,14 +8,14 @@ use Rattle.std.proofs.lemmas.List.Elements.{All-cons, All-filter, All-head, All-
 use Rattle.url.specs.Parts.{Parts, serialize}
 use Rattle.ix_base.specs.Address.{is_link, joined_url, link_or, longest_link, resolved, url_of}
 use Rattle.ix_base.specs.Elements.{Placed, below, elements_of, placed_at, tree_at}
-use Rattle.ix_base.specs.Located.{Located, Paged, marked_from, page_marked}
+use Rattle.ix_base.specs.LocatedElements.{Located, Paged, marked_from, page_marked}
 use Rattle.ix_base.specs.Markup.{Kept, LeftOut, Manner, Opened, attribute_cmp, attribute_of, base_below, body, body_along, declaration, element_by, ends_short, is_link_of, is_silent, is_written, manner, markup_along, own_attributes, put_words, silent_by, value_by}
 use Rattle.ix_base.specs.NcName.{are_allowed}
-use Rattle.ix_base.specs.Sorted.{sorted}
+use Rattle.ix_base.specs.SortedLists.{sorted}
 use Rattle.ix_base.specs.Sound.{AreDistinct, AreSound, IsSoundAttribute, IsSoundHead, IsSoundTree}
 use Rattle.ix_base.specs.Token.{is_token}
 use Rattle.ix_base.specs.Trees.{Head, Named, Nodes, Tree, Valued, none, chars, elem}
-use Rattle.ix_base.specs.Written.{Markup, nothing, words, node, leaf, verbatim, written}
+use Rattle.ix_base.specs.WrittenMarkup.{Markup, nothing, words, node, leaf, verbatim, written}
 use Rattle.ix_base.proofs.OnceLemmas.{Contains-cases, Contains-first, Contains-later, Contains-nil}
 use Rattle.instance_out.specs.Proper.{IsBody}
 use Rattle.targets.proofs.AllowedLaws.{allowed-append}

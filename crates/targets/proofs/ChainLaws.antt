@@ -7,9 +7,9 @@ use Rattle.std.proofs.lemmas.List.Elements.{All-nil, All-cons, All-filter, All-h
 use Rattle.ix_base.specs.Asks.{asks, if_such, only}
 use Rattle.ix_base.specs.Chain.{chain, chain_of, continuation, continued_at, next}
 use Rattle.ix_base.specs.Ids.{holds_id}
-use Rattle.ix_base.specs.Located.{Located, is_continuation}
-use Rattle.continuations.specs.Kept.{StartsAlone}
-use Rattle.targets.specs.Linked.{AreApart}
+use Rattle.ix_base.specs.LocatedElements.{Located, is_continuation}
+use Rattle.continuations.specs.Model.{StartsAlone}
+use Rattle.targets.specs.LinkedSets.{AreApart}
 use Rattle.targets.proofs.AmongLaws.{&&-right}
 
 module _ (P : Located → Type 0) where

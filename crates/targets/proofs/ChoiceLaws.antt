@@ -8,10 +8,10 @@ use Rattle.ix_base.specs.Alike.{alike, alike_as}
 use Rattle.ix_base.specs.Asks.{asks, are_many, if_such, only}
 use Rattle.ix_base.specs.Ids.{agree, foremost, foremost_of, holders, holds_id, is_part, one, one_such, sole, stands_for}
 use Rattle.ix_base.specs.Kinds.{kind_of, same_kind}
-use Rattle.ix_base.specs.Located.{Located, is_kind}
+use Rattle.ix_base.specs.LocatedElements.{Located, is_kind}
 use Rattle.ix_base.specs.Trees.{Tree}
 use Rattle.ix_base.proofs.OnceLemmas.{Contains-from_filter}
-use Rattle.id_table.specs.Held.{AreChosen, Held, IsHolder, IsOfOthers, one_held}
+use Rattle.id_table.specs.Model.{AreChosen, Held, IsHolder, IsOfOthers, one_held}
 use Rattle.id_table.proofs.AgreeLaws.{agree-alike, many-two, stands-by}
 use Rattle.id_table.proofs.HeldLaws.{others-same}
 use Rattle.targets.specs.Choices.{HasChoices, choice}

@@ -10,9 +10,9 @@ use Rattle.std.proofs.lemmas.Option.{slice_get-get_or, slice_get-map}
 use Rattle.ix_base.specs.declared.tree.Spot.{Spot}
 use Rattle.ix_base.specs.Alike.{alike}
 use Rattle.ix_base.specs.Ids.{holders, holds_id}
-use Rattle.ix_base.specs.Located.{Located, located}
+use Rattle.ix_base.specs.LocatedElements.{Located, located}
 use Rattle.id_table.specs.declared.entries.Entry.{Entry}
-use Rattle.id_table.specs.Held.{Held, IsHolder, chosen}
+use Rattle.id_table.specs.Model.{Held, IsHolder, chosen}
 use Rattle.id_table.proofs.AgreeLaws.{many-two}
 use Rattle.targets.specs.Choices.{HasChoices, choice}
 use Rattle.targets.specs.LinkTables.{none, first_kept, kept_from}

@@ -10,10 +10,10 @@ use Rattle.ix_base.specs.Asks.{asks}
 use Rattle.ix_base.specs.ElementRules as elements
 use Rattle.ix_base.specs.ElementRules.{element_rules}
 use Rattle.ix_base.specs.LinkRules.{breaks, found_at, is_too_deep, link_rules, same_target, target_of}
-use Rattle.ix_base.specs.Located.{Located, is_fact}
+use Rattle.ix_base.specs.LocatedElements.{Located, is_fact}
 use Rattle.ix_base.specs.Membership.{deepest, owner}
 use Rattle.ix_base.specs.Rows.{row}
-use Rattle.targets.specs.Clean.{IsClean}
+use Rattle.targets.specs.ValidSets.{IsClean}
 use Rattle.targets.specs.Contents.{is_outer}
 use Rattle.targets.specs.PageSet.{PageSet, base_at, elements as elements_of}
 use Rattle.targets.proofs.AboveLaws.{owner_marked}

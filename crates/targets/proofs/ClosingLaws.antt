@@ -13,15 +13,15 @@ use Rattle.ix_base.specs.ElementRules.{found_on}
 use Rattle.ix_base.specs.Elements.{pages_in, pages_of}
 use Rattle.ix_base.specs.Address.{page_base}
 use Rattle.ix_base.specs.declared.tree.Spot.{Spot}
-use Rattle.ix_base.specs.Located.{Located, Paged, located, marked, marked_from, page_marked}
+use Rattle.ix_base.specs.LocatedElements.{Located, Paged, located, marked, marked_from, page_marked}
 use Rattle.ix_base.specs.Sound.{IsSoundRoot, IsSoundTree}
 use Rattle.ix_base.specs.Trees.{tree_of}
-use Rattle.id_table.specs.Held.{AreChosen, Held}
+use Rattle.id_table.specs.Model.{AreChosen, Held}
 use Rattle.id_table.specs.Tables.{all_located}
-use Rattle.scopes.specs.Kept.{Kept}
+use Rattle.scopes.specs.Model.{Kept}
 use Rattle.targets.specs.declared.closing.Page.{Page}
 use Rattle.targets.specs.Faults.{faults_from}
-use Rattle.targets.specs.Holding.{AreSoundFrom, Keeps, as_paged}
+use Rattle.targets.specs.Model.{AreSoundFrom, Keeps, as_paged}
 
 pub sound-trees : (n : ℕ) (pages : List Page) → AreSoundFrom n pages → All (λ p. IsSoundTree p.tree 256) (map as_paged pages)
 sound-trees n [] h = All-nil (λ (p : Paged). IsSoundTree p.tree 256)

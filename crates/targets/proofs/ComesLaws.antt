@@ -13,23 +13,23 @@ use Rattle.ix_base.specs.declared.rule.Rule.TheVariants as rule
 use Rattle.ix_base.specs.Asks.{asks}
 use Rattle.ix_base.specs.Breaches.{named}
 use Rattle.ix_base.specs.LinkRules.{breaking, breaks, broken, found_at, link_rules}
-use Rattle.ix_base.specs.Located.{Located, base_in, is_item, marked}
+use Rattle.ix_base.specs.LocatedElements.{Located, base_in, is_item, marked}
 use Rattle.ix_base.specs.Once.{SameMembers}
 use Rattle.ix_base.specs.Rows.{row}
-use Rattle.continuations.specs.Kept.{AreChainsOf}
+use Rattle.continuations.specs.Model.{AreChainsOf}
 use Rattle.facts.proofs.OneItem.{one_item}
 use Rattle.facts.specs.ItemValue.{IsItem, item_text}
-use Rattle.footnotes.specs.Kept.{AreRelationsOf}
-use Rattle.id_table.specs.Held.{AreChosen, Held}
-use Rattle.scopes.specs.Kept.{Kept}
-use Rattle.tuples.specs.Kept.{AreMembersOf}
+use Rattle.footnotes.specs.Model.{AreRelationsOf}
+use Rattle.id_table.specs.Model.{AreChosen, Held}
+use Rattle.scopes.specs.Model.{Kept}
+use Rattle.tuples.specs.Model.{AreMembersOf}
 use Rattle.targets.specs.declared.closing.Page.{Page}
 use Rattle.targets.specs.declared.links.Linked.{Linked}
 use Rattle.targets.specs.declared.outcome.Outcome.{Outcome}
 use Rattle.targets.specs.declared.outcome.Outcome.TheVariants.{Broken, Whole}
 use Rattle.targets.specs.Faults.{AreOfItems, link_faults}
-use Rattle.targets.specs.Holding.{Keeps, as_paged}
-use Rattle.targets.specs.Linked.{AreApart, AreOwned, IsLinked, bases_of}
+use Rattle.targets.specs.Model.{Keeps, as_paged}
+use Rattle.targets.specs.LinkedSets.{AreApart, AreOwned, IsLinked, bases_of}
 use Rattle.targets.specs.SetOutcomes.{IsReport}
 use Rattle.targets.specs.PageSet.{PageSet, names, page_bases}
 use Rattle.targets.specs.RoleAddresses.{SeesAll}

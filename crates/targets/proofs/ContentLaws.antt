@@ -1,25 +1,28 @@
 -- What stands of the contents of targets.
 use Rattle.std.proofs.Common.{◌≡◌, ◌∙◌, ap, refl, Bool, true, false, cond, not, List, [], ◌∷◌, Option, Some, None}
 use Rattle.std.specs.List.{All, Contains, cons_option, filter, filter_map}
-use Rattle.std.specs.Prelude.{ℕ, ◌&&◌, ◌||◌, bytes_eq, is_some, option_and_then}
+use Rattle.std.specs.Prelude.{ℕ, ◌≤◌, ◌&&◌, ◌||◌, bytes_eq, is_some, option_and_then}
 use Rattle.std.proofs.lemmas.List.Elements.{All-cons, All-contains_itself, All-filter, All-nil, All-same, filter_agree}
 use Rattle.ix_base.specs.declared.content.Content.{Content}
 use Rattle.ix_base.specs.declared.content.Context.{Context}
 use Rattle.ix_base.specs.declared.rule.Rule.TheVariants.{L9}
 use Rattle.ix_base.specs.Asks.{asks, if_such}
-use Rattle.ix_base.specs.Facts.{facts_of}
+use Rattle.ix_base.specs.Facts.{Facts, facts_of}
 use Rattle.ix_base.specs.Ids.{context_for, speaker}
 use Rattle.ix_base.specs.Kinds as kinds
 use Rattle.ix_base.specs.Kinds.{kind_of, same_kind}
 use Rattle.ix_base.specs.declared.kind.Kind.{Kind}
 use Rattle.ix_base.specs.declared.kind.Kind.TheVariants as kind
 use Rattle.ix_base.specs.LinkRules.{breaking, target_of}
-use Rattle.ix_base.specs.Located.{Located, is_item, is_kind}
-use Rattle.ix_base.specs.Membership.{owner}
-use Rattle.instance_out.specs.Writable.{IsTimely, IsWritable}
-use Rattle.targets.specs.Contents.{IsGathered, SaysItem, context_at, is_item_of, is_outer}
+use Rattle.ix_base.specs.LocatedElements.{Located, is_item, is_kind}
+use Rattle.ix_base.specs.Membership.{deepest, owner}
+use Rattle.ix_base.specs.declared.limits.TheConstants.{DEEPEST_TUPLE}
+use Rattle.instance_out.specs.Writable.{IsTimely, IsWritable, depth}
+use Rattle.tuples.specs.Model.{AreMembersOf, Kept, owner_in}
+use Rattle.targets.specs.Contents.{SaysItem, context_at, contexts_of, is_item_of, is_outer}
 use Rattle.targets.specs.Groups.{is_fact_of}
-use Rattle.targets.specs.Linked.{AreApart, AreOwned}
+use Rattle.targets.specs.LinkedSets.{AreApart, AreOwned}
+use Rattle.targets.specs.TargetFacts.{AreFacts}
 use Rattle.targets.proofs.DepthLaws.{shallow}
 use Rattle.targets.proofs.TimelyLaws.{timely_form}
 
@@ -43,13 +46,19 @@ module _ (es : List Located) where
   all-timely [] = All-nil (λ (x : Context). IsTimely x.period)
   all-timely (id ∷ ids) = timely-one id (context_for es id) (filter_map (context_for es) ids) refl (all-timely ids)
 
+-- the facts of a target are no deeper than tuples may be
+pub outer-shallow : (bases : Located → List ℕ) (es : List Located) (target : List ℕ) (facts : Facts) → AreApart es → AreOwned es → breaking L9 es ≡ []
+    → AreFacts (SaysItem bases es) es deepest (filter (is_outer (asks es) target) es) facts → depth facts ≤ DEEPEST_TUPLE
+outer-shallow bases es target facts apart owned sound are =
+    shallow (SaysItem bases es) es apart owned sound (filter (is_outer (asks es) target) es)
+    (All-filter (is_outer (asks es) target) (Contains es) es (All-contains_itself es)) facts are
+
 -- what is gathered can be written
-pub gathered-writable : (bases : Located → List ℕ) (es : List Located) (target : List ℕ) (c : Content) → AreApart es → AreOwned es → breaking L9 es ≡ []
-    → IsGathered bases es target c → IsWritable c
-gathered-writable bases es target c apart owned sound g = record {
-  times = All-same (λ (x : Context). IsTimely x.period) c.contexts _ g.contexts (all-timely es _);
-  tuples = shallow (SaysItem bases es) es apart owned sound (filter (is_outer (asks es) target) es)
-      (All-filter (is_outer (asks es) target) (Contains es) es (All-contains_itself es)) (facts_of c.facts) g.facts;
+pub gathered-writable : (es : List Located) (target : List ℕ) (c : Content) → c.contexts ≡ contexts_of es target → depth (facts_of c.facts) ≤ DEEPEST_TUPLE
+    → IsWritable c
+gathered-writable es target c contexts deep = record {
+  times = All-same (λ (x : Context). IsTimely x.period) c.contexts _ contexts (all-timely es _);
+  tuples = deep;
 }
 
 filter-both : {X : Type 0} (p q : X → Bool) (xs : List X) → filter p (filter q xs) ≡ filter (λ x. q x && p x) xs
@@ -87,3 +96,11 @@ items-are es target =
 pub outer-are : (es : List Located) (target : List ℕ)
     → filter (λ e. not (is_some (owner (asks es) e))) (filter (is_fact_of target) es) ≡ filter (is_outer (asks es) target) es
 outer-are es target = filter-both (λ e. not (is_some (owner (asks es) e))) (is_fact_of target) es
+
+-- so are those that have no owner by what is kept of the members
+pub outer-kept : (k : Kept) (es : List Located) (target : List ℕ) → AreMembersOf k es
+    → filter (λ e. not (is_some (owner_in k e))) (filter (is_fact_of target) es) ≡ filter (is_outer (asks es) target) es
+outer-kept k es target are =
+    filter_agree (λ e. not (is_some (owner_in k e))) (λ e. not (is_some (owner (asks es) e))) (λ e. ap (λ (o : Option Located). not (is_some o)) (are.owners e))
+    (filter (is_fact_of target) es)
+    ∙ outer-are es target

@@ -10,16 +10,17 @@ use Rattle.ix_base.specs.Asks.{asks, first_of}
 use Rattle.ix_base.specs.Facts.{facts_of}
 use Rattle.ix_base.specs.Ids.{context_for, unit_for}
 use Rattle.ix_base.specs.LinkRules.{address_of, is_schema_for, target_of}
-use Rattle.ix_base.specs.Located.{Located, is_fact, is_kind, is_text}
+use Rattle.ix_base.specs.LocatedElements.{Located, is_fact, is_kind, is_text}
 use Rattle.ix_base.specs.Membership.{deepest, owner}
 use Rattle.ix_base.specs.Once.{in_order}
-use Rattle.ix_base.specs.Sorted.{text_cmp}
+use Rattle.ix_base.specs.SortedLists.{text_cmp}
 use Rattle.footnotes.proofs.NotesMoved.{notes-moved}
 use Rattle.facts.proofs.Renumbered.{item-moved}
-use Rattle.id_table.specs.Moved.{moved}
+use Rattle.id_table.specs.Renumbering.{moved}
 use Rattle.id_table.proofs.Asking.{map-filter}
 use Rattle.id_table.proofs.Renumbered.{filter-same, map-same, map-twice, owner-moved}
-use Rattle.targets.specs.Contents.{IsGathered, SaysItem, context_named, contexts_of, ids_named, is_item_of, is_linkbase_for, is_outer, linkbase_at, role_at, role_to, roles_for, unit_named, units_of, uris_in, roles_in, arcroles_in}
+use Rattle.targets.specs.Contents.{IsGathered, SaysItem, contexts_of, ids_named, is_item_of, is_linkbase_for, is_outer, linkbase_at, role_at, role_to, roles_for, units_of, uris_in, roles_in, arcroles_in}
+use Rattle.link_ids.specs.Links.{context_named, unit_named}
 use Rattle.targets.specs.RoleAddresses.{refers_to}
 use Rattle.targets.specs.TargetFacts.{AreFacts}
 use Rattle.targets.proofs.FactsMoved.{facts-moved}

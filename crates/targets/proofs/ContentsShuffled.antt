@@ -12,13 +12,14 @@ use Rattle.ix_base.specs.Asks.{asks, Asks, first_of}
 use Rattle.ix_base.specs.Facts.{facts_of}
 use Rattle.ix_base.specs.Ids.{context_for, unit_for}
 use Rattle.ix_base.specs.LinkRules.{address_of, is_schema_for}
-use Rattle.ix_base.specs.Located.{Located}
+use Rattle.ix_base.specs.LocatedElements.{Located}
 use Rattle.ix_base.specs.Membership.{deepest, members}
 use Rattle.ix_base.proofs.OnceLemmas.{Contains-first, Contains-nil}
 use Rattle.facts.specs.ItemValue.{IsItem}
 use Rattle.footnotes.proofs.NotesSame.{IsPermutation-flat_map, filter-moved, notes-same, texts-same}
 use Rattle.id_table.proofs.Rearranged.{asks-same}
-use Rattle.targets.specs.Contents.{IsGathered, context_named, contexts_of, ids_named, is_item_of, is_linkbase_for, is_outer, linkbase_at, role_at, role_to, roles_for, unit_named, units_of, uris_in, roles_in, arcroles_in}
+use Rattle.targets.specs.Contents.{IsGathered, contexts_of, ids_named, is_item_of, is_linkbase_for, is_outer, linkbase_at, role_at, role_to, roles_for, units_of, uris_in, roles_in, arcroles_in}
+use Rattle.link_ids.specs.Links.{context_named, unit_named}
 use Rattle.targets.specs.RoleAddresses.{refers_to}
 use Rattle.targets.specs.TargetFacts.{AreFacts}
 use Rattle.targets.proofs.ContentsMoved.{given-same}

@@ -3,8 +3,8 @@ use Rattle.std.proofs.Common.{◌≡◌, ◌∙◌, ap, refl, sym, ℕ, suc, ◌
 use Rattle.std.specs.Prelude.{◌&&◌, ◌||◌, not, if◌then◌else◌}
 use Rattle.std.specs.List.{filter}
 use Rattle.std.proofs.lemmas.List.Elements.{filter-append}
-use Rattle.ix_base.specs.Located.{Located}
-use Rattle.targets.specs.LinkStates.{Link}
+use Rattle.ix_base.specs.LocatedElements.{Located}
+use Rattle.link_ids.specs.Links.{Link}
 use Rattle.targets.specs.LinkTables.{Counts, Kept, none, some, parted, is_none, is_parted, holder_by, kept_with, link_by, sooner}
 
 -- those that pass no longer are those that are named

@@ -13,11 +13,11 @@ use Rattle.ix_base.specs.declared.rule.Rule.TheVariants as rule
 use Rattle.ix_base.specs.Asks.{Asks, asks}
 use Rattle.ix_base.specs.Facts.{Facts, none, item, tuple}
 use Rattle.ix_base.specs.LinkRules.{breaking, broken_at, found_at, is_too_deep}
-use Rattle.ix_base.specs.Located.{Located, is_fact, is_tuple, same_place}
+use Rattle.ix_base.specs.LocatedElements.{Located, is_fact, is_tuple, same_place}
 use Rattle.ix_base.specs.Membership.{deepest, is_owned_by, members, order_of, owner, owners}
 use Rattle.ix_base.specs.Orders.{order_cmp}
 use Rattle.ix_base.specs.Rows.{row}
-use Rattle.ix_base.specs.Sorted.{put, put_by, sorted}
+use Rattle.ix_base.specs.SortedLists.{put, put_by, sorted}
 use Rattle.ix_base.proofs.OnceLemmas.{Contains-cases, Contains-first, Contains-from_filter, Contains-later, Contains-nil, Contains-same}
 use Rattle.instance_out.specs.Writable.{depth}
 use Rattle.targets.specs.TargetFacts.{AreFacts}

@@ -7,7 +7,7 @@ use Rattle.ix_base.specs.declared.content.OwnName.{OwnName}
 use Rattle.ix_base.specs.declared.content.Tuple.{Tuple}
 use Rattle.ix_base.specs.Facts.{Facts, before, facts_of, item, joined, none, tuple}
 use Rattle.ix_base.specs.Ids.{id_of}
-use Rattle.ix_base.specs.Located.{Located, is_nil, is_tuple}
+use Rattle.ix_base.specs.LocatedElements.{Located, is_nil, is_tuple}
 use Rattle.ix_base.specs.Membership.{fact_by, fact_name, members, within}
 use Rattle.ix_base.proofs.FactLaws.{before-Item, before-Tuple}
 use Rattle.targets.specs.TargetFacts.{AreFacts, IsFactOf, members_read, one_less}

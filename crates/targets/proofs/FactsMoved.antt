@@ -3,9 +3,9 @@ use Rattle.std.proofs.Common.{◌≡◌, refl, subst, sym, ℕ, zero, suc, List,
 use Rattle.std.specs.Prelude.{◌==◌}
 use Rattle.ix_base.specs.declared.content.Item.{Item}
 use Rattle.ix_base.specs.Facts.{Facts, none, item, tuple}
-use Rattle.ix_base.specs.Located.{Located}
+use Rattle.ix_base.specs.LocatedElements.{Located}
 use Rattle.ix_base.specs.Membership.{members}
-use Rattle.id_table.specs.Moved.{moved}
+use Rattle.id_table.specs.Renumbering.{moved}
 use Rattle.id_table.proofs.Renumbered.{members-moved}
 use Rattle.targets.specs.TargetFacts.{AreFacts, members_read, one_less}
 

@@ -8,7 +8,7 @@ use Rattle.ix_base.specs.declared.content.Fact.TheVariants as fact
 use Rattle.ix_base.specs.declared.content.Item.{Item}
 use Rattle.ix_base.specs.declared.content.Tuple.{Tuple}
 use Rattle.ix_base.specs.Facts.{Facts, before, facts_of, item, tuple}
-use Rattle.ix_base.specs.Located.{Located}
+use Rattle.ix_base.specs.LocatedElements.{Located}
 use Rattle.ix_base.proofs.ExchangeLemmas.{by_exchanges}
 use Rattle.ix_base.proofs.FactLaws.{before-Item, before-Tuple}
 use Rattle.targets.specs.TargetFacts.{AreFacts, IsFactOf}

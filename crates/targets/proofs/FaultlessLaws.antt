@@ -8,13 +8,13 @@ use Rattle.ix_base.specs.declared.kind.Kind.{Kind}
 use Rattle.ix_base.specs.declared.kind.Kind.TheVariants as kind
 use Rattle.ix_base.specs.Asks.{Asks}
 use Rattle.ix_base.specs.Kinds.{kind_of, same_kind}
-use Rattle.ix_base.specs.Located.{Located, is_kind, is_nil}
+use Rattle.ix_base.specs.LocatedElements.{Located, is_kind, is_nil}
 use Rattle.ix_base.specs.Readers.{attr}
-use Rattle.ix_base.specs.Resolving.{name_of}
+use Rattle.ix_base.specs.ValueNames.{name_of}
 use Rattle.ix_base.specs.Steps.{◌>>=◌}
 use Rattle.ix_base.specs.Token.{token_of}
 use Rattle.ix_base.specs.Trees.{Named, Tree}
-use Rattle.ix_base.specs.Viewed.{view}
+use Rattle.ix_base.specs.FactViews.{view}
 use Rattle.facts.specs.ItemValue.{IsItem, IsPlain, IsTextBy, IsValueAs, IsValueBy, IsValueOf, ItemText, item_text, item_with}
 use Rattle.targets.specs.Faults.{faultless}
 

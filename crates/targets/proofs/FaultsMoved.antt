@@ -20,10 +20,10 @@ use Rattle.ix_base.specs.LinkRules.{address_of, breaks, broken, found_at, has_tw
 use Rattle.ix_base.specs.declared.kind.Kind.{Kind}
 use Rattle.ix_base.specs.declared.kind.Kind.TheVariants as kind
 use Rattle.ix_base.specs.Kinds.{kind_of, same_kind}
-use Rattle.ix_base.specs.Located.{Located, is_text}
+use Rattle.ix_base.specs.LocatedElements.{Located, is_text}
 use Rattle.ix_base.specs.Rows.{row}
 use Rattle.ix_base.specs.Trees.{Tree}
-use Rattle.id_table.specs.Moved.{moved}
+use Rattle.id_table.specs.Renumbering.{moved}
 use Rattle.id_table.proofs.Asking.{count-map}
 use Rattle.id_table.proofs.Rearranged.{asks-same}
 use Rattle.id_table.proofs.Renumbered.{breaks-moved, filter-same}

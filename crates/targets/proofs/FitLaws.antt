@@ -15,13 +15,13 @@ use Rattle.ix_base.specs.Elements.{Placed, elements_of}
 use Rattle.ix_base.specs.Forms.{is_order}
 use Rattle.ix_base.specs.Kinds as kinds
 use Rattle.ix_base.specs.Kinds.{is_inline, kind_of}
-use Rattle.ix_base.specs.Located.{Located, Paged, is_fact, is_marked, marked_from, on_page, page_marked}
+use Rattle.ix_base.specs.LocatedElements.{Located, Paged, is_fact, is_marked, marked_from, on_page, page_marked}
 use Rattle.ix_base.specs.Membership.{order_of}
 use Rattle.ix_base.specs.Readers.{attr}
 use Rattle.ix_base.specs.Rows.{row}
 use Rattle.ix_base.specs.Token.{token_of}
 use Rattle.ix_base.specs.Trees.{Tree}
-use Rattle.tuples.specs.Fits.{fits, is_number}
+use Rattle.tuples.specs.OrderNumbers.{fits, is_number}
 use Rattle.targets.specs.Faults.{faults_from}
 
 pub both-none : {X : Type 0} (xs ys : List X) → xs ++ ys ≡ [] → (xs ≡ []) × (ys ≡ [])

@@ -6,10 +6,10 @@ use Rattle.std.specs.Option.{option_map_or}
 use Rattle.std.specs.Ordering.{on}
 use Rattle.std.specs.declared.cmp.Ordering.{Ordering}
 use Rattle.ix_base.specs.Asks.{Asks, asks}
-use Rattle.ix_base.specs.Located.{Located, is_fact, is_tuple, same_place}
+use Rattle.ix_base.specs.LocatedElements.{Located, is_fact, is_tuple, same_place}
 use Rattle.ix_base.specs.Membership.{is_owned_by, members, order_of, owner}
 use Rattle.ix_base.specs.Orders.{order_cmp}
-use Rattle.ix_base.specs.Sorted.{sorted}
+use Rattle.ix_base.specs.SortedLists.{sorted}
 use Rattle.targets.proofs.TotalLaws.{total, total-filter, total-flat, total-plus, total-same, total-sorted, total-turned, total-when, total-zero, when, when-plus, when-zero}
 
 -- these elements, behind each tuple its members, and so on to n tuples deep

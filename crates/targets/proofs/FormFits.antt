@@ -20,11 +20,11 @@ use Rattle.ix_base.specs.declared.content.Period.TheVariants as period
 use Rattle.ix_base.specs.declared.content.Unit.{Unit as UnitContent}
 use Rattle.ix_base.specs.ContextForm.{Whom, by_dimension, context, dim_of, dims_in, dims_of, duration_of, forever_of, id_of, instant_of, own_held, period_from, period_of, some_token, stand_once, whom_of}
 use Rattle.ix_base.specs.Forms.{is_empty}
-use Rattle.ix_base.specs.Holding.{are_blank, element_alone, elements_in, holds_only, is_blank_beside, is_of, named_in, text_alone}
+use Rattle.ix_base.specs.ElementContent.{are_blank, element_alone, elements_in, holds_only, is_blank_beside, is_of, named_in, text_alone}
 use Rattle.ix_base.specs.Namespaces.{xbrli_namespace}
 use Rattle.ix_base.specs.OwnNames.{name_cmp}
 use Rattle.ix_base.specs.Readers.{attr}
-use Rattle.ix_base.specs.Sorted.{put, put_by, sorted}
+use Rattle.ix_base.specs.SortedLists.{put, put_by, sorted}
 use Rattle.ix_base.specs.Steps.{each, sole}
 use Rattle.ix_base.specs.Times.{end_time, start_time}
 use Rattle.ix_base.specs.Token.{token_of}
@@ -34,8 +34,8 @@ use Rattle.xbrl_parts.proofs.ApartLaws.{once_moved}
 use Rattle.xbrl_parts.proofs.SmallTimes.{by_side, chosen, step_ok, time_small}
 use Rattle.instance_out.specs.Lists.{rises}
 use Rattle.instance_out.specs.Proper.{are_normal_dims, forms_fit, is_normal_context, is_normal_period, is_normal_unit}
-use Rattle.ix_base.specs.Said.{said_of}
-use Rattle.targets.specs.Clean.{IsClean}
+use Rattle.ix_base.specs.PlainContents.{said_of}
+use Rattle.targets.specs.ValidSets.{IsClean}
 use Rattle.targets.specs.Contents.{IsContent}
 use Rattle.targets.specs.PageSet.{PageSet, base_at, elements}
 use Rattle.targets.proofs.FromElements.{FromContext, FromUnit, all-pass, contexts-from, units-from}

@@ -15,23 +15,23 @@ use Rattle.ix_base.specs.Asks.{asks, if_such}
 use Rattle.ix_base.specs.ContextForm.{context, dims_of, id_of as form_id, period_of, whom_of}
 use Rattle.ix_base.specs.ElementRules.{breaks_context, breaks_unit, lacks, misses as lacks_attr, name_tokens, required}
 use Rattle.ix_base.specs.Forms.{is_name_token}
-use Rattle.ix_base.specs.Holding.{holds_only, named_in}
+use Rattle.ix_base.specs.ElementContent.{holds_only, named_in}
 use Rattle.ix_base.specs.Ids.{holds_id, id_of, one_such, sole as sole_id, stands_for}
 use Rattle.ix_base.specs.Kinds.{is_inline, kind_of, same_kind}
 use Rattle.ix_base.specs.LinkRules.{lacks as lacks_part}
-use Rattle.ix_base.specs.Located.{Located, is_item, is_kind, is_text}
+use Rattle.ix_base.specs.LocatedElements.{Located, is_item, is_kind, is_text}
 use Rattle.ix_base.specs.Namespaces.{xbrli_namespace}
 use Rattle.ix_base.specs.NcName.{is_ncname}
-use Rattle.ix_base.specs.Readers.{attr, token_at}
+use Rattle.ix_base.specs.Readers.{attr, token_at, unit_of}
 use Rattle.ix_base.specs.Steps.{sole}
 use Rattle.ix_base.specs.Token.{token_of}
 use Rattle.ix_base.specs.Trees.{Tree}
 use Rattle.ix_base.specs.UnitForm.{ratio_in, unit}
 use Rattle.ix_base.proofs.OnceLemmas.{Contains-first, Contains-from_filter}
-use Rattle.facts.specs.ItemValue.{unit_of}
 use Rattle.xbrl_parts.proofs.SmallTimes.{chosen, step_ok}
-use Rattle.targets.specs.Clean.{IsClean}
-use Rattle.targets.specs.Contents.{context_at, context_named, unit_at, unit_named}
+use Rattle.targets.specs.ValidSets.{IsClean}
+use Rattle.targets.specs.Contents.{context_at, unit_at}
+use Rattle.link_ids.specs.Links.{context_named, unit_named}
 use Rattle.targets.specs.PageSet.{PageSet, elements}
 use Rattle.targets.proofs.CleanLaws.{element-keeps, link-keeps}
 use Rattle.targets.proofs.FitLaws.{not-not, with-test}

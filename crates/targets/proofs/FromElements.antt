@@ -25,13 +25,13 @@ use Rattle.ix_base.specs.Ids.{id_of, speaker}
 use Rattle.ix_base.specs.Kinds as kinds
 use Rattle.ix_base.specs.Kinds.{kind_of, same_kind}
 use Rattle.ix_base.specs.LinkRules.{target_of}
-use Rattle.ix_base.specs.Located.{Located, is_fact, is_item, is_kind, is_tuple}
+use Rattle.ix_base.specs.LocatedElements.{Located, is_fact, is_item, is_kind, is_tuple}
 use Rattle.ix_base.specs.Membership.{deepest, fact_name, owner}
-use Rattle.ix_base.specs.Sorted.{sorted, text_cmp}
-use Rattle.instance_out.specs.Arranged.{arranged, by_line}
+use Rattle.ix_base.specs.SortedLists.{sorted, text_cmp}
+use Rattle.instance_out.specs.Arrangement.{arranged, by_line}
 use Rattle.instance_out.specs.Canonical.{content_spaces, fact_names}
 use Rattle.instance_out.specs.Elements.{fact_markup}
-use Rattle.instance_out.specs.Holds.{fact_ids, items_in}
+use Rattle.instance_out.specs.Holdings.{fact_ids, items_in}
 use Rattle.instance_out.specs.Lists.{of_option}
 use Rattle.targets.specs.Contents.{IsContent, IsGathered, SaysItem, context_at, contexts_of, is_outer, unit_at, units_of}
 use Rattle.targets.specs.TargetFacts.{AreFacts, members_read, one_less}

@@ -9,7 +9,7 @@ use Rattle.text_map.specs.Texts.{Texts}
 use Rattle.ix_base.specs.declared.kind.Kind.TheVariants as kind
 use Rattle.ix_base.specs.declared.tree.Spot.{Spot}
 use Rattle.ix_base.specs.LinkRules.{is_schema_for, target_above, target_of}
-use Rattle.ix_base.specs.Located.{Located, is_fact, is_kind, is_text, located}
+use Rattle.ix_base.specs.LocatedElements.{Located, is_fact, is_kind, is_text, located}
 use Rattle.id_table.proofs.Asking.{map-filter}
 use Rattle.id_table.specs.Tables.{HasEach, all_located, spots_at}
 use Rattle.targets.specs.declared.groups.Group.TheVariants as group

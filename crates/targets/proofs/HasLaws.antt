@@ -10,7 +10,7 @@ use Rattle.std.specs.declared.cmp.Ordering.TheVariants.{Less, Equal, Greater}
 use Rattle.std.proofs.lemmas.Bool.{and_from, and_parts, or_from, or_left, or_right}
 use Rattle.std.proofs.lemmas.Slice.Eq.{bytes_eq-Decides}
 use Rattle.ix_base.specs.Once.{in_order, put as put_once, put_by as put_once_by}
-use Rattle.ix_base.specs.Sorted.{put, put_by, sorted, text_cmp}
+use Rattle.ix_base.specs.SortedLists.{put, put_by, sorted, text_cmp}
 use Rattle.ix_base.proofs.OnceLemmas.{Contains-cases, Contains-first, Contains-later, Contains-nil, Contains-same, in_order-members}
 use Rattle.ix_base.proofs.OnceOrdered.{same_text}
 use Rattle.instance_out.specs.Lists.{has, rises, strictly}

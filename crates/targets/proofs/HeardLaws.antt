@@ -14,7 +14,7 @@ use Rattle.ix_base.specs.Ids.{holds_tuple_id}
 use Rattle.ix_base.specs.Kinds as kinds
 use Rattle.ix_base.specs.Kinds.{kind_of, same_kind}
 use Rattle.ix_base.specs.LinkRules.{is_too_deep, target_of}
-use Rattle.ix_base.specs.Located.{Located, is_fact, is_text, is_tuple, on_page}
+use Rattle.ix_base.specs.LocatedElements.{Located, is_fact, is_text, is_tuple, on_page}
 use Rattle.ix_base.specs.Membership.{deepest, nearest_tuple, owner, owner_by, owners, tuple_ref_of}
 use Rattle.ix_base.specs.Trees.{Tree}
 use Rattle.ix_base.proofs.OnceLemmas.{Contains-first, Contains-from_filter}

@@ -12,12 +12,12 @@ use Rattle.ix_base.specs.declared.content.OwnName.{OwnName}
 use Rattle.ix_base.specs.declared.content.Unit.{Unit as UnitContent}
 use Rattle.ix_base.specs.ContextForm.{Whom, by_dimension, context, dim_of, dims_in, dims_of, explicit_of, id_of, name_held, own_held, period_of, some_token, stand_once, typed_of, whom_of}
 use Rattle.ix_base.specs.Forms.{is_empty, is_name_token, is_some_token}
-use Rattle.ix_base.specs.Holding.{element_alone, elements_in, holds_only, is_blank_beside, is_of, named_in, text_alone}
+use Rattle.ix_base.specs.ElementContent.{element_alone, elements_in, holds_only, is_blank_beside, is_of, named_in, text_alone}
 use Rattle.ix_base.specs.Namespaces.{xbrldi_namespace, xbrli_namespace}
 use Rattle.ix_base.specs.NcName.{are_allowed, is_ncname}
 use Rattle.ix_base.specs.OwnNames.{name_cmp, own}
 use Rattle.ix_base.specs.Readers.{attr, name_at}
-use Rattle.ix_base.specs.Sorted.{sorted}
+use Rattle.ix_base.specs.SortedLists.{sorted}
 use Rattle.ix_base.specs.Sound.{AreSound, IsSoundName}
 use Rattle.ix_base.specs.Steps.{each, sole}
 use Rattle.ix_base.specs.Token.{token_of}

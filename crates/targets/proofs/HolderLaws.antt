@@ -7,7 +7,7 @@ use Rattle.ix_base.specs.Alike.{alike, alike_as}
 use Rattle.ix_base.specs.Asks.{asks, are_many, are_some, first_of, if_such}
 use Rattle.ix_base.specs.Ids.{agree, are_doubled, holders, holds_id, id_of, is_part, speaker, stands_for}
 use Rattle.ix_base.specs.Kinds.{kind_of, same_kind}
-use Rattle.ix_base.specs.Located.{Located, is_kind, is_text}
+use Rattle.ix_base.specs.LocatedElements.{Located, is_kind, is_text}
 use Rattle.ix_base.specs.Trees.{Tree}
 use Rattle.std.proofs.lemmas.Slice.Eq.{bytes_eq-Decides}
 use Rattle.ix_base.proofs.OnceLemmas.{Contains-nil, Contains-first, Contains-cases, Contains-filter, Contains-from_filter}

@@ -21,18 +21,18 @@ use Rattle.ix_base.specs.Ids.{agree, are_doubled, holders, holds_id, holds_tuple
 use Rattle.ix_base.specs.Kinds as kinds
 use Rattle.ix_base.specs.Kinds.{is_inline, kind_of, same_kind}
 use Rattle.ix_base.specs.LinkRules.{are_many, is_footnote}
-use Rattle.ix_base.specs.Located.{Located, is_fact, is_kind, is_text}
+use Rattle.ix_base.specs.LocatedElements.{Located, is_fact, is_kind, is_text}
 use Rattle.ix_base.specs.NcName.{is_ncname}
-use Rattle.ix_base.specs.Said.{said_of}
-use Rattle.ix_base.specs.Sorted.{sorted, text_cmp}
+use Rattle.ix_base.specs.PlainContents.{said_of}
+use Rattle.ix_base.specs.SortedLists.{sorted, text_cmp}
 use Rattle.ix_base.proofs.OnceLemmas.{Contains-filter, Contains-first, Contains-from_filter}
 use Rattle.footnotes.specs.FootnoteLinks.{notes}
 use Rattle.id_table.proofs.OtherLaws.{by-kind}
-use Rattle.instance_out.specs.Arranged.{arranged, arranged_link}
-use Rattle.instance_out.specs.Holds.{all_notes, fact_ids}
+use Rattle.instance_out.specs.Arrangement.{arranged, arranged_link}
+use Rattle.instance_out.specs.Holdings.{all_notes, fact_ids}
 use Rattle.instance_out.specs.Lists.{are_apart}
 use Rattle.instance_out.specs.Proper.{all_ids, counted_once, ids_fit}
-use Rattle.targets.specs.Clean.{IsClean}
+use Rattle.targets.specs.ValidSets.{IsClean}
 use Rattle.targets.specs.Contents.{IsContent}
 use Rattle.targets.specs.PageSet.{PageSet, base_at, elements}
 use Rattle.targets.proofs.CleanLaws.{link-keeps}

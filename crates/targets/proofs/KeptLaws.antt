@@ -8,7 +8,7 @@ use Rattle.std.specs.Option.{option_map_or}
 use Rattle.ix_base.specs.Alike.{alike}
 use Rattle.ix_base.specs.Asks.{asks, are_some}
 use Rattle.ix_base.specs.Ids.{agree, are_doubled, differs, foremost, foremost_of, holders, holds_id, id_of, one}
-use Rattle.ix_base.specs.Located.{Located}
+use Rattle.ix_base.specs.LocatedElements.{Located}
 use Rattle.ix_base.proofs.OnceLemmas.{Contains-nil, Contains-first, Contains-later, Contains-cases, Contains-filter, Contains-from_filter}
 use Rattle.id_table.proofs.AgreeLaws.{agree-alike, many-two, none-passed}
 use Rattle.targets.specs.LinkStates.{GoesOn, Stands, pending, resolved, doubled, id_stands}

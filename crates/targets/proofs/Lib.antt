@@ -37,7 +37,6 @@ pub mod HoldLaws
 pub mod HolderLaws
 pub mod IdsFit
 mod KeptLaws
-pub mod KindLinks
 mod LinkLaws
 mod LinkStandLaws
 pub mod LinksFit
@@ -82,5 +81,6 @@ pub mod TupleFit
 pub mod UnbrokenLaws
 mod ValueLaws
 pub mod ValueTexts
+pub mod ValuesCome
 mod ValuesMoved
 pub mod WalkLaws

@@ -14,17 +14,17 @@ use Rattle.ix_base.specs.Asks.{asks}
 use Rattle.ix_base.specs.Forms.{is_empty}
 use Rattle.ix_base.specs.Ids.{id_of, one_such}
 use Rattle.ix_base.specs.LinkRules.{are_any, from_ids, is_end, is_footnote, is_relationship, named_by, same_target, target_of, to_ids}
-use Rattle.ix_base.specs.Located.{Located, is_fact}
+use Rattle.ix_base.specs.LocatedElements.{Located, is_fact}
 use Rattle.ix_base.specs.Once.{in_order}
-use Rattle.ix_base.specs.Sorted.{text_cmp}
+use Rattle.ix_base.specs.SortedLists.{text_cmp}
 use Rattle.ix_base.proofs.OnceLemmas.{Contains-cases, Contains-filter, Contains-first, Contains-from_filter, Contains-later, Contains-nil}
 use Rattle.footnotes.specs.FootnoteLinks.{Between, ends, footnote_of, label}
-use Rattle.instance_out.specs.Arranged.{arranged, arranged_link}
-use Rattle.instance_out.specs.Holds.{fact_ids}
+use Rattle.instance_out.specs.Arrangement.{arranged, arranged_link}
+use Rattle.instance_out.specs.Holdings.{fact_ids}
 use Rattle.instance_out.specs.Lists.{has, is_within}
 use Rattle.instance_out.specs.Proper.{arc_ends, is_whole_link, links_fit, note_ids}
-use Rattle.ix_base.specs.Said.{said_of}
-use Rattle.targets.specs.Clean.{IsClean}
+use Rattle.ix_base.specs.PlainContents.{said_of}
+use Rattle.targets.specs.ValidSets.{IsClean}
 use Rattle.targets.specs.Contents.{IsContent}
 use Rattle.targets.specs.Groups.{is_fact_of}
 use Rattle.targets.specs.PageSet.{PageSet, base_at, elements}

@@ -12,7 +12,7 @@ use Rattle.ix_base.specs.declared.rule.Rule.TheVariants as rule
 use Rattle.ix_base.specs.Asks.{asks}
 use Rattle.ix_base.specs.Kinds.{kind_of, same_kind}
 use Rattle.ix_base.specs.LinkRules.{address_of, breaks, broken, found_at, lacks_order, link_rules, redirects, repeats_order, uri_of}
-use Rattle.ix_base.specs.Located.{Located, is_kind, is_text}
+use Rattle.ix_base.specs.LocatedElements.{Located, is_kind, is_text}
 use Rattle.ix_base.specs.Rows.{row}
 use Rattle.ix_base.proofs.OnceLemmas.{Contains-filter, Contains-from_filter, Contains-nil}
 use Rattle.targets.specs.RoleAddresses.{refers_to}

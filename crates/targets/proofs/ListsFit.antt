@@ -10,22 +10,22 @@ use Rattle.ix_base.specs.declared.content.Fact.{Fact}
 use Rattle.ix_base.specs.declared.content.NoteLink.{NoteLink}
 use Rattle.ix_base.specs.declared.content.Unit.{Unit as UnitContent}
 use Rattle.ix_base.specs.Facts.{facts_of}
-use Rattle.ix_base.specs.Located.{Located}
+use Rattle.ix_base.specs.LocatedElements.{Located}
 use Rattle.ix_base.specs.Once.{in_order}
-use Rattle.ix_base.specs.Sorted.{sorted, text_cmp}
-use Rattle.ix_base.specs.Written.{Markup}
+use Rattle.ix_base.specs.SortedLists.{sorted, text_cmp}
+use Rattle.ix_base.specs.WrittenMarkup.{Markup}
 use Rattle.ix_base.proofs.OnceLemmas.{in_order-sorted}
-use Rattle.instance_out.specs.Arranged.{arranged, arranged_link, by_line}
+use Rattle.instance_out.specs.Arrangement.{arranged, arranged_link, by_line}
 use Rattle.instance_out.specs.Canonical.{Spaces, arc_line_cmp, arcrole_markup, content_spaces, fact_markups, line, line_cmp, linkbase_markup, role_markup, schema_markup}
 use Rattle.instance_out.specs.Elements.{arc_text, fact_markup}
-use Rattle.instance_out.specs.Holds.{said_spaces}
+use Rattle.instance_out.specs.Holdings.{said_spaces}
 use Rattle.instance_out.specs.Lists.{rises, strictly}
 use Rattle.instance_out.specs.Proper.{link_in_order, lists_fit}
-use Rattle.ix_base.specs.Said.{said_of}
+use Rattle.ix_base.specs.PlainContents.{said_of}
 use Rattle.instance_out.proofs.ArrangedLaws.{sorted-rises, spaces-arranged}
 use Rattle.instance_out.proofs.MarkupLaws.{fact_markups-are}
 use Rattle.instance_out.proofs.Sorting.{in_order-map, sorted-map}
-use Rattle.targets.specs.Clean.{IsClean}
+use Rattle.targets.specs.ValidSets.{IsClean}
 use Rattle.targets.specs.Contents.{IsContent, IsGathered}
 use Rattle.targets.specs.PageSet.{PageSet, base_at, elements}
 use Rattle.targets.proofs.ArcLaws.{IsLinkOf, arranged-arcs, arranged-locs, by_note, from-links, link-notes, link-strict, arcs_of}

@@ -9,12 +9,12 @@ use Rattle.ix_base.specs.declared.content.Content.{Content}
 use Rattle.ix_base.specs.Facts.{facts_of}
 use Rattle.ix_base.specs.Ids.{id_of}
 use Rattle.ix_base.specs.LinkRules.{target_of}
-use Rattle.ix_base.specs.Located.{Located, is_fact}
-use Rattle.ix_base.specs.Said.{said_of}
+use Rattle.ix_base.specs.LocatedElements.{Located, is_fact}
+use Rattle.ix_base.specs.PlainContents.{said_of}
 use Rattle.ix_base.proofs.OnceLemmas.{Contains-from_filter}
-use Rattle.instance_out.specs.Holds.{fact_ids}
+use Rattle.instance_out.specs.Holdings.{fact_ids}
 use Rattle.instance_out.specs.Proper.{links_fit}
-use Rattle.targets.specs.Clean.{IsClean}
+use Rattle.targets.specs.ValidSets.{IsClean}
 use Rattle.targets.specs.Contents.{IsContent}
 use Rattle.targets.specs.Groups.{is_fact_of}
 use Rattle.targets.specs.PageSet.{PageSet, base_at, elements}

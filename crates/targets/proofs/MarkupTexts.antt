@@ -14,13 +14,13 @@ use Rattle.std.proofs.lemmas.Str.{IsUtf8-encode, chars-encodes, encodes-chars}
 use Rattle.ix_base.proofs.EscapeLemmas.{IsLow, ae_low, front-next, front-start, te_low}
 use Rattle.ix_base.specs.Address.{is_link, joined_url, link_or, longest_link, resolved, url_of}
 use Rattle.ix_base.specs.Escapes.{ae, ae_ref, escaped, te, te_ref, written_as}
-use Rattle.ix_base.specs.Located.{Located}
+use Rattle.ix_base.specs.LocatedElements.{Located}
 use Rattle.ix_base.specs.Markup.{Manner, Kept, LeftOut, Opened, attribute_cmp, attribute_of, base_below, body, body_along, declaration, element_by, ends_short, is_link_of, is_silent, is_written, manner, markup_along, own_attributes, plain, plain_along, plain_by, put_words, value_by, written_name}
 use Rattle.ix_base.specs.NcName.{are_allowed, is_allowed}
 use Rattle.ix_base.specs.Sound.{AreSound, IsSoundAttribute, IsSoundHead}
 use Rattle.ix_base.specs.Token.{is_token}
 use Rattle.ix_base.specs.Trees.{Head, Named, Nodes, Valued, none, chars as chars_of, elem}
-use Rattle.ix_base.specs.Written.{Attribute, Markup, attrs_text, close_text, leaf, leaf_text, node, nothing, start_text, verbatim, words, written}
+use Rattle.ix_base.specs.WrittenMarkup.{Attribute, Markup, attrs_text, close_text, leaf, leaf_text, node, nothing, start_text, verbatim, words, written}
 use Rattle.url.specs.Parts.{Parts, serialize}
 use Rattle.xbrl_parts.proofs.SmallTimes.{by_side}
 use Rattle.facts.proofs.PlainLaws.{is_plain}

@@ -12,10 +12,10 @@ use Rattle.std.proofs.lemmas.Bool.Decides.{Decides-eqb, nat_tests}
 use Rattle.std.proofs.lemmas.Cmp.{on_total, tied_itself}
 use Rattle.ix_base.specs.Asks.{asks}
 use Rattle.ix_base.specs.LinkRules.{lacks_order, repeats_order, ties}
-use Rattle.ix_base.specs.Located.{Located, is_fact, offset_of, same_place}
+use Rattle.ix_base.specs.LocatedElements.{Located, is_fact, offset_of, same_place}
 use Rattle.ix_base.specs.Membership.{is_owned_by, members, order_of, owner}
 use Rattle.ix_base.specs.Orders.{order_cmp, same_decimal}
-use Rattle.ix_base.specs.Sorted.{sorted}
+use Rattle.ix_base.specs.SortedLists.{sorted}
 use Rattle.ix_base.proofs.OnceLemmas.{Contains-cases, Contains-filter, Contains-from_filter, Contains-nil}
 use Rattle.ix_base.proofs.SortedLemmas.{sorted-same}
 use Rattle.id_table.proofs.Rearranged.{asks-same}

@@ -23,20 +23,20 @@ use Rattle.ix_base.specs.Facts.{facts_of}
 use Rattle.ix_base.specs.Forms.{are_names, is_name_token, is_qname_token}
 use Rattle.ix_base.specs.Kinds as kinds
 use Rattle.ix_base.specs.Kinds.{is_inline, kind_of, same_kind}
-use Rattle.ix_base.specs.Located.{Located, is_fact}
+use Rattle.ix_base.specs.LocatedElements.{Located, is_fact}
 use Rattle.ix_base.specs.Namespaces.{xmlns_namespace}
 use Rattle.ix_base.specs.OwnNames.{own}
 use Rattle.ix_base.specs.Readers.{attr, fact_name, name_at}
-use Rattle.ix_base.specs.Resolving.{if_ok, is_unbound, name_of}
+use Rattle.ix_base.specs.ValueNames.{if_ok, is_unbound, name_of}
 use Rattle.ix_base.specs.Scope.{element_name, is_qname}
 use Rattle.ix_base.specs.Steps.{◌>>=◌}
 use Rattle.ix_base.specs.Token.{token_of}
 use Rattle.ix_base.specs.Trees.{Named, Tree}
 use Rattle.instance_out.specs.Canonical.{context_names, dim_names, fact_names, member_names, unit_names}
-use Rattle.instance_out.specs.Holds.{all_names}
+use Rattle.instance_out.specs.Holdings.{all_names}
 use Rattle.instance_out.specs.Proper.{is_fact_name, is_name, names_fit}
-use Rattle.ix_base.specs.Said.{said_of}
-use Rattle.targets.specs.Clean.{IsClean}
+use Rattle.ix_base.specs.PlainContents.{said_of}
+use Rattle.targets.specs.ValidSets.{IsClean}
 use Rattle.targets.specs.Contents.{IsContent}
 use Rattle.targets.specs.PageSet.{PageSet, base_at, elements}
 use Rattle.targets.proofs.BelowLaws.{all-flat}

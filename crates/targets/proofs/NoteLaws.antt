@@ -5,7 +5,7 @@ use Rattle.std.specs.Prelude.{None, false}
 use Rattle.text_map.specs.Texts.{Texts}
 use Rattle.ix_base.specs.declared.kind.Kind.{Kind}
 use Rattle.ix_base.specs.LinkRules.{address_of}
-use Rattle.ix_base.specs.Located.{Located}
+use Rattle.ix_base.specs.LocatedElements.{Located}
 use Rattle.targets.specs.declared.addresses.Seen.{Seen}
 use Rattle.ix_base.specs.Asks.{first_of}
 use Rattle.targets.specs.Contents.{role_at, role_to, roles_for}

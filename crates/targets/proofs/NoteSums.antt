@@ -11,12 +11,12 @@ use Rattle.ix_base.specs.declared.content.NoteLink.{NoteLink}
 use Rattle.ix_base.specs.Asks.{asks}
 use Rattle.ix_base.specs.Ids.{holds_id, one_such}
 use Rattle.ix_base.specs.LinkRules.{is_footnote}
-use Rattle.ix_base.specs.Located.{Located}
+use Rattle.ix_base.specs.LocatedElements.{Located}
 use Rattle.ix_base.specs.Once.{in_order}
-use Rattle.ix_base.specs.Sorted.{sorted, text_cmp}
+use Rattle.ix_base.specs.SortedLists.{sorted, text_cmp}
 use Rattle.ix_base.proofs.OnceLemmas.{Contains-cases, Contains-first, Contains-from_filter, Contains-later}
 use Rattle.footnotes.specs.FootnoteLinks.{Between, arcs_in, ends, footnote_of, label, link_of, notes}
-use Rattle.instance_out.specs.Arranged.{arranged_link, firsts}
+use Rattle.instance_out.specs.Arrangement.{arranged_link, firsts}
 use Rattle.instance_out.specs.Elements.{footnote_text}
 use Rattle.instance_out.specs.Proper.{counted_once, same_note, same_option}
 use Rattle.targets.proofs.DepthLaws.{sorted-from}

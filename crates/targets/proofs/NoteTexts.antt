@@ -20,21 +20,21 @@ use Rattle.ix_base.specs.Forms.{is_some_token}
 use Rattle.ix_base.specs.Ids.{id_of}
 use Rattle.ix_base.specs.Kinds.{is_inline, kind_of, same_kind}
 use Rattle.ix_base.specs.LinkRules.{is_footnote}
-use Rattle.ix_base.specs.Located.{Located, Paged, is_continuation, marked_from, page_marked}
+use Rattle.ix_base.specs.LocatedElements.{Located, Paged, is_continuation, marked_from, page_marked}
 use Rattle.ix_base.specs.Namespaces.{xml_namespace}
 use Rattle.ix_base.specs.NcName.{are_allowed}
 use Rattle.ix_base.specs.Readers.{attr, lang_along, token_at}
-use Rattle.ix_base.specs.Said.{said_of}
+use Rattle.ix_base.specs.PlainContents.{said_of}
 use Rattle.ix_base.specs.Sound.{AreSound, IsSoundTree}
 use Rattle.ix_base.specs.Token.{is_token, token_of}
 use Rattle.ix_base.specs.Trees.{Nodes, Tree, none, chars, elem}
 use Rattle.ix_base.proofs.OnceLemmas.{Contains-cases, Contains-nil}
 use Rattle.footnotes.specs.FootnoteLinks.{Between, footnote_of, footnote_role, label}
-use Rattle.instance_out.specs.Arranged.{arranged}
-use Rattle.instance_out.specs.Holds.{all_arcs, all_notes, arc_texts, link_texts, note_texts}
+use Rattle.instance_out.specs.Arrangement.{arranged}
+use Rattle.instance_out.specs.Holdings.{all_arcs, all_notes, arc_texts, link_texts, note_texts}
 use Rattle.instance_out.specs.Lists.{of_option}
 use Rattle.instance_out.specs.Proper.{is_full}
-use Rattle.targets.specs.Clean.{IsClean}
+use Rattle.targets.specs.ValidSets.{IsClean}
 use Rattle.targets.specs.Contents.{IsContent, IsGathered}
 use Rattle.targets.specs.PageSet.{PageSet, base_at, elements}
 use Rattle.targets.proofs.AllowedLaws.{allowed-nil}

@@ -18,18 +18,18 @@ use Rattle.ix_base.specs.Asks.{asks}
 use Rattle.ix_base.specs.ElementRules.{breaks, breaks_accuracy, breaks_required, element_rules, misses, required}
 use Rattle.ix_base.specs.Forms.{integer_form, is_canonical_decimal, is_decimals, is_infinite, is_integer, is_negative, is_precision, is_zero, size_of}
 use Rattle.ix_base.specs.Kinds.{kind_of}
-use Rattle.ix_base.specs.Located.{Located}
-use Rattle.ix_base.specs.Readers.{attr, is_nil}
+use Rattle.ix_base.specs.LocatedElements.{Located}
+use Rattle.ix_base.specs.Readers.{attr, is_nil, unit_of}
 use Rattle.ix_base.specs.Token.{token_of}
 use Rattle.ix_base.specs.Trees.{Tree}
-use Rattle.ix_base.specs.Viewed.{view}
+use Rattle.ix_base.specs.FactViews.{view}
 use Rattle.facts.specs.Exactness.{accuracy_by, accuracy_of, exact_form}
 use Rattle.facts.specs.FractionValue.{IsFractionValue, IsPart, fraction, over, part_in, part_number}
-use Rattle.facts.specs.ItemValue.{IsPlain, IsTextBy, IsValueBy, ItemText, item_text, unit_of}
+use Rattle.facts.specs.ItemValue.{IsPlain, IsTextBy, IsValueBy, ItemText, item_text}
 use Rattle.facts.specs.NumberValue.{IsNumberValue, Number, number_by, number_text}
 use Rattle.instance_out.specs.Proper.{fractions_fit, is_exact, is_number, is_ratio, is_unitless, numbers_fit, unitless_fit}
-use Rattle.ix_base.specs.Said.{said_of}
-use Rattle.targets.specs.Clean.{IsClean}
+use Rattle.ix_base.specs.PlainContents.{said_of}
+use Rattle.targets.specs.ValidSets.{IsClean}
 use Rattle.targets.specs.Contents.{IsContent}
 use Rattle.targets.specs.PageSet.{PageSet, base_at, elements}
 use Rattle.targets.proofs.CanonicalLaws.{integer-passes, number-passes, whole-form-passes}

@@ -15,13 +15,13 @@ use Rattle.ix_base.specs.Readers.{attr}
 use Rattle.ix_base.specs.Token.{token_of}
 use Rattle.footnotes.specs.FootnoteLinks.{Between, canonical_order}
 use Rattle.footnotes.proofs.OrderLaws.{canonical-is}
-use Rattle.instance_out.specs.Arranged.{arranged}
-use Rattle.instance_out.specs.Holds.{all_arcs}
+use Rattle.instance_out.specs.Arrangement.{arranged}
+use Rattle.instance_out.specs.Holdings.{all_arcs}
 use Rattle.instance_out.specs.Proper.{orders_fit}
-use Rattle.ix_base.specs.Said.{said_of}
+use Rattle.ix_base.specs.PlainContents.{said_of}
 use Rattle.scale_sign.proofs.Laws.{number-is}
 use Rattle.value_forms.proofs.DecimalLaws.{unsigned_is}
-use Rattle.targets.specs.Clean.{IsClean}
+use Rattle.targets.specs.ValidSets.{IsClean}
 use Rattle.targets.specs.Contents.{IsContent}
 use Rattle.targets.specs.PageSet.{PageSet, base_at, elements}
 use Rattle.targets.proofs.ArcLaws.{IsBetween, arc-from}

@@ -7,9 +7,9 @@ use Rattle.ix_base.specs.declared.content.Fact.TheVariants as fact
 use Rattle.ix_base.specs.declared.content.Item.{Item}
 use Rattle.ix_base.specs.declared.content.Tuple.{Tuple}
 use Rattle.ix_base.specs.Facts.{Facts, before, facts_of, none}
-use Rattle.ix_base.specs.Sorted.{sorted}
+use Rattle.ix_base.specs.SortedLists.{sorted}
 use Rattle.ix_base.proofs.FactLaws.{before-Item, before-Tuple}
-use Rattle.instance_out.specs.Holds.{fact_ids, items_in}
+use Rattle.instance_out.specs.Holdings.{fact_ids, items_in}
 use Rattle.instance_out.specs.Lists.{of_option}
 use Rattle.targets.proofs.TotalLaws.{total, total-append, total-sorted}
 

@@ -17,14 +17,14 @@ use Rattle.ix_base.specs.Asks.{asks}
 use Rattle.ix_base.specs.Facts.{facts_of}
 use Rattle.ix_base.specs.Ids.{holds_id, id_of, one_such, speaker}
 use Rattle.ix_base.specs.LinkRules.{target_of}
-use Rattle.ix_base.specs.Located.{Located, is_item, is_kind, is_text}
+use Rattle.ix_base.specs.LocatedElements.{Located, is_item, is_kind, is_text}
 use Rattle.ix_base.specs.NcName.{is_ncname}
-use Rattle.ix_base.specs.Sorted.{text_cmp}
+use Rattle.ix_base.specs.SortedLists.{text_cmp}
 use Rattle.ix_base.proofs.OnceLemmas.{Contains-cases, Contains-filter, Contains-first, Contains-from_filter, Contains-nil, in_order-members, in_order-sorted}
 use Rattle.ix_base.proofs.OnceOrdered.{same_text}
-use Rattle.instance_out.specs.Holds.{items_in}
+use Rattle.instance_out.specs.Holdings.{items_in}
 use Rattle.instance_out.specs.Lists.{of_option}
-use Rattle.targets.specs.Clean.{IsClean}
+use Rattle.targets.specs.ValidSets.{IsClean}
 use Rattle.targets.specs.Contents.{IsContent, SaysItem, ids_named, is_item_of}
 use Rattle.targets.specs.PageSet.{PageSet, base_at, elements}
 use Rattle.targets.proofs.FormLaws.{of-text, such-parts, text-of}

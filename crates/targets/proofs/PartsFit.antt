@@ -12,16 +12,17 @@ use Rattle.ix_base.specs.declared.content.Item.{Item}
 use Rattle.ix_base.specs.declared.content.Unit.{Unit as UnitContent}
 use Rattle.ix_base.specs.declared.kind.Kind.TheVariants as kind
 use Rattle.ix_base.specs.Facts.{facts_of}
-use Rattle.ix_base.specs.Located.{Located}
+use Rattle.ix_base.specs.LocatedElements.{Located}
 use Rattle.ix_base.specs.NcName.{is_ncname}
-use Rattle.ix_base.specs.Said.{said_of}
-use Rattle.ix_base.specs.Sorted.{sorted, text_cmp}
-use Rattle.instance_out.specs.Arranged.{arranged}
-use Rattle.instance_out.specs.Holds.{items_in}
+use Rattle.ix_base.specs.PlainContents.{said_of}
+use Rattle.ix_base.specs.SortedLists.{sorted, text_cmp}
+use Rattle.instance_out.specs.Arrangement.{arranged}
+use Rattle.instance_out.specs.Holdings.{items_in}
 use Rattle.instance_out.specs.Lists.{is_within, of_option}
 use Rattle.instance_out.specs.Proper.{parts_fit}
-use Rattle.targets.specs.Clean.{IsClean}
-use Rattle.targets.specs.Contents.{IsContent, SaysItem, context_at, context_named, contexts_of, unit_at, unit_named, units_of}
+use Rattle.targets.specs.ValidSets.{IsClean}
+use Rattle.targets.specs.Contents.{IsContent, SaysItem, context_at, contexts_of, unit_at, units_of}
+use Rattle.link_ids.specs.Links.{context_named, unit_named}
 use Rattle.targets.specs.PageSet.{PageSet, base_at, elements}
 use Rattle.targets.proofs.DepthLaws.{sorted-from}
 use Rattle.targets.proofs.FormLaws.{context-id, context-there, has-context, has-unit, names-context, unit-id, unit-there}

@@ -5,7 +5,7 @@ use Rattle.std.proofs.lemmas.Bool.{and_parts, eqb-true}
 use Rattle.std.proofs.lemmas.List.{map-append}
 use Rattle.std.proofs.lemmas.List.Elements.{All-contains, All-contains_itself, All-head, All-map, All-tail, All-weaker, Contains-append_cases}
 use Rattle.ix_base.specs.Elements.{Placed, below, elements_of, tree_at}
-use Rattle.ix_base.specs.Located.{Located, Paged, is_marked, marked, marked_from, offset_of, on_page, page_marked, same_place}
+use Rattle.ix_base.specs.LocatedElements.{Located, Paged, is_marked, marked, marked_from, offset_of, on_page, page_marked, same_place}
 use Rattle.ix_base.specs.Sound.{IsSoundTree, Rise, offsets_of}
 use Rattle.ix_base.specs.Trees.{Nodes, Tree, none, chars, elem}
 use Rattle.ix_base.proofs.OnceLemmas.{Contains-cases, Contains-from_filter, Contains-nil}

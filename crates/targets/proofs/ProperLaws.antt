@@ -4,13 +4,13 @@ use Rattle.std.proofs.lemmas.Bool.{and_from}
 use Rattle.std.proofs.lemmas.List.Elements.{All-weaker}
 use Rattle.ix_base.specs.declared.breach.Found.{Found}
 use Rattle.ix_base.specs.declared.content.Content.{Content}
-use Rattle.ix_base.specs.Said.{said_of}
+use Rattle.ix_base.specs.PlainContents.{said_of}
 use Rattle.ix_base.specs.Sound.{IsSoundTree}
 use Rattle.instance_out.specs.Proper.{Proper, is_proper}
 use Rattle.targets.specs.declared.outcome.Outcome.{Outcome}
 use Rattle.targets.specs.declared.outcome.Outcome.TheVariants.{Broken, Whole}
 use Rattle.targets.specs.declared.outcome.Target.{Target}
-use Rattle.targets.specs.Clean.{AreProper, IsClean}
+use Rattle.targets.specs.ValidSets.{AreProper, IsClean}
 use Rattle.targets.specs.Contents.{IsContent}
 use Rattle.targets.specs.Faults.{element_faults, link_faults}
 use Rattle.targets.specs.SetOutcomes.{ComesOfValues, ComesTo, FirstOf, IsReport, ComesToTargets}

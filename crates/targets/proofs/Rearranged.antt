@@ -12,23 +12,23 @@ use Rattle.ix_base.specs.Asks.{asks}
 use Rattle.ix_base.specs.ElementRules.{found_on}
 use Rattle.ix_base.specs.Elements.{elements_of}
 use Rattle.ix_base.specs.LinkRules.{broken}
-use Rattle.ix_base.specs.Located.{Located, Paged, is_item, is_marked, marked_from, on_page, page_marked}
+use Rattle.ix_base.specs.LocatedElements.{Located, Paged, is_item, is_marked, marked_from, on_page, page_marked}
 use Rattle.ix_base.specs.Sound.{IsSoundTree}
 use Rattle.ix_base.proofs.ExchangeLemmas.{by_exchanges}
 use Rattle.facts.specs.ItemValue.{IsItem}
 use Rattle.facts.proofs.Renumbered.{item-moved}
 use Rattle.footnotes.proofs.NotesSame.{IsPermutation-flat_map, filter-moved, texts-same}
-use Rattle.id_table.specs.Moved.{moved}
+use Rattle.id_table.specs.Renumbering.{moved}
 use Rattle.id_table.proofs.Asking.{map-filter}
 use Rattle.id_table.proofs.Rearranged.{asks-same}
 use Rattle.id_table.proofs.Renumbered.{map-twice}
-use Rattle.instance_out.specs.Arranged.{arranged}
+use Rattle.instance_out.specs.Arrangement.{arranged}
 use Rattle.instance_out.specs.Canonical.{canon}
 use Rattle.instance_out.proofs.BackLaws.{one-text}
 use Rattle.targets.specs.declared.outcome.Outcome.{Outcome}
 use Rattle.targets.specs.declared.outcome.Outcome.TheVariants.{Broken, Whole}
 use Rattle.targets.specs.declared.outcome.Target.{Target}
-use Rattle.targets.specs.Clean.{IsClean}
+use Rattle.targets.specs.ValidSets.{IsClean}
 use Rattle.targets.specs.Contents.{IsContent, target_names, targets_at}
 use Rattle.targets.specs.Faults.{AreOfItems, AreValueFaults, element_faults, faults_from, link_faults}
 use Rattle.targets.specs.SetOutcomes.{ComesOfValues, ComesTo, FirstOf, ComesToTargets}

@@ -16,7 +16,7 @@ use Rattle.ix_base.specs.declared.kind.Kind.TheVariants as kind
 use Rattle.ix_base.specs.Asks.{asks}
 use Rattle.ix_base.specs.Kinds.{kind_of, same_kind}
 use Rattle.ix_base.specs.LinkRules.{address_of, are_some, has_two_addresses, redirects, uri_by, uri_of}
-use Rattle.ix_base.specs.Located.{Located, is_kind, is_text}
+use Rattle.ix_base.specs.LocatedElements.{Located, is_kind, is_text}
 use Rattle.targets.specs.declared.addresses.Seen.{Seen}
 use Rattle.targets.specs.declared.addresses.SeenRoles.{SeenRoles}
 use Rattle.targets.specs.RoleAddresses.{AreSeen, SeesAll, refers_to, seen_at, seen_from, seen_with}

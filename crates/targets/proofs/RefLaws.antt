@@ -21,7 +21,7 @@ use Rattle.ix_base.specs.ElementRules.{breaks_reference, has_some, refers}
 use Rattle.ix_base.specs.Forms.{is_empty, is_some_token}
 use Rattle.ix_base.specs.Kinds.{kind_of, same_kind}
 use Rattle.ix_base.specs.LinkRules.{address_of, is_schema_for, target_above, uri_by, uri_of}
-use Rattle.ix_base.specs.Located.{Located, is_kind, is_text}
+use Rattle.ix_base.specs.LocatedElements.{Located, is_kind, is_text}
 use Rattle.ix_base.specs.Namespaces.{xlink_namespace}
 use Rattle.ix_base.specs.NcName.{are_allowed}
 use Rattle.ix_base.specs.Once.{in_order, put, put_by}
@@ -29,10 +29,10 @@ use Rattle.ix_base.specs.Readers.{token_at}
 use Rattle.ix_base.specs.Token.{is_token, token_of}
 use Rattle.ix_base.specs.Trees.{Tree}
 use Rattle.url.specs.Parts.{Parts, serialize}
-use Rattle.instance_out.specs.Arranged.{arranged, by_line}
+use Rattle.instance_out.specs.Arrangement.{arranged, by_line}
 use Rattle.instance_out.specs.Canonical.{arcrole_markup, linkbase_markup, role_markup, schema_markup}
 use Rattle.instance_out.specs.Lists.{of_option}
-use Rattle.targets.specs.Clean.{IsClean}
+use Rattle.targets.specs.ValidSets.{IsClean}
 use Rattle.ix_base.specs.Asks.{first_of}
 use Rattle.targets.specs.Contents.{IsContent, if_any, is_linkbase_for, linkbase_at, role_at, role_to}
 use Rattle.targets.specs.PageSet.{PageSet, base_at, elements}

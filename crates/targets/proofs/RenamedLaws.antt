@@ -6,14 +6,15 @@ use Rattle.std.proofs.lemmas.List.{length-map}
 use Rattle.ix_base.specs.Alike.{alike}
 use Rattle.ix_base.specs.Asks.{are_many, asks}
 use Rattle.ix_base.specs.Ids.{agree, foremost, foremost_of, holders, holds_id, id_of, place_cmp, tuple_id_of}
-use Rattle.ix_base.specs.Located.{Located, is_text, marked, offset_of}
-use Rattle.ix_base.specs.Sorted.{text_cmp}
+use Rattle.ix_base.specs.LocatedElements.{Located, is_text, marked, offset_of}
+use Rattle.ix_base.specs.SortedLists.{text_cmp}
 use Rattle.ix_base.proofs.OnceLemmas.{Contains-first, Contains-later}
 use Rattle.targets.specs.declared.closing.Page.{Page}
 use Rattle.targets.specs.declared.standing.Links.{Links}
 use Rattle.targets.specs.Choices.{choice}
-use Rattle.targets.specs.Holding.{as_paged, names_with}
-use Rattle.targets.specs.LinkStates.{Link, is_tuple_ref, links}
+use Rattle.targets.specs.Model.{as_paged, names_with}
+use Rattle.targets.specs.LinkStates.{is_tuple_ref}
+use Rattle.link_ids.specs.Links.{Link, links}
 use Rattle.targets.specs.LinkTables.{AreLinks, none, some, parted, is_none, is_parted, kept_among, kept_from, kept_of, names_id, names_tuple_id, never, sooner}
 use Rattle.targets.proofs.CountLaws.{count-same}
 use Rattle.targets.proofs.KeptLaws.{parted-from}

@@ -16,19 +16,19 @@ use Rattle.ix_base.specs.declared.content.NoteLink.{NoteLink}
 use Rattle.ix_base.specs.declared.content.RoleRef.{RoleRef}
 use Rattle.ix_base.specs.declared.kind.Kind.{Kind}
 use Rattle.ix_base.specs.declared.kind.Kind.TheVariants as kind
-use Rattle.ix_base.specs.Located.{Located}
+use Rattle.ix_base.specs.LocatedElements.{Located}
 use Rattle.ix_base.specs.LinkRules.{address_of}
 use Rattle.ix_base.specs.Once.{in_order, put as put_once, put_by as put_once_by}
-use Rattle.ix_base.specs.Sorted.{text_cmp}
+use Rattle.ix_base.specs.SortedLists.{text_cmp}
 use Rattle.ix_base.proofs.OnceLemmas.{Contains-cases, Contains-first, Contains-later, Contains-nil, in_order-sorted}
 use Rattle.footnotes.specs.FootnoteLinks.{notes}
-use Rattle.instance_out.specs.Arranged.{arranged, arranged_link, by_line}
+use Rattle.instance_out.specs.Arrangement.{arranged, arranged_link, by_line}
 use Rattle.instance_out.specs.Canonical.{arcrole_markup, role_markup}
-use Rattle.instance_out.specs.Holds.{all_arcs, all_notes}
+use Rattle.instance_out.specs.Holdings.{all_arcs, all_notes}
 use Rattle.instance_out.specs.Lists.{are_apart}
 use Rattle.instance_out.specs.Proper.{roles_fit}
-use Rattle.ix_base.specs.Said.{said_of}
-use Rattle.targets.specs.Clean.{IsClean}
+use Rattle.ix_base.specs.PlainContents.{said_of}
+use Rattle.targets.specs.ValidSets.{IsClean}
 use Rattle.ix_base.specs.Asks.{first_of}
 use Rattle.targets.specs.Contents.{IsContent, IsGathered, arcroles_in, role_at, role_to, roles_for, roles_in, uris_in}
 use Rattle.targets.specs.PageSet.{PageSet, base_at, elements}

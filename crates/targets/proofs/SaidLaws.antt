@@ -12,15 +12,15 @@ use Rattle.ix_base.specs.Asks.{asks, are_many, first_of, if_such, only}
 use Rattle.ix_base.specs.ContextForm.{context}
 use Rattle.ix_base.specs.Ids.{agree, are_doubled, context_for, foremost, foremost_of, holders, holds_id, one, place_cmp, sole, speaker, unit_for}
 use Rattle.ix_base.specs.Kinds.{kind_of, same_kind}
-use Rattle.ix_base.specs.Located.{Located, is_kind, located}
+use Rattle.ix_base.specs.LocatedElements.{Located, is_kind, located}
 use Rattle.ix_base.specs.Trees.{tree_of}
 use Rattle.ix_base.specs.UnitForm.{unit}
 use Rattle.ix_base.specs.declared.tree.Spot.{Spot, out-Spot}
 use Rattle.ix_base.specs.declared.tree.Spot as spot
 use Rattle.ix_base.proofs.OnceLemmas.{Contains-nil, Contains-first, Contains-later, Contains-cases, Contains-filter, Contains-from_filter}
 use Rattle.id_table.specs.declared.entries.Entry.{Entry}
-use Rattle.id_table.specs.Held.{AreChosen, Held, IsHeldFor, chosen, one_held}
-use Rattle.id_table.specs.Moved.{moved}
+use Rattle.id_table.specs.Model.{AreChosen, Held, IsHeldFor, chosen, one_held}
+use Rattle.id_table.specs.Renumbering.{moved}
 use Rattle.id_table.proofs.AgreeLaws.{agree-alike, alike-kind, many-two}
 use Rattle.id_table.proofs.Rearranged.{asks-same}
 use Rattle.id_table.proofs.Renumbered.{speaker-moved}

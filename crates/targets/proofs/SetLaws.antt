@@ -5,15 +5,15 @@ use Rattle.std.proofs.Math.Seq.{take-append_seam}
 use Rattle.std.proofs.lemmas.List.{length-map}
 use Rattle.std.proofs.lemmas.List.Elements.{All-drop}
 use Rattle.ix_base.specs.declared.tree.Spot.{Spot}
-use Rattle.ix_base.specs.Located.{Located, located, marked}
+use Rattle.ix_base.specs.LocatedElements.{Located, located, marked}
 use Rattle.ix_base.specs.Spots.{IsOnOnePage}
-use Rattle.id_table.specs.Held.{Choice, Held, chosen_in}
+use Rattle.id_table.specs.Model.{Choice, Held, chosen_in}
 use Rattle.id_table.specs.Tables.{AreOnOwnPages, all_located}
-use Rattle.scopes.specs.Kept.{Kept}
+use Rattle.scopes.specs.Model.{Kept}
 use Rattle.targets.specs.declared.closing.Page.{Page}
 use Rattle.targets.specs.declared.standing.Links.{Links}
 use Rattle.targets.specs.Choices.{HasChoices}
-use Rattle.targets.specs.Holding.{Keeps, as_paged, names_with}
+use Rattle.targets.specs.Model.{Keeps, as_paged, names_with}
 use Rattle.targets.specs.LinkTables.{AreLinked, AreLinks}
 use Rattle.targets.proofs.ClosingLaws.{part-drop, part_from}
 use Rattle.targets.proofs.RenamedLaws.{choice-renamed, links-renamed, named-after, named-before}

@@ -15,11 +15,11 @@ use Rattle.ix_base.specs.declared.content.OwnName.{OwnName}
 use Rattle.ix_base.specs.declared.content.Unit.{Unit as UnitContent}
 use Rattle.ix_base.specs.Facts.{facts_of}
 use Rattle.ix_base.specs.Once.{in_order}
-use Rattle.ix_base.specs.Sorted.{sorted, text_cmp}
-use Rattle.ix_base.specs.Written.{Markup}
+use Rattle.ix_base.specs.SortedLists.{sorted, text_cmp}
+use Rattle.ix_base.specs.WrittenMarkup.{Markup}
 use Rattle.ix_base.proofs.OnceOrdered.{same_text}
 use Rattle.ix_base.proofs.SortedLemmas.{sorted-same}
-use Rattle.instance_out.specs.Arranged.{arranged, arranged_link, with_arranged_links}
+use Rattle.instance_out.specs.Arrangement.{arranged, arranged_link, with_arranged_links}
 use Rattle.instance_out.specs.Canonical.{Spaces, arcrole_markup, canon, canon_lines, children, content_spaces, context_markup, context_names}
 use Rattle.instance_out.specs.Canonical.{fact_markups, fact_names, first_line, last_line, line, line_cmp, linkbase_markup, lines_with}
 use Rattle.instance_out.specs.Canonical.{link_markup, role_markup, root_line, schema_markup, unit_markup, unit_names}

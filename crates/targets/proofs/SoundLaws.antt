@@ -7,12 +7,12 @@ use Rattle.std.proofs.lemmas.List.Elements.{All-append, All-cons, All-contains, 
 use Rattle.ix_base.proofs.OnceLemmas.{Contains-from_filter, Contains-nil}
 use Rattle.ix_base.specs.Attributes.{is_named, value_of}
 use Rattle.ix_base.specs.Elements.{Placed, below, elements_of, placed_at, tree_at}
-use Rattle.ix_base.specs.Holding.{are_blank, element_alone, elements_in, is_blank, is_end, is_of, named_in, text_alone}
-use Rattle.ix_base.specs.Located.{Located, Paged, is_marked, marked_from, on_page, page_marked}
+use Rattle.ix_base.specs.ElementContent.{are_blank, element_alone, elements_in, is_blank, is_end, is_of, named_in, text_alone}
+use Rattle.ix_base.specs.LocatedElements.{Located, Paged, is_marked, marked_from, on_page, page_marked}
 use Rattle.ix_base.specs.Namespaces.{xmlns_namespace}
 use Rattle.ix_base.specs.NcName.{are_allowed, is_ncname}
 use Rattle.ix_base.specs.Readers.{attr, name_at, token_at}
-use Rattle.ix_base.specs.Resolving.{if_ok, is_unbound, name_of}
+use Rattle.ix_base.specs.ValueNames.{if_ok, is_unbound, name_of}
 use Rattle.ix_base.specs.declared.name_fault.NameFault.TheVariants.{BadForm, Unbound}
 use Rattle.ix_base.specs.Scope.{element_name, has_prefix, is_colon, is_qname, local_of, namespace_of, prefix_of}
 use Rattle.ix_base.specs.Sound.{AreSound, IsSoundAttribute, IsSoundBinding, IsSoundHead, IsSoundName, IsSoundTree}
@@ -20,7 +20,7 @@ use Rattle.ix_base.specs.Steps.{sole}
 use Rattle.ix_base.specs.Token.{token_of}
 use Rattle.ix_base.specs.Trees.{Bound, Named, Nodes, Tree, Valued, none, chars, elem}
 use Rattle.xbrl_parts.proofs.SmallTimes.{chosen, step_ok}
-use Rattle.targets.specs.Clean.{IsClean}
+use Rattle.targets.specs.ValidSets.{IsClean}
 use Rattle.targets.specs.PageSet.{PageSet, elements}
 use Rattle.targets.proofs.AllowedLaws.{allowed-nil, token-allowed}
 use Rattle.targets.proofs.FitLaws.{of-map}

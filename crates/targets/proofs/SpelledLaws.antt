@@ -6,7 +6,7 @@ use Rattle.std.proofs.lemmas.Bool.{and_parts, eqb-true}
 use Rattle.ix_base.specs.declared.content.Arc.{Arc}
 use Rattle.ix_base.specs.declared.content.Footnote.{Footnote}
 use Rattle.ix_base.specs.Escapes.{ae, ae_ref, put}
-use Rattle.ix_base.specs.Written.{attrs_text, close_text}
+use Rattle.ix_base.specs.WrittenMarkup.{attrs_text, close_text}
 use Rattle.instance_out.specs.Canonical.{attr, attr_if}
 use Rattle.instance_out.specs.Elements.{arc_text, footnote_text}
 

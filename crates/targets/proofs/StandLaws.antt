@@ -5,7 +5,7 @@ use Rattle.std.specs.List.{Contains, filter}
 use Rattle.std.proofs.lemmas.Bool.{and_from, eq-eqb, eqb-false, eqb-true, ne_eqb}
 use Rattle.std.proofs.lemmas.List.Elements.{All-head, All-tail, All-weaker, Contains-append_cases}
 use Rattle.ix_base.specs.Elements.{Placed, elements_of}
-use Rattle.ix_base.specs.Located.{Located, Paged, is_marked, marked, marked_from, offset_of, on_page, page_marked, same_place}
+use Rattle.ix_base.specs.LocatedElements.{Located, Paged, is_marked, marked, marked_from, offset_of, on_page, page_marked, same_place}
 use Rattle.ix_base.specs.Sound.{IsSoundTree, Rise}
 use Rattle.ix_base.proofs.OnceLemmas.{Contains-cases, Contains-first, Contains-from_filter, Contains-later, Contains-nil}
 use Rattle.targets.proofs.ForestLaws.{StandOnce}

@@ -7,11 +7,12 @@ use Rattle.std.proofs.lemmas.List.Elements.{filter-append}
 use Rattle.std.proofs.lemmas.Slice.Eq.{bytes_eq-Decides}
 use Rattle.ix_base.specs.Alike.{alike}
 use Rattle.ix_base.specs.Ids.{id_of, tuple_id_of}
-use Rattle.ix_base.specs.Located.{Located, is_text}
+use Rattle.ix_base.specs.LocatedElements.{Located, is_text}
 use Rattle.text_map.specs.Texts.{Texts}
 use Rattle.targets.specs.declared.standing.Links.{Links}
 use Rattle.targets.specs.declared.met_ids.Named.{Named}
-use Rattle.targets.specs.LinkStates.{Link, is_tuple_ref}
+use Rattle.targets.specs.LinkStates.{is_tuple_ref}
+use Rattle.link_ids.specs.Links.{Link}
 use Rattle.targets.specs.LinkTables.{AreFirstOnPages, AreLinked, Counts, IsFirstOnPage, Kept, Known, none, is_none, is_parted, counts_of, found_in, kept_among, kept_from, kept_of, kept_with, named_in, named_of, named_once_more, never, nothing, link_by, with_holder, with_link, names_id, names_tuple_id}
 use Rattle.targets.proofs.CountLaws.{IsHeld, count-same, counts-held, counts-linked, leads-with, link-ends, wait-within}
 use Rattle.targets.proofs.KeptLaws.{kept-append}

@@ -6,7 +6,7 @@ use Rattle.std.proofs.lemmas.Slice.Eq.{bytes_eq-Decides}
 use Rattle.ix_base.specs.Asks.{asks, if_such, only}
 use Rattle.ix_base.specs.Chain.{chain_of, continuation, continued_at, next}
 use Rattle.ix_base.specs.Ids.{holds_id, id_of, one_such, sole}
-use Rattle.ix_base.specs.Located.{Located, is_continuation, is_text}
+use Rattle.ix_base.specs.LocatedElements.{Located, is_continuation, is_text}
 use Rattle.ix_base.proofs.OnceLemmas.{Contains-cases, Contains-first, Contains-from_filter, Contains-nil}
 
 only-is : (xs : List Located) (x : Located) → only xs ≡ Some x → Contains xs x

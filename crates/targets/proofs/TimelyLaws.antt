@@ -2,7 +2,7 @@
 use Rattle.std.proofs.Common.{◌≡◌, subst, ◌≤◌, ◌<◌, nat_lt, ◌&&◌, List, [], ◌∷◌, Some, None, codes, pos, arith}
 use Rattle.std.proofs.lemmas.Bool.{ltb-true}
 use Rattle.ix_base.specs.ContextForm.{context, id_of, whom_of, dims_of, period_of, period_from, instant_of, duration_of, forever_of}
-use Rattle.ix_base.specs.Holding.{are_blank, elements_in, holds_only, is_blank_beside, is_of, named_in, text_alone}
+use Rattle.ix_base.specs.ElementContent.{are_blank, elements_in, holds_only, is_blank_beside, is_of, named_in, text_alone}
 use Rattle.ix_base.specs.Namespaces.{xbrli_namespace}
 use Rattle.ix_base.specs.Steps.{sole}
 use Rattle.ix_base.specs.Times.{end_time, start_time}

@@ -15,25 +15,25 @@ use Rattle.ix_base.specs.declared.rule.Rule.TheVariants as rule
 use Rattle.ix_base.specs.Asks.{asks}
 use Rattle.ix_base.specs.Facts.{Facts, before, facts_of, item, none, tuple}
 use Rattle.ix_base.specs.LinkRules.{lacks_tuple}
-use Rattle.ix_base.specs.Located.{Located, is_fact, is_nil, same_place}
+use Rattle.ix_base.specs.LocatedElements.{Located, is_fact, is_nil, same_place}
 use Rattle.ix_base.specs.Membership.{deepest, is_owned_by, members, order_of, owner}
 use Rattle.ix_base.specs.Orders.{order_cmp}
-use Rattle.ix_base.specs.Sorted.{sorted}
+use Rattle.ix_base.specs.SortedLists.{sorted}
 use Rattle.ix_base.proofs.FactLaws.{before-Item, before-Tuple}
 use Rattle.ix_base.proofs.OnceLemmas.{Contains-first, Contains-from_filter, Contains-later, Contains-nil}
-use Rattle.instance_out.specs.Arranged.{arranged, by_line}
+use Rattle.instance_out.specs.Arrangement.{arranged, by_line}
 use Rattle.instance_out.specs.Canonical.{content_spaces}
 use Rattle.instance_out.specs.Elements.{fact_markup}
 use Rattle.instance_out.specs.Proper.{is_none_nil, nil_is_empty, tuples_fit}
-use Rattle.ix_base.specs.Said.{said_of}
+use Rattle.ix_base.specs.PlainContents.{said_of}
 use Rattle.instance_out.specs.Writable.{depth}
 use Rattle.instance_out.proofs.WritableLaws.{writable-arranged}
-use Rattle.targets.specs.Clean.{IsClean}
+use Rattle.targets.specs.ValidSets.{IsClean}
 use Rattle.targets.specs.Contents.{IsContent, SaysItem, is_outer}
 use Rattle.targets.specs.PageSet.{PageSet, base_at, elements}
 use Rattle.targets.specs.TargetFacts.{AreFacts, members_read, one_less}
 use Rattle.targets.proofs.UnbrokenLaws.{elements-apart, elements-owned, link-unbroken, none-too-deep}
-use Rattle.targets.proofs.ContentLaws.{gathered-writable}
+use Rattle.targets.proofs.ContentLaws.{gathered-writable, outer-shallow}
 use Rattle.targets.proofs.HasLaws.{all-at, from-sorted}
 use Rattle.targets.proofs.MemberLaws.{all-pass}
 
@@ -146,5 +146,6 @@ tuples-fit s clean target c content =
     λ x h. (Contains-from_filter (is_outer (asks es) target) es x h).0 in
     let empty = all-empty (SaysItem (base_at s) es) es (elements-apart s clean) (elements-owned s)
     (λ e h. link-unbroken s clean rule.L8 (7, omega arith, refl) e h) deepest (filter (is_outer (asks es) target) es) outer (facts_of g.facts) facts in
-    let writable = writable-arranged g (gathered-writable (base_at s) es target g (elements-apart s clean) (elements-owned s) (none-too-deep s clean) content.1) in
+    let deep = outer-shallow (base_at s) es target (facts_of g.facts) (elements-apart s clean) (elements-owned s) (none-too-deep s clean) facts in
+    let writable = writable-arranged g (gathered-writable es target g content.1.contexts deep) in
     subst (λ x. tuples_fit (said_of x) ≡ true) (sym content.2) (fits-of (arranged g) (empty-arranged g empty) writable.tuples)

@@ -6,10 +6,10 @@ use Rattle.ix_base.specs.declared.rule.Rule.TheVariants as rule
 use Rattle.ix_base.specs.Asks.{asks}
 use Rattle.ix_base.specs.ElementRules as element
 use Rattle.ix_base.specs.LinkRules.{breaking, breaks, found_at, link_rules}
-use Rattle.ix_base.specs.Located.{Located, same_place}
+use Rattle.ix_base.specs.LocatedElements.{Located, same_place}
 use Rattle.ix_base.specs.Membership.{owner}
 use Rattle.ix_base.specs.Rows.{row}
-use Rattle.targets.specs.Clean.{IsClean}
+use Rattle.targets.specs.ValidSets.{IsClean}
 use Rattle.targets.specs.PageSet.{PageSet, base_at, elements}
 use Rattle.targets.proofs.AboveLaws.{owner_marked}
 use Rattle.targets.proofs.FitLaws.{flat-none, none-broken, row-none}

@@ -8,7 +8,7 @@ use Rattle.ix_base.proofs.OnceLemmas.{Contains-nil, Contains-cases}
 use Rattle.ix_base.specs.declared.breach.Found.{Found}
 use Rattle.ix_base.specs.declared.content.Item.{Item}
 use Rattle.ix_base.specs.declared.rule.Rule.{Rule}
-use Rattle.ix_base.specs.Located.{Located}
+use Rattle.ix_base.specs.LocatedElements.{Located}
 use Rattle.targets.specs.Faults.{AreOfItems, fault_by, rule_said, value_fault}
 use Rattle.targets.proofs.FitLaws.{both-none}
 

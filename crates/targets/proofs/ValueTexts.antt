@@ -13,20 +13,20 @@ use Rattle.ix_base.specs.Asks.{asks, only}
 use Rattle.ix_base.specs.Chain.{chain, chain_of, continuation, continued_at, next}
 use Rattle.ix_base.specs.Forms.{is_canonical_decimal, is_zero}
 use Rattle.ix_base.specs.Ids.{holds_id}
-use Rattle.ix_base.specs.Located.{Located, is_continuation}
+use Rattle.ix_base.specs.LocatedElements.{Located, is_continuation}
 use Rattle.ix_base.specs.Markup.{markup_along, plain_along, raw}
 use Rattle.ix_base.specs.Namespaces.{xhtml_namespace}
 use Rattle.ix_base.specs.NcName.{are_allowed}
 use Rattle.ix_base.specs.Readers.{escapes}
 use Rattle.ix_base.specs.Trees.{Named, Tree}
-use Rattle.ix_base.specs.Viewed.{view}
+use Rattle.ix_base.specs.FactViews.{view}
 use Rattle.facts.proofs.PlainLaws.{said-plain}
 use Rattle.facts.specs.FractionValue.{IsFractionValue}
 use Rattle.facts.specs.ItemValue.{IsPlain, IsTextBy, IsValueBy, ItemText, item_text}
 use Rattle.facts.specs.NumberValue.{IsNumberValue, number_by, number_text}
-use Rattle.instance_out.specs.Holds.{value_texts}
+use Rattle.instance_out.specs.Holdings.{value_texts}
 use Rattle.instance_out.specs.Proper.{is_ratio}
-use Rattle.targets.specs.Clean.{IsClean}
+use Rattle.targets.specs.ValidSets.{IsClean}
 use Rattle.targets.specs.PageSet.{PageSet, base_at, elements}
 use Rattle.targets.proofs.AsciiLaws.{decimal-allowed, plain-allowed}
 use Rattle.targets.proofs.FromElements.{such-there}

@@ -6,10 +6,10 @@ use Rattle.std.proofs.lemmas.List.Sorted.{IsPermutation-append, IsPermutation-re
 use Rattle.ix_base.specs.declared.breach.Found.{Found}
 use Rattle.ix_base.specs.declared.content.Item.{Item}
 use Rattle.ix_base.specs.declared.rule.Rule.{Rule}
-use Rattle.ix_base.specs.Located.{Located}
+use Rattle.ix_base.specs.LocatedElements.{Located}
 use Rattle.ix_base.proofs.ExchangeLemmas.{by_exchanges}
 use Rattle.footnotes.proofs.NotesSame.{swap_parts}
-use Rattle.id_table.specs.Moved.{moved}
+use Rattle.id_table.specs.Renumbering.{moved}
 use Rattle.targets.specs.Faults.{AreOfItems, fault_by, rule_said, value_fault}
 use Rattle.targets.proofs.FaultsMoved.{found_moved}
 

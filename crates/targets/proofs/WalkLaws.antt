@@ -6,9 +6,9 @@ use Rattle.std.proofs.lemmas.List.Concat.{flat_map-cons}
 use Rattle.ix_base.specs.declared.content.Item.{Item}
 use Rattle.ix_base.specs.Facts.{Facts, none, item, tuple}
 use Rattle.ix_base.specs.Ids.{id_of}
-use Rattle.ix_base.specs.Located.{Located, is_tuple}
+use Rattle.ix_base.specs.LocatedElements.{Located, is_tuple}
 use Rattle.ix_base.specs.Membership.{members}
-use Rattle.instance_out.specs.Holds.{fact_ids, items_in}
+use Rattle.instance_out.specs.Holdings.{fact_ids, items_in}
 use Rattle.instance_out.specs.Lists.{of_option}
 use Rattle.targets.specs.TargetFacts.{AreFacts, members_read, one_less}
 use Rattle.targets.proofs.ForestLaws.{walk}

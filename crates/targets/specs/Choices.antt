@@ -2,8 +2,8 @@
 use Rattle.std.specs.Prelude.{◌≡◌, ◌&&◌, ℕ, List, Option, None, if◌then◌else◌}
 use Rattle.ix_base.specs.Asks.{are_many, asks}
 use Rattle.ix_base.specs.Ids.{agree, foremost_of, holders, holds_id}
-use Rattle.ix_base.specs.Located.{Located}
-use Rattle.id_table.specs.Held.{Held, chosen}
+use Rattle.ix_base.specs.LocatedElements.{Located}
+use Rattle.id_table.specs.Model.{Held, chosen}
 
 -- what is to be chosen for an id: the first of those that have it by the names of their pages, where several have it and agree
 abbrev pub choice : (ℕ → List ℕ) → List Located → List ℕ → Option Located

@@ -16,19 +16,19 @@ use Rattle.ix_base.specs.ContextForm.{context}
 use Rattle.ix_base.specs.Facts.{facts_of}
 use Rattle.ix_base.specs.Forms.{is_empty}
 use Rattle.ix_base.specs.Ids.{context_for, unit_for}
-use Rattle.ix_base.specs.Kinds.{kind_of}
 use Rattle.ix_base.specs.LinkRules.{address_of, is_schema_for, target_above, target_of}
-use Rattle.ix_base.specs.Located.{Located, head_of, is_fact, is_item, is_kind, token_at}
+use Rattle.ix_base.specs.LocatedElements.{Located, head_of, is_fact, is_item, is_kind}
 use Rattle.ix_base.specs.Membership.{deepest, owner}
 use Rattle.ix_base.specs.Namespaces.{xlink_namespace}
 use Rattle.ix_base.specs.Once.{in_order}
 use Rattle.ix_base.specs.Rows.{row}
-use Rattle.ix_base.specs.Sorted.{text_cmp}
+use Rattle.ix_base.specs.SortedLists.{text_cmp}
 use Rattle.ix_base.specs.Token.{token_of}
 use Rattle.ix_base.specs.UnitForm.{unit}
-use Rattle.facts.specs.ItemValue.{IsItem, unit_of}
+use Rattle.facts.specs.ItemValue.{IsItem}
 use Rattle.footnotes.specs.FootnoteLinks.{notes}
-use Rattle.instance_out.specs.Arranged.{arranged}
+use Rattle.instance_out.specs.Arrangement.{arranged}
+use Rattle.link_ids.specs.Links.{context_named, unit_named}
 use Rattle.targets.specs.RoleAddresses.{refers_to}
 use Rattle.targets.specs.TargetFacts.{AreFacts}
 
@@ -64,12 +64,6 @@ linkbase_at bases e = record {
 
 abbrev pub is_item_of : List ℕ → Located → Bool
 is_item_of target e = is_item e && bytes_eq target (target_of e)
-
-abbrev pub context_named : Located → Option (List ℕ)
-context_named e = token_at (codes "contextRef") e
-
-abbrev pub unit_named : Located → Option (List ℕ)
-unit_named e = unit_of (kind_of e.placed) e.placed.tree
 
 -- the ids that the items of a target name, in order, each once
 abbrev pub ids_named : (Located → Option (List ℕ)) → List ℕ → List Located → List (List ℕ)

@@ -8,7 +8,7 @@ use Rattle.ix_base.specs.declared.rule.Rule.TheVariants as rule
 use Rattle.ix_base.specs.Asks.{Asks}
 use Rattle.ix_base.specs.ElementRules.{found_on}
 use Rattle.ix_base.specs.LinkRules.{broken, broken_at, found_at, has_two_addresses}
-use Rattle.ix_base.specs.Located.{Located, Paged, is_item, is_kind, is_nil}
+use Rattle.ix_base.specs.LocatedElements.{Located, Paged, is_item, is_kind, is_nil}
 use Rattle.ix_base.specs.Readers.{attr}
 use Rattle.ix_base.specs.Rows.{row}
 use Rattle.facts.specs.ItemValue.{IsItem}

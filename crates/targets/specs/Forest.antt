@@ -3,7 +3,7 @@ use Rattle.std.specs.Prelude.{ℕ, suc, List, [], ◌∷◌, map}
 use Rattle.std.specs.Borrow.{Bor}
 use Rattle.ix_base.specs.declared.limits.TheConstants.{DEEPEST_ELEMENT}
 use Rattle.ix_base.specs.declared.tree.Element.{Element}
-use Rattle.ix_base.specs.Located.{Paged}
+use Rattle.ix_base.specs.LocatedElements.{Paged}
 use Rattle.ix_base.specs.Sound.{IsSoundRoot}
 use Rattle.ix_base.specs.Trees.{Tree, tree_of}
 use Rattle.page_tree.specs.Page.{page}

@@ -1,10 +1,11 @@
 -- By what elements are put together.
 use Rattle.std.specs.Prelude.{◌≡◌, ◌&&◌, ℕ, Bool, List, filter, Option, Some, None, if◌then◌else◌, bytes_eq}
 use Rattle.ix_base.specs.declared.kind.Kind.TheVariants as kind
-use Rattle.ix_base.specs.Located.{Located, is_fact, is_kind}
+use Rattle.ix_base.specs.LocatedElements.{Located, is_fact, is_kind}
 use Rattle.ix_base.specs.LinkRules.{is_schema_for, target_above, target_of}
 use Rattle.id_table.specs.Tables.{all_located, spots_at}
-use Rattle.targets.specs.Contents.{context_named, is_linkbase_for, unit_named}
+use Rattle.targets.specs.Contents.{is_linkbase_for}
+use Rattle.link_ids.specs.Links.{context_named, unit_named}
 use Rattle.targets.specs.declared.groups.Groups.{Groups}
 use Rattle.targets.specs.declared.parts.Ref.{Ref}
 use Rattle.targets.specs.declared.parts.Ref.TheVariants.{Context, Unit}

@@ -4,14 +4,15 @@ use Rattle.std.specs.Option.{option_map_or}
 use Rattle.std.specs.Ordering.{is_lt}
 use Rattle.ix_base.specs.Alike.{alike}
 use Rattle.ix_base.specs.Ids.{id_of, place_cmp, tuple_id_of}
-use Rattle.ix_base.specs.Located.{Located, is_text, located}
+use Rattle.ix_base.specs.LocatedElements.{Located, is_text, located}
 use Rattle.ix_base.specs.Spots.{IsOnOnePage}
 use Rattle.text_map.specs.Texts.{Texts, get_in}
 use Rattle.targets.specs.declared.standing.Links.{Links}
 use Rattle.targets.specs.declared.met_ids.Named.{Named}
 use Rattle.targets.specs.declared.agreeing.Standing.{Standing}
 use Rattle.targets.specs.declared.agreeing.Standing.TheVariants as code
-use Rattle.targets.specs.LinkStates.{Link, is_tuple_ref, links}
+use Rattle.targets.specs.LinkStates.{is_tuple_ref}
+use Rattle.link_ids.specs.Links.{Link, links}
 
 -- What is kept of an id: no element has it; some have it and agree, with the first of them by page and offset, and the one that came
 -- last; or several have it and don't agree.

@@ -2,7 +2,7 @@
 use Rattle.std.specs.Prelude.{ℕ, List, map}
 use Rattle.ix_base.specs.Address.{page_base}
 use Rattle.ix_base.specs.Asks.{Asks, asks}
-use Rattle.ix_base.specs.Located.{Located, Paged, base_in, marked}
+use Rattle.ix_base.specs.LocatedElements.{Located, Paged, base_in, marked}
 
 -- pages in the order in which they came, and the base to which their names are joined
 pub record PageSet : Type 0 where

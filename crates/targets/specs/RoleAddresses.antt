@@ -5,7 +5,7 @@ use Rattle.ix_base.specs.declared.content.RoleRef.{RoleRef}
 use Rattle.ix_base.specs.declared.kind.Kind.{Kind}
 use Rattle.ix_base.specs.declared.kind.Kind.TheVariants as kind
 use Rattle.ix_base.specs.LinkRules.{address_of, uri_of}
-use Rattle.ix_base.specs.Located.{Located, is_kind, is_text}
+use Rattle.ix_base.specs.LocatedElements.{Located, is_kind, is_text}
 use Rattle.targets.specs.declared.addresses.SeenRoles.{SeenRoles}
 use Rattle.targets.specs.declared.addresses.Seen.{Seen}
 

@@ -3,7 +3,7 @@ use Rattle.std.specs.Prelude.{◌≡◌, ◌≢◌, ◌⊎◌, ℕ, List, [], ma
 use Rattle.ix_base.specs.declared.breach.Found.{Found}
 use Rattle.ix_base.specs.Breaches.{named, report_of}
 use Rattle.std.specs.List.Sorted.{IsPermutation}
-use Rattle.ix_base.specs.Located.{Located, Paged}
+use Rattle.ix_base.specs.LocatedElements.{Located, Paged}
 use Rattle.instance_out.specs.Writable.{IsWritable}
 use Rattle.targets.specs.declared.outcome.Outcome.{Outcome}
 use Rattle.targets.specs.declared.outcome.Outcome.TheVariants.{Broken, Whole}

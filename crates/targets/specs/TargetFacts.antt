@@ -5,7 +5,7 @@ use Rattle.ix_base.specs.declared.content.Fact.{Fact}
 use Rattle.ix_base.specs.declared.content.Item.{Item}
 use Rattle.ix_base.specs.Facts.{Facts, none, item, tuple, before}
 use Rattle.ix_base.specs.Ids.{id_of}
-use Rattle.ix_base.specs.Located.{Located, is_nil, is_tuple}
+use Rattle.ix_base.specs.LocatedElements.{Located, is_nil, is_tuple}
 use Rattle.ix_base.specs.Membership.{fact_name, members}
 
 -- one less, where there is one

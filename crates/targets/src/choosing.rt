@@ -1,15 +1,16 @@
 //! What is chosen for ids that several contexts, or several units, have that agree.
 ghost use Rattle.std.specs.Prelude.{◌≡◌, ◌≤◌, ℕ, List, OnOk, IfSome, false, length, option_map, take, if◌then◌else◌};
 ghost use Rattle.ix_base.specs.Ids.{holds_id};
-ghost use Rattle.ix_base.specs.Located.{located};
+ghost use Rattle.ix_base.specs.LocatedElements.{located};
 ghost use Rattle.ix_base.specs.Spots.{IsOnOnePage};
-ghost use Rattle.id_table.specs.Held.{chosen};
+ghost use Rattle.id_table.specs.Model.{chosen};
 ghost use Rattle.targets.specs.Choices.{HasChoices, choice};
 ghost use Rattle.targets.specs.LinkTables.{AreLinks};
 
 use crate::standing::Links;
 use id_table::Index;
-use ix_base::{NoMemory, Spot, id_at};
+use ix_base::{NoMemory, Spot};
+use link_ids::id_at;
 
 /// What is to be chosen for an id: where several elements have it and agree, the first of them.
 fn choice_for<'a>(index: &Index<'a>, links: &Links<'a>, id: &str) -> Option<&'a Spot<'a>>

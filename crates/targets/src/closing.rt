@@ -1,16 +1,16 @@
 //! What the pages of a set come to, class by class.
 ghost use Rattle.std.specs.Prelude.{◌≡◌, [], map, IfOk};
 ghost use Rattle.targets.specs.Faults.{element_faults, link_faults};
-ghost use Rattle.targets.specs.Holding.{KeepsAll, set_of};
-ghost use Rattle.targets.specs.Linked.{IsLinked, IsShallow, IsValued, all_of, bases_of};
-ghost use Rattle.ix_base.specs.Located.{base_in};
-ghost use Rattle.ix_base.specs.Once.{SameMembers};
+ghost use Rattle.targets.specs.Model.{KeepsAll, set_of};
+ghost use Rattle.ix_base.specs.LocatedElements.{base_in};
 ghost use Rattle.targets.specs.SetOutcomes.{AreAllTargets, CanBeWritten, ComesOfValues, ComesTo, FirstOf};
 ghost use Rattle.targets.specs.PageSet as spec;
 ghost use Rattle.targets.specs.PageSet.{elements, page_bases};
 
 use crate::contents::targets_of;
-use crate::links::{Linked, link_all};
+use crate::groups::groups_of;
+use crate::linked::{LinkedSet, ValuedSet};
+use crate::links::link_all;
 use crate::outcome::Outcome;
 use crate::values::value_faults;
 use bumpalo::Bump;
@@ -49,14 +49,11 @@ fn element_faults_of(alloc: Global, pages: &Pages<'_, '_>) -> Result<Breaches, N
 }
 
 /// All targets of a set.
-fn whole(alloc: Global, linked: &Linked<'_, '_>) -> Result<Outcome, NoMemory>
-    requires linked { IsLinked linked.now }
-    requires valued { IsValued linked.now }
-    requires shallow { IsShallow linked.now }
-    ensures whole { IfOk result (AreAllTargets (base_in (bases_of linked.now)) (all_of linked.now)) }
+fn whole(alloc: Global, valued: &ValuedSet<'_, '_>) -> Result<Outcome, NoMemory>
+    ensures whole { IfOk result (AreAllTargets (base_in valued.now.bases) valued.now.elements) }
     ensures written { IfOk result CanBeWritten }
 {
-    let targets = targets_of(alloc, linked)?;
+    let targets = targets_of(alloc, valued)?;
     Ok(Outcome::Whole(targets))
 }
 
@@ -64,45 +61,21 @@ fn whole(alloc: Global, linked: &Linked<'_, '_>) -> Result<Outcome, NoMemory>
 fn comes_of_values(
     alloc: Global,
     pages: &Pages<'_, '_>,
-    linked: &Linked<'_, '_>,
+    set: LinkedSet<'_, '_>,
     names: &[Text],
 ) -> Result<Outcome, NoMemory>
     requires keeps { KeepsAll pages.now }
-    requires linked { IsLinked linked.now }
-    requires elements { all_of linked.now ≡ elements (set_of pages.now) }
-    requires bases { bases_of linked.now ≡ page_bases (set_of pages.now) }
-    requires shallow { IsShallow linked.now }
+    requires elements { set.elements ≡ elements (set_of pages.now) }
+    requires bases { set.bases ≡ page_bases (set_of pages.now) }
     requires names { names.now ≡ spec.names (set_of pages.now) }
     ensures comes { IfOk result (ComesOfValues (set_of pages.now)) }
     ensures written { IfOk result CanBeWritten }
 {
-    let found = value_faults(alloc, linked)?;
+    let found = value_faults(alloc, &set)?;
     if found.is_empty() {
-        return whole(alloc, linked);
-    }
-    Outcome::broken(found, names)
-}
-
-/// What pages come to whose links were looked at, and break these rules.
-fn comes_of_linked(
-    alloc: Global,
-    pages: &Pages<'_, '_>,
-    linked: &Linked<'_, '_>,
-    found: Breaches,
-    names: &[Text],
-) -> Result<Outcome, NoMemory>
-    requires keeps { KeepsAll pages.now }
-    requires linked { found ≡ [] → IsLinked linked.now }
-    requires elements { all_of linked.now ≡ elements (set_of pages.now) }
-    requires bases { bases_of linked.now ≡ page_bases (set_of pages.now) }
-    requires shallow { found ≡ [] → IsShallow linked.now }
-    requires names { names.now ≡ spec.names (set_of pages.now) }
-    requires found { SameMembers found (link_faults (set_of pages.now)) }
-    ensures comes { IfOk result (FirstOf names.now (link_faults (set_of pages.now)) (ComesOfValues (set_of pages.now))) }
-    ensures written { IfOk result CanBeWritten }
-{
-    if found.is_empty() {
-        return comes_of_values(alloc, pages, linked, names);
+        let groups = groups_of(alloc, set.linked.index)?;
+        let valued = ValuedSet { set, groups };
+        return whole(alloc, &valued);
     }
     Outcome::broken(found, names)
 }
@@ -122,7 +95,11 @@ fn comes_of_links<'a>(
 {
     let mut found = Breaches::new(alloc);
     let linked = link_all(alloc, arena, pages.index, pages.bases, &mut found)?;
-    comes_of_linked(alloc, pages, &linked, found, names)
+    if found.is_empty() {
+        let set = LinkedSet { linked };
+        return comes_of_values(alloc, pages, set, names);
+    }
+    Outcome::broken(found, names)
 }
 
 /// The names of pages.

@@ -1,24 +1,25 @@
 //! The contents of the targets of a set.
-ghost use Rattle.std.specs.Prelude.{◌≡◌, ◌++◌, ◌∷◌, [], All, map, filter, not, is_some, IfOk, OnOk};
+ghost use Rattle.std.specs.Prelude.{◌≡◌, ◌≤◌, ◌++◌, ◌∷◌, [], All, map, filter, not, is_some, IfOk, OnOk};
 ghost use Rattle.std.specs.List.{flat_map};
 ghost use Rattle.ix_base.specs.Asks.{asks};
-ghost use Rattle.ix_base.specs.Located.{base_in, located};
+ghost use Rattle.ix_base.specs.LocatedElements.{base_in, located};
 ghost use Rattle.ix_base.specs.LinkRules as rules;
 ghost use Rattle.ix_base.specs.Facts.{facts_of};
-ghost use Rattle.ix_base.specs.Membership.{deepest, owner};
+ghost use Rattle.ix_base.specs.Membership.{deepest};
+ghost use Rattle.ix_base.specs.declared.limits.TheConstants.{DEEPEST_TUPLE};
 ghost use Rattle.id_table.specs.Tables.{all_located};
-ghost use Rattle.instance_out.specs.Writable.{IsWritable};
+ghost use Rattle.instance_out.specs.Writable.{IsWritable, depth};
+ghost use Rattle.tuples.specs.Model.{owner_in};
 ghost use Rattle.targets.specs.Contents as spec;
 ghost use Rattle.targets.specs.Contents.{IsContent, IsGathered, target_names};
-ghost use Rattle.targets.specs.Groups.{AreGroups};
-ghost use Rattle.targets.specs.Linked.{IsLinked, IsShallow, IsValued, SaysIn, all_of, bases_of};
+ghost use Rattle.targets.specs.LinkedSets.{SaysIn};
 ghost use Rattle.targets.specs.SetOutcomes.{AreTargets};
-ghost use Rattle.targets.specs.Seen.{values_of};
+ghost use Rattle.targets.specs.Visits.{values_of};
 ghost use Rattle.targets.specs.TargetFacts.{AreFacts};
 
 use crate::facts_in::facts_at;
-use crate::groups::{Groups, at, groups_of};
-use crate::links::Linked;
+use crate::groups::at;
+use crate::linked::ValuedSet;
 use crate::notes::{arcroles_for, notes_for, roles_for};
 use crate::outcome::Target;
 use crate::parts::{Ref, contexts_of, ids_named, units_of};
@@ -32,18 +33,18 @@ use ix_base::{
     kind_of,
 };
 use std::alloc::Global;
+use tuples::Members;
 
 /// Adds an element that has no owner.
 fn push_outer<'a>(
-    linked: &Linked<'_, 'a>,
+    members: &Members<'a>,
     spot: &'a Spot<'a>,
     outer: &mut Vec<&'a Spot<'a>>,
 ) -> Result<(), NoMemory>
-    requires { IsLinked linked.now }
     ensures { OnOk result (all_located outer.new.items ≡ all_located outer.old.items
-        ++ filter (λ e. not (is_some (owner (asks (all_of linked.now)) e))) (located spot.entry.now ∷ [])) }
+        ++ filter (λ e. not (is_some (owner_in members.now e))) (located spot.entry.now ∷ [])) }
 {
-    if linked.members.owner(spot).is_none() {
+    if members.owner(spot).is_none() {
         outer.push(spot)?;
     }
     Ok(())
@@ -52,16 +53,15 @@ fn push_outer<'a>(
 /// Those of some elements that have no owner.
 fn outer_of<'a>(
     alloc: Global,
-    linked: &Linked<'_, 'a>,
+    members: &Members<'a>,
     spots: &[&'a Spot<'a>],
 ) -> Result<Vec<&'a Spot<'a>>, NoMemory>
-    requires { IsLinked linked.now }
     ensures { IfOk result (λ v. all_located v.items
-        ≡ filter (λ e. not (is_some (owner (asks (all_of linked.now)) e))) (all_located spots.now)) }
+        ≡ filter (λ e. not (is_some (owner_in members.now e))) (all_located spots.now)) }
 {
     let mut outer = Vec::new(alloc);
     for spot in spots {
-        push_outer(linked, *spot, &mut outer)?;
+        push_outer(members, *spot, &mut outer)?;
     }
     Ok(outer)
 }
@@ -69,105 +69,92 @@ fn outer_of<'a>(
 /// The addresses of the schemas of a target.
 fn schemas_for<'a>(
     alloc: Global,
-    linked: &Linked<'_, 'a>,
-    groups: &Groups<'a>,
+    valued: &ValuedSet<'_, 'a>,
     target: &str,
 ) -> Result<List<Text>, NoMemory>
-    requires linked { IsLinked linked.now }
-    requires groups { AreGroups groups.now (all_of linked.now) }
     ensures { IfOk result (λ l. l
-        ≡ map (rules.address_of (base_in (bases_of linked.now))) (filter (rules.is_schema_for target.now) (all_of linked.now))) }
+        ≡ map (rules.address_of (base_in valued.now.bases)) (filter (rules.is_schema_for target.now) valued.now.elements)) }
 {
-    let spots = at(alloc, &groups.schemas, target)?;
-    addresses_at(alloc, linked.bases, spots.as_slice())
+    let spots = at(alloc, &valued.groups.schemas, target)?;
+    let set = &valued.set;
+    addresses_at(alloc, set.linked.bases, spots.as_slice())
 }
 
 /// The references to linkbases of a target.
 fn linkbases_for<'a>(
     alloc: Global,
-    linked: &Linked<'_, 'a>,
-    groups: &Groups<'a>,
+    valued: &ValuedSet<'_, 'a>,
     target: &str,
 ) -> Result<List<Linkbase>, NoMemory>
-    requires linked { IsLinked linked.now }
-    requires groups { AreGroups groups.now (all_of linked.now) }
     ensures { IfOk result (λ l. l
-        ≡ map (spec.linkbase_at (base_in (bases_of linked.now))) (filter (spec.is_linkbase_for target.now) (all_of linked.now))) }
+        ≡ map (spec.linkbase_at (base_in valued.now.bases)) (filter (spec.is_linkbase_for target.now) valued.now.elements)) }
 {
-    let spots = at(alloc, &groups.linkbases, target)?;
-    linkbases_at(alloc, linked.bases, spots.as_slice())
+    let spots = at(alloc, &valued.groups.linkbases, target)?;
+    let set = &valued.set;
+    linkbases_at(alloc, set.linked.bases, spots.as_slice())
 }
 
 /// The contexts that the items of a target name.
 fn contexts_for<'a>(
     alloc: Global,
-    linked: &Linked<'_, 'a>,
-    groups: &Groups<'a>,
+    valued: &ValuedSet<'_, 'a>,
     target: &str,
 ) -> Result<List<Context>, NoMemory>
-    requires linked { IsLinked linked.now }
-    requires groups { AreGroups groups.now (all_of linked.now) }
-    ensures { IfOk result (λ l. l ≡ spec.contexts_of (all_of linked.now) target.now) }
+    ensures { IfOk result (λ l. l ≡ spec.contexts_of valued.now.elements target.now) }
 {
-    let facts = at(alloc, &groups.facts, target)?;
+    let facts = at(alloc, &valued.groups.facts, target)?;
     let ids = ids_named(alloc, Ref::Context, facts.as_slice())?;
-    contexts_of(alloc, linked.index, ids.as_slice())
+    let set = &valued.set;
+    contexts_of(alloc, set.linked.index, ids.as_slice())
 }
 
 /// The units that the items of a target name.
 fn units_for<'a>(
     alloc: Global,
-    linked: &Linked<'_, 'a>,
-    groups: &Groups<'a>,
+    valued: &ValuedSet<'_, 'a>,
     target: &str,
 ) -> Result<List<Unit>, NoMemory>
-    requires linked { IsLinked linked.now }
-    requires groups { AreGroups groups.now (all_of linked.now) }
-    ensures { IfOk result (λ l. l ≡ spec.units_of (all_of linked.now) target.now) }
+    ensures { IfOk result (λ l. l ≡ spec.units_of valued.now.elements target.now) }
 {
-    let facts = at(alloc, &groups.facts, target)?;
+    let facts = at(alloc, &valued.groups.facts, target)?;
     let ids = ids_named(alloc, Ref::Unit, facts.as_slice())?;
-    units_of(alloc, linked.index, ids.as_slice())
+    let set = &valued.set;
+    units_of(alloc, set.linked.index, ids.as_slice())
 }
 
 /// The facts of a target, members within their tuples.
 fn facts_for<'a>(
     alloc: Global,
-    linked: &Linked<'_, 'a>,
-    groups: &Groups<'a>,
+    valued: &ValuedSet<'_, 'a>,
     target: &str,
 ) -> Result<List<Fact>, NoMemory>
-    requires linked { IsLinked linked.now }
-    requires valued { IsValued linked.now }
-    requires groups { AreGroups groups.now (all_of linked.now) }
-    ensures { IfOk result (λ l. AreFacts (SaysIn linked.now) (all_of linked.now) deepest
-        (filter (spec.is_outer (asks (all_of linked.now)) target.now) (all_of linked.now)) (facts_of l)) }
+    ensures facts { IfOk result (λ l. AreFacts (SaysIn valued.now) valued.now.elements deepest
+        (filter (spec.is_outer (asks valued.now.elements) target.now) valued.now.elements) (facts_of l)) }
+    ensures shallow { IfOk result (λ l. depth (facts_of l) ≤ DEEPEST_TUPLE) }
 {
-    let facts = at(alloc, &groups.facts, target)?;
-    let outer = outer_of(alloc, linked, facts.as_slice())?;
-    facts_at(alloc, linked, outer.as_slice(), DEEPEST_TUPLE)
+    let facts = at(alloc, &valued.groups.facts, target)?;
+    let set = &valued.set;
+    let outer = outer_of(alloc, &set.linked.members, facts.as_slice())?;
+    facts_at(alloc, valued, outer.as_slice(), DEEPEST_TUPLE)
 }
 
 /// What the elements of a set say of a target, each list as they come.
 fn gathered<'a>(
     alloc: Global,
-    linked: &Linked<'_, 'a>,
-    groups: &Groups<'a>,
+    valued: &ValuedSet<'_, 'a>,
     target: &str,
 ) -> Result<Content, NoMemory>
-    requires linked { IsLinked linked.now }
-    requires valued { IsValued linked.now }
-    requires groups { AreGroups groups.now (all_of linked.now) }
-    ensures { IfOk result (IsGathered (base_in (bases_of linked.now)) (all_of linked.now) target.now) }
+    ensures gathered { IfOk result (IsGathered (base_in valued.now.bases) valued.now.elements target.now) }
+    ensures writable { IfOk result IsWritable }
 {
-    let schemas = schemas_for(alloc, linked, groups, target)?;
-    let linkbases = linkbases_for(alloc, linked, groups, target)?;
-    let contexts = contexts_for(alloc, linked, groups, target)?;
-    let units = units_for(alloc, linked, groups, target)?;
-    let facts = facts_for(alloc, linked, groups, target)?;
-    let notes = notes_for(alloc, linked, target)?;
-    let roles = roles_for(alloc, linked, notes.as_slice())?;
-    let arcroles = arcroles_for(alloc, linked, notes.as_slice())?;
+    let schemas = schemas_for(alloc, valued, target)?;
+    let linkbases = linkbases_for(alloc, valued, target)?;
+    let contexts = contexts_for(alloc, valued, target)?;
+    let units = units_for(alloc, valued, target)?;
+    let facts = facts_for(alloc, valued, target)?;
+    let notes = notes_for(alloc, &valued.set, target)?;
+    let roles = roles_for(alloc, &valued.set, notes.as_slice())?;
+    let arcroles = arcroles_for(alloc, &valued.set, notes.as_slice())?;
     Ok(Content {
         notes,
         roles,
@@ -183,18 +170,13 @@ fn gathered<'a>(
 /// The content of a target.
 fn content_of<'a>(
     alloc: Global,
-    linked: &Linked<'_, 'a>,
-    groups: &Groups<'a>,
+    valued: &ValuedSet<'_, 'a>,
     target: &str,
 ) -> Result<Content, NoMemory>
-    requires groups { AreGroups groups.now (all_of linked.now) }
-    requires linked { IsLinked linked.now }
-    requires valued { IsValued linked.now }
-    requires shallow { IsShallow linked.now }
-    ensures content { IfOk result (IsContent (base_in (bases_of linked.now)) (all_of linked.now) target.now) }
+    ensures content { IfOk result (IsContent (base_in valued.now.bases) valued.now.elements target.now) }
     ensures written { IfOk result IsWritable }
 {
-    let content = gathered(alloc, linked, groups, target)?;
+    let content = gathered(alloc, valued, target)?;
     arrange(alloc, content)
 }
 
@@ -230,55 +212,45 @@ fn names_of<'a>(alloc: Global, index: &Index<'a>) -> Result<Vec<&'a str>, NoMemo
 /// A target with its content.
 fn target_named<'a>(
     alloc: Global,
-    linked: &Linked<'_, 'a>,
-    groups: &Groups<'a>,
+    valued: &ValuedSet<'_, 'a>,
     name: &str,
 ) -> Result<Target, NoMemory>
-    requires linked { IsLinked linked.now }
-    requires valued { IsValued linked.now }
-    requires shallow { IsShallow linked.now }
-    requires groups { AreGroups groups.now (all_of linked.now) }
     ensures name { IfOk result (λ t. t.name ≡ name.now) }
-    ensures content { IfOk result (λ t. IsContent (base_in (bases_of linked.now)) (all_of linked.now) t.name t.content) }
+    ensures content { IfOk result (λ t. IsContent (base_in valued.now.bases) valued.now.elements t.name t.content) }
     ensures written { IfOk result (λ t. IsWritable t.content) }
 {
     Ok(Target {
         name: Text::of(alloc, name)?,
-        content: content_of(alloc, linked, groups, name)?,
+        content: content_of(alloc, valued, name)?,
     })
 }
 
 /// The targets of these names.
 fn targets_named<'a>(
     alloc: Global,
-    linked: &Linked<'_, 'a>,
-    groups: &Groups<'a>,
+    valued: &ValuedSet<'_, 'a>,
     names: &[&str],
 ) -> Result<List<Target>, NoMemory>
-    requires linked { IsLinked linked.now }
-    requires valued { IsValued linked.now }
-    requires shallow { IsShallow linked.now }
-    requires groups { AreGroups groups.now (all_of linked.now) }
-    ensures targets { IfOk result (AreTargets (base_in (bases_of linked.now)) (all_of linked.now) (values_of names.now)) }
+    ensures targets { IfOk result (AreTargets (base_in valued.now.bases) valued.now.elements (values_of names.now)) }
     ensures written { IfOk result (All (λ t. IsWritable t.content)) }
 {
     let mut targets = List::new(alloc);
     for name in names {
-        let target = target_named(alloc, linked, groups, *name)?;
+        let target = target_named(alloc, valued, *name)?;
         targets.push(target)?;
     }
     Ok(targets)
 }
 
 /// The targets of a set, each with its content.
-pub(crate) fn targets_of(alloc: Global, linked: &Linked<'_, '_>) -> Result<List<Target>, NoMemory>
-    requires linked { IsLinked linked.now }
-    requires valued { IsValued linked.now }
-    requires shallow { IsShallow linked.now }
-    ensures targets { IfOk result (AreTargets (base_in (bases_of linked.now)) (all_of linked.now) (target_names (all_of linked.now))) }
+pub(crate) fn targets_of(
+    alloc: Global,
+    valued: &ValuedSet<'_, '_>,
+) -> Result<List<Target>, NoMemory>
+    ensures targets { IfOk result (AreTargets (base_in valued.now.bases) valued.now.elements (target_names valued.now.elements)) }
     ensures written { IfOk result (All (λ t. IsWritable t.content)) }
 {
-    let groups = groups_of(alloc, linked.index)?;
-    let names = names_of(alloc, linked.index)?;
-    targets_named(alloc, linked, &groups, names.as_slice())
+    let set = &valued.set;
+    let names = names_of(alloc, set.linked.index)?;
+    targets_named(alloc, valued, names.as_slice())
 }

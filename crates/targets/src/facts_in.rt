@@ -2,31 +2,34 @@
 ghost use Rattle.std.specs.Prelude.{◌≡◌, ℕ, All, Contains, true, IfOk};
 ghost use Rattle.ix_base.specs.Facts.{Facts, before, facts_of, tuple};
 ghost use Rattle.ix_base.specs.Ids.{id_of};
-ghost use Rattle.ix_base.specs.Located as kinds;
-ghost use Rattle.ix_base.specs.Located.{located};
+ghost use Rattle.ix_base.specs.LocatedElements as kinds;
+ghost use Rattle.ix_base.specs.LocatedElements.{located};
 ghost use Rattle.ix_base.specs.Membership as spec;
 ghost use Rattle.id_table.specs.Tables.{all_located};
-ghost use Rattle.targets.specs.Linked.{IsLinked, IsValued, SaysIn, all_of};
-ghost use Rattle.targets.specs.Seen.{AreAmong};
+ghost use Rattle.targets.specs.LinkedSets.{SaysIn};
+ghost use Rattle.targets.specs.Visits.{AreAmong};
 ghost use Rattle.targets.specs.TargetFacts.{AreFacts, IsFactOf, members_read, one_less};
 
-use crate::links::Linked;
+use crate::linked::ValuedSet;
 use crate::values::item_at;
 use fact_view::fact_name;
 use facts::ItemFault;
-use ix_base::{Fact, Kind, List, NoMemory, OwnName, Spot, Text, Tuple, id_at, kind_of};
+use ix_base::{Fact, Kind, List, NoMemory, OwnName, Spot, Text, Tuple, kind_of};
+use link_ids::id_at;
 use std::alloc::Global;
 use value_forms::is_nil;
 
 /// An item as a fact.
-fn item_fact<'a>(alloc: Global, linked: &Linked<'_, 'a>, spot: &Spot<'a>) -> Result<Fact, NoMemory>
-    requires linked { IsLinked linked.now }
-    requires valued { IsValued linked.now }
-    requires among { Contains (all_of linked.now) (located spot.now) }
+fn item_fact<'a>(
+    alloc: Global,
+    valued: &ValuedSet<'_, 'a>,
+    spot: &Spot<'a>,
+) -> Result<Fact, NoMemory>
+    requires among { Contains valued.now.elements (located spot.now) }
     requires item { kinds.is_item (located spot.now) ≡ true }
-    ensures { IfOk result (λ f. (n : ℕ) → IsFactOf (SaysIn linked.now) (all_of linked.now) n (located spot.now) f) }
+    ensures { IfOk result (λ f. (n : ℕ) → IsFactOf (SaysIn valued.now) valued.now.elements n (located spot.now) f) }
 {
-    match item_at(alloc, linked, spot) {
+    match item_at(alloc, &valued.set, spot) {
         Ok(item) => Ok(Fact::Item(item)),
         Err(ItemFault::Breach(_)) => unreachable!(),
         Err(ItemFault::NoMemory) => Err(NoMemory),
@@ -63,43 +66,40 @@ fn tuple_fact(alloc: Global, spot: &Spot<'_>, members: List<Fact>) -> Result<Fac
 #[cycle(facts)]
 fn members_in<'a>(
     alloc: Global,
-    linked: &Linked<'_, 'a>,
+    valued: &ValuedSet<'_, 'a>,
     tuple: &Spot<'a>,
     depth: u32,
 ) -> Result<List<Fact>, NoMemory>
-    requires linked { IsLinked linked.now }
-    requires valued { IsValued linked.now }
-    ensures { IfOk result (λ l. AreFacts (SaysIn linked.now) (all_of linked.now) (one_less depth)
-        (members_read depth (all_of linked.now) (located tuple.now)) (facts_of l)) }
+    ensures { IfOk result (λ l. AreFacts (SaysIn valued.now) valued.now.elements (one_less depth)
+        (members_read depth valued.now.elements (located tuple.now)) (facts_of l)) }
 {
     if depth == 0 {
         return Ok(List::new(alloc));
     }
-    facts_at(alloc, linked, linked.members.of(tuple), depth - 1)
+    let set = &valued.set;
+    facts_at(alloc, valued, set.linked.members.of(tuple), depth - 1)
 }
 
 /// The facts that these elements are, with those within tuples, read to so many tuples deep.
 #[cycle(facts)]
 pub(crate) fn facts_at<'a>(
     alloc: Global,
-    linked: &Linked<'_, 'a>,
+    valued: &ValuedSet<'_, 'a>,
     spots: &[&'a Spot<'a>],
     depth: u32,
 ) -> Result<List<Fact>, NoMemory>
-    requires linked { IsLinked linked.now }
-    requires valued { IsValued linked.now }
-    requires among { AreAmong (all_of linked.now) spots.now }
+    requires among { AreAmong valued.now.elements spots.now }
     requires facts { All (λ s. kinds.is_fact (located s.now) ≡ true) spots.now }
-    ensures { IfOk result (λ l. AreFacts (SaysIn linked.now) (all_of linked.now) depth (all_located spots.now) (facts_of l)) }
+    ensures { IfOk result (λ l. AreFacts (SaysIn valued.now) valued.now.elements depth (all_located spots.now) (facts_of l)) }
 {
     let mut facts = List::new(alloc);
     for spot in spots {
         if kind_of(spot) != Kind::Tuple {
-            let item = item_fact(alloc, linked, spot)?;
+            let item = item_fact(alloc, valued, spot)?;
             facts.push(item)?;
             continue;
         }
-        let members = members_in(alloc, linked, spot, depth)?;
+        let members = members_in(alloc, valued, spot, depth)?;
         let tuple = tuple_fact(alloc, spot, members)?;
         facts.push(tuple)?;
     }

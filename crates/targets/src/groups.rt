@@ -1,7 +1,7 @@
 //! The elements of a set by the target for which they stand.
 ghost use Rattle.std.specs.Prelude.{◌≡◌, ℕ, List, IfOk, filter, option_map};
 ghost use Rattle.ix_base.specs.LinkRules as rules;
-ghost use Rattle.ix_base.specs.Located.{located};
+ghost use Rattle.ix_base.specs.LocatedElements.{located};
 ghost use Rattle.id_table.specs.Tables.{HasEach, all_located, spots_at};
 ghost use Rattle.targets.specs.Contents.{is_linkbase_for};
 ghost use Rattle.targets.specs.Groups.{AreGroups, key_by};

@@ -16,7 +16,7 @@ mod contents;
 mod facts_in;
 mod groups;
 pub mod laws;
-mod link_ids;
+mod linked;
 mod links;
 mod met_ids;
 mod notes;

@@ -2,16 +2,16 @@
 ghost use Rattle.std.specs.Prelude.{◌≡◌, ◌++◌, [], ◌<◌, ℕ, true, List, length, filter, All, IfOk, OnOk};
 ghost use Rattle.std.specs.List.{flat_map};
 ghost use Rattle.ix_base.specs.declared.rule.Rule.TheVariants as rule;
-ghost use Rattle.ix_base.specs.Located.{base_in, located};
+ghost use Rattle.ix_base.specs.LocatedElements.{base_in, located};
 ghost use Rattle.ix_base.specs.LinkRules as rules;
 ghost use Rattle.ix_base.specs.LinkRules.{breaking, broken};
 ghost use Rattle.ix_base.specs.Once.{SameMembers};
-ghost use Rattle.continuations.specs.Kept.{AreChainsOf};
-ghost use Rattle.footnotes.specs.Kept.{AreRelationsOf};
-ghost use Rattle.id_table.specs.Held.{AreChosen, asked};
+ghost use Rattle.continuations.specs.Model.{AreChainsOf};
+ghost use Rattle.footnotes.specs.Model.{AreRelationsOf};
+ghost use Rattle.id_table.specs.Model.{AreChosen, asked};
 ghost use Rattle.id_table.specs.Tables.{all_located, spots_at};
-ghost use Rattle.tuples.specs.Fits.{fits};
-ghost use Rattle.tuples.specs.Kept.{AreMembersOf};
+ghost use Rattle.tuples.specs.OrderNumbers.{fits};
+ghost use Rattle.tuples.specs.Model.{AreMembersOf};
 ghost use Rattle.targets.specs.Faults.{refs_at};
 ghost use Rattle.targets.specs.RoleAddresses.{SeesAll};
 
@@ -135,11 +135,9 @@ pub(crate) fn link_all<'s, 'a>(
     requires pages { All (λ e. e.page < length bases.now.pages) index.now.spots }
     ensures faults { OnOk result (SameMembers found.new (broken (base_in bases.now.pages) index.now.spots)) }
     ensures chains { IfOk result (λ l. found.new ≡ [] → AreChainsOf l.chains index.now.spots) }
-    ensures members { IfOk result (λ l. AreMembersOf l.members index.now.spots) }
-    ensures relations { IfOk result (λ l. AreRelationsOf l.relations index.now.spots) }
+    ensures ties { IfOk result (λ l. AreMembersOf l.members index.now.spots × AreRelationsOf l.relations index.now.spots) }
     ensures seen_roles { IfOk result (λ l. SeesAll (base_in bases.now.pages) index.now.spots l.seen_roles) }
-    ensures index { IfOk result (λ l. l.index ≡ index.entry) }
-    ensures bases { IfOk result (λ l. l.bases ≡ bases.entry) }
+    ensures keeps { IfOk result (λ l. (l.index ≡ index.entry) × (l.bases ≡ bases.entry)) }
 {
     let chains = chained(alloc, arena, index, found)?;
     let (members, relations) = tied(alloc, arena, index, found)?;

@@ -1,16 +1,15 @@
 //! The footnote links of a target, and the references to the roles that they use.
 ghost use Rattle.std.specs.Prelude.{◌≡◌, ◌++◌, ◌∷◌, [], map, IfOk, OnOk};
 ghost use Rattle.std.specs.List.{filter_map, flat_map};
-ghost use Rattle.ix_base.specs.Located.{base_in};
+ghost use Rattle.ix_base.specs.LocatedElements.{base_in};
 ghost use Rattle.ix_base.specs.declared.kind.Kind.TheVariants as kind;
 ghost use Rattle.footnotes.specs.FootnoteLinks as footnote_links;
 ghost use Rattle.targets.specs.Contents as spec;
-ghost use Rattle.targets.specs.Linked.{IsLinked, all_of, bases_of};
 ghost use Rattle.targets.specs.RoleAddresses.{role_seen};
-ghost use Rattle.targets.specs.Seen.{values_of};
+ghost use Rattle.targets.specs.Visits.{values_of};
 
 use crate::addresses::Roles;
-use crate::links::Linked;
+use crate::linked::LinkedSet;
 use footnotes::laws::chains_on_pages;
 use ix_base::{Arc, Footnote, List, NoMemory, NoteLink, RoleRef, Text, each_once};
 use std::alloc::Global;
@@ -101,13 +100,13 @@ fn references_for(
 /// The footnote links of a target.
 pub(crate) fn notes_for(
     alloc: Global,
-    linked: &Linked<'_, '_>,
+    set: &LinkedSet<'_, '_>,
     target: &str,
 ) -> Result<List<NoteLink>, NoMemory>
-    requires { IsLinked linked.now }
-    ensures { IfOk result (λ l. l ≡ footnote_links.notes (base_in (bases_of linked.now)) (all_of linked.now) target.now) }
+    ensures { IfOk result (λ l. l ≡ footnote_links.notes (base_in set.now.bases) set.now.elements target.now) }
 {
     chains_on_pages();
+    let linked = &set.linked;
     linked
         .relations
         .notes(alloc, target, &linked.chains, linked.bases)
@@ -116,29 +115,27 @@ pub(crate) fn notes_for(
 /// The references for the roles that links use.
 pub(crate) fn roles_for(
     alloc: Global,
-    linked: &Linked<'_, '_>,
+    set: &LinkedSet<'_, '_>,
     links: &[NoteLink],
 ) -> Result<List<RoleRef>, NoMemory>
-    requires { IsLinked linked.now }
     ensures { IfOk result (λ l. l
-        ≡ spec.roles_for (base_in (bases_of linked.now)) (all_of linked.now) kind.RoleRef (spec.uris_in spec.roles_in links.now)) }
+        ≡ spec.roles_for (base_in set.now.bases) set.now.elements kind.RoleRef (spec.uris_in spec.roles_in links.now)) }
 {
     let mut uris = each_role(alloc, links)?;
     each_once(&mut uris);
-    references_for(alloc, &linked.seen_roles.roles, uris.as_slice())
+    references_for(alloc, &set.linked.seen_roles.roles, uris.as_slice())
 }
 
 /// The references for the arcroles that links use.
 pub(crate) fn arcroles_for(
     alloc: Global,
-    linked: &Linked<'_, '_>,
+    set: &LinkedSet<'_, '_>,
     links: &[NoteLink],
 ) -> Result<List<RoleRef>, NoMemory>
-    requires { IsLinked linked.now }
     ensures { IfOk result (λ l.
-        l ≡ spec.roles_for (base_in (bases_of linked.now)) (all_of linked.now) kind.ArcroleRef (spec.uris_in spec.arcroles_in links.now)) }
+        l ≡ spec.roles_for (base_in set.now.bases) set.now.elements kind.ArcroleRef (spec.uris_in spec.arcroles_in links.now)) }
 {
     let mut uris = each_arcrole(alloc, links)?;
     each_once(&mut uris);
-    references_for(alloc, &linked.seen_roles.arcroles, uris.as_slice())
+    references_for(alloc, &set.linked.seen_roles.arcroles, uris.as_slice())
 }

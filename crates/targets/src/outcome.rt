@@ -1,4 +1,4 @@
-//! What a set of pages comes to.
+//! Outcomes of sets of pages.
 ghost use Rattle.std.specs.Prelude.{◌<◌, All, length, IfOk};
 ghost use Rattle.targets.specs.SetOutcomes.{CanBeWritten, IsReport};
 

@@ -2,14 +2,14 @@
 ghost use Rattle.std.specs.Prelude.{◌≡◌, ◌++◌, ◌∷◌, [], filter, option_map, IfOk, OnOk};
 ghost use Rattle.std.specs.List.{filter_map};
 ghost use Rattle.ix_base.specs.Ids.{context_for, unit_for};
-ghost use Rattle.ix_base.specs.Located as kinds;
-ghost use Rattle.ix_base.specs.Located.{located};
+ghost use Rattle.ix_base.specs.LocatedElements as kinds;
+ghost use Rattle.ix_base.specs.LocatedElements.{located};
 ghost use Rattle.ix_base.specs.Once.{in_order};
-ghost use Rattle.ix_base.specs.Sorted.{text_cmp};
-ghost use Rattle.id_table.specs.Held.{AreChosen};
+ghost use Rattle.ix_base.specs.SortedLists.{text_cmp};
+ghost use Rattle.id_table.specs.Model.{AreChosen};
 ghost use Rattle.id_table.specs.Tables.{all_located};
 ghost use Rattle.targets.specs.Groups.{ref_by};
-ghost use Rattle.targets.specs.Seen.{values_of};
+ghost use Rattle.targets.specs.Visits.{values_of};
 
 use id_table::Index;
 use ix_base::{Context, Kind, List, NoMemory, Spot, Unit, each_once, is_item, kind_of, token_at};

@@ -1,10 +1,10 @@
 //! What the references of a set refer to.
 ghost use Rattle.std.specs.Prelude.{◌≡◌, ◌<◌, length, map, IfOk};
-ghost use Rattle.ix_base.specs.Located.{base_in, located};
+ghost use Rattle.ix_base.specs.LocatedElements.{base_in, located};
 ghost use Rattle.ix_base.specs.LinkRules as rules;
 ghost use Rattle.id_table.specs.Tables.{all_located};
 ghost use Rattle.targets.specs.Contents as spec;
-ghost use Rattle.targets.specs.Seen.{AreOnPages};
+ghost use Rattle.targets.specs.Visits.{AreOnPages};
 
 use crate::addresses::{address_of, link_token};
 use ix_base::{Linkbase, List, NoMemory, Spot, Text};

@@ -3,7 +3,7 @@ ghost use Rattle.std.specs.Prelude.{◌≡◌, ◌++◌, ◌∷◌, [], length, 
 ghost use Rattle.ix_base.specs.declared.limits.TheConstants.{DEEPEST_ELEMENT};
 ghost use Rattle.ix_base.specs.Sound.{IsSoundRoot};
 ghost use Rattle.ix_base.specs.Trees.{tree_of};
-ghost use Rattle.targets.specs.Clean.{AreProper};
+ghost use Rattle.targets.specs.ValidSets.{AreProper};
 ghost use Rattle.targets.specs.SetOutcomes.{CanBeWritten, ComesTo, ComesToAlways};
 ghost use Rattle.targets.specs.PageSet.{elements};
 ghost use Rattle.targets.specs.LinkStates.{doubled_links, pending_links};
@@ -38,9 +38,9 @@ pub struct Set<'a> {
 
 impl<'a> Model for Set<'a> {
     ghost use Rattle.std.specs.Prelude.{◌≡◌, [], false, map};
-    ghost use Rattle.ix_base.specs.Located.{marked};
+    ghost use Rattle.ix_base.specs.LocatedElements.{marked};
     ghost use Rattle.targets.specs.Choices.{HasChoices};
-    ghost use Rattle.targets.specs.Holding.{HeldSet, Keeps, held_code, as_paged, names_with};
+    ghost use Rattle.targets.specs.Model.{HeldSet, Keeps, held_code, as_paged, names_with};
     ghost use Rattle.targets.specs.LinkTables.{AreLinks};
 
     ghost Value = { HeldSet };

@@ -3,28 +3,27 @@
 //! A link is an id that an attribute of an element names. It is pending as long as no element has the id, resolved where one has
 //! it, or several contexts or units of one normal form, and doubled where more have it that don't agree. Each id that was met
 //! lies in a table, with how it stands and how many links name it; so an element that comes, and a link that comes, cost a look-up
-//! and an entry each, whatever the ids are. Of an element that comes the kind is asked once, of a tuple twice, and only the
-//! attributes that its kind has are looked at.
+//! and an entry each, whatever the ids are. Of an element that comes the kind is asked twice, and only the attributes that its kind has
+//! are looked at.
 ghost use Rattle.std.specs.Prelude.{◌≡◌, ◌++◌, ◌∷◌, ◌≤◌, [], ℕ, List, OnOk, IfSome, filter, option_map, true};
 ghost use Rattle.ix_base.specs.Forms.{words_of};
-ghost use Rattle.ix_base.specs.Ids.{tuple_id_of};
 ghost use Rattle.ix_base.specs.Kinds.{kind_of as spec_kind_of};
-ghost use Rattle.ix_base.specs.Located.{Located, located};
+ghost use Rattle.ix_base.specs.LocatedElements.{Located, located};
 ghost use Rattle.ix_base.specs.NcName.{is_ncname as spec_is_ncname};
 ghost use Rattle.ix_base.specs.Once.{in_order};
-ghost use Rattle.ix_base.specs.Sorted.{text_cmp};
+ghost use Rattle.ix_base.specs.SortedLists.{text_cmp};
 ghost use Rattle.ix_base.specs.Spots.{IsOnOnePage};
 ghost use Rattle.id_table.specs.Tables.{AreOnOwnPages, all_located};
-ghost use Rattle.targets.specs.Holding.{names_of};
+ghost use Rattle.targets.specs.Model.{names_of};
 ghost use Rattle.targets.specs.LinkTables as tables;
 ghost use Rattle.targets.specs.LinkTables.{AreFirstOnPages, AreLinked, AreLinks, AreOfSome, AreSomeLinks, kept_in, named_of, named_in};
-ghost use Rattle.targets.specs.LinkAttributes.{links_in, links_to};
-ghost use Rattle.targets.specs.LinkStates.{Link, links_of};
+ghost use Rattle.link_ids.specs.LinkAttributes.{links_in, links_to};
+ghost use Rattle.link_ids.specs.Links.{Link, links_of};
 
 use crate::agreeing::{PageNames, Standing, with_holder, with_tuple};
-use crate::link_ids::{LinkAttribute, attributes_of, ids_in, list_at, single_at};
 use crate::met_ids::{Named, Names, known, name_once_more};
-use ix_base::{Kind, NoMemory, Spot, id_at, kind_of};
+use ix_base::{Kind, NoMemory, Spot, kind_of};
+use link_ids::{LinkAttribute, attributes_of, id_at, ids_in, list_at, single_at, tuple_id_at};
 use scopes::is_ncname;
 use std::alloc::Global;
 use text_map::TextMap;
@@ -36,17 +35,6 @@ pub(crate) struct Links<'a> {
     tuple_ids: Names<'a>,
     pending: u64,
     doubled: u64,
-}
-
-/// The tuple id of an element of this kind.
-fn tuple_id_at<'a>(kind: Kind, spot: &Spot<'a>) -> Option<&'a str>
-    requires { kind ≡ spec_kind_of (located spot.now).placed }
-    ensures { option_map (λ s. s.now) result ≡ tuple_id_of (located spot.now) }
-{
-    match kind {
-        Kind::Tuple => ix_base::tuple_id_at(spot),
-        _ => None,
-    }
 }
 
 impl<'a> Links<'a> {
@@ -139,14 +127,13 @@ impl<'a> Links<'a> {
         self.count_holder(before, standing)
     }
 
-    /// An element of this kind comes that may have a tuple id.
-    fn hold_tuple(&mut self, kind: Kind, spot: &'a Spot<'a>) -> Result<(), NoMemory>
-        requires some { AreSomeLinks self.old }
-        requires kind { kind ≡ spec_kind_of (located spot.now).placed }
+    /// An element comes that may have a tuple id.
+    fn hold_tuple(&mut self, spot: &'a Spot<'a>) -> Result<(), NoMemory>
+        requires { AreSomeLinks self.old }
         ensures { (names : ℕ → List ℕ) (es ts : List Located) (ls : List Link) → AreLinked names es ts ls self.old
             → OnOk result (AreLinked names es (ts ++ located spot.entry.now ∷ []) ls self.new) }
     {
-        let Some(id) = tuple_id_at(kind, spot) else {
+        let Some(id) = tuple_id_at(spot) else {
             return Ok(());
         };
         let before = known(&self.tuple_ids, id);
@@ -243,7 +230,7 @@ impl<'a> Links<'a> {
     {
         let kind = kind_of(spot);
         self.hold(alloc, names, spot)?;
-        self.hold_tuple(kind, spot)?;
+        self.hold_tuple(spot)?;
         self.link_all(alloc, kind, spot)
     }
 

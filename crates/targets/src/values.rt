@@ -3,8 +3,8 @@ ghost use Rattle.std.specs.Prelude.{◌≡◌, ◌<◌, ◌++◌, ◌∷◌, Lis
 ghost use Rattle.ix_base.specs.Asks.{asks};
 ghost use Rattle.ix_base.specs.Chain as spec;
 ghost use Rattle.ix_base.specs.Elements.{place_of};
-ghost use Rattle.ix_base.specs.Located as kinds;
-ghost use Rattle.ix_base.specs.Located.{base_in, is_kind, located};
+ghost use Rattle.ix_base.specs.LocatedElements as kinds;
+ghost use Rattle.ix_base.specs.LocatedElements.{base_in, is_kind, located};
 ghost use Rattle.ix_base.specs.declared.kind.Kind.TheVariants as kind;
 ghost use Rattle.ix_base.specs.declared.content.Item.{Item as ItemOf};
 ghost use Rattle.ix_base.specs.declared.rule.Rule.{Rule as RuleOf};
@@ -14,26 +14,24 @@ ghost use Rattle.facts.specs.ItemValue.{IsItem};
 ghost use Rattle.facts.specs.Verdicts.{said};
 ghost use Rattle.id_table.specs.Tables.{all_located, AreOnOwnPages};
 ghost use Rattle.targets.specs.Faults.{AreOfItems, fault_by, rule_said, faultless, value_fault};
-ghost use Rattle.targets.specs.Linked.{IsLinked, all_of, bases_of};
-ghost use Rattle.targets.specs.Seen.{AreAmong};
+ghost use Rattle.targets.specs.Visits.{AreAmong};
 
-use crate::links::Linked;
+use crate::linked::LinkedSet;
 use facts::{ItemFault, item_of};
 use ix_base::{Breaches, Item, Kind, NoMemory, Rule, Spot, attr_of, is_item, kind_of};
 use std::alloc::Global;
 use value_forms::is_nil;
 
 /// The chain of a nonNumeric; for another item nothing.
-fn chain_of<'a>(linked: &Linked<'_, 'a>, spot: &Spot<'a>) -> &'a [&'a Spot<'a>]
-    requires linked { IsLinked linked.now }
-    requires among { Contains (all_of linked.now) (located spot.now) }
+fn chain_of<'a>(set: &LinkedSet<'_, 'a>, spot: &Spot<'a>) -> &'a [&'a Spot<'a>]
+    requires { Contains set.now.elements (located spot.now) }
     ensures chain { is_kind kind.NonNumeric (located spot.now) ≡ true
-        → all_located result.now ≡ spec.chain (asks (all_of linked.now)) (located spot.now) }
-    ensures pages { All (λ s. (place_of s.now).page < length (bases_of linked.now)) result.now }
+        → all_located result.now ≡ spec.chain (asks set.now.elements) (located spot.now) }
+    ensures pages { All (λ s. (place_of s.now).page < length set.now.bases) result.now }
     ensures own { AreOnOwnPages result.now }
 {
     if kind_of(spot) == Kind::NonNumeric {
-        linked.chains.of(spot)
+        set.linked.chains.of(spot)
     } else {
         &[]
     }
@@ -42,14 +40,13 @@ fn chain_of<'a>(linked: &Linked<'_, 'a>, spot: &Spot<'a>) -> &'a [&'a Spot<'a>]
 /// What an item says, or the lowest rule of values that it breaks.
 pub(crate) fn item_at<'a>(
     alloc: Global,
-    linked: &Linked<'_, 'a>,
+    set: &LinkedSet<'_, 'a>,
     spot: &Spot<'a>,
 ) -> Result<Item, ItemFault>
-    requires linked { IsLinked linked.now }
-    requires among { Contains (all_of linked.now) (located spot.now) }
-    ensures { IfSome (said result) (IsItem (base_in (bases_of linked.now)) (asks (all_of linked.now)) (located spot.now)) }
+    requires { Contains set.now.elements (located spot.now) }
+    ensures { IfSome (said result) (IsItem (base_in set.now.bases) (asks set.now.elements) (located spot.now)) }
 {
-    item_of(alloc, spot, chain_of(linked, spot), linked.bases)
+    item_of(alloc, spot, chain_of(set, spot), set.linked.bases)
 }
 
 /// The rule that an item was said to break.
@@ -82,20 +79,19 @@ fn is_faultless(spot: &Spot<'_>) -> bool
 /// Adds the rule of values that an item breaks, if it breaks one. No item is made where its attributes tell that it breaks none.
 fn add_value<'a>(
     alloc: Global,
-    linked: &Linked<'_, 'a>,
+    set: &LinkedSet<'_, 'a>,
     spot: &Spot<'a>,
     found: &mut Breaches,
 ) -> Result<(), NoMemory>
-    requires linked { IsLinked linked.now }
-    requires among { Contains (all_of linked.now) (located spot.now) }
+    requires { Contains set.now.elements (located spot.now) }
     ensures { OnOk result ((r : ResultOf ItemOf RuleOf)
-        × IsItem (base_in (bases_of linked.now)) (asks (all_of linked.now)) (located spot.now) r
+        × IsItem (base_in set.now.bases) (asks set.now.elements) (located spot.now) r
         × (found.new ≡ found.old ++ value_fault (located spot.now) r)) }
 {
     if is_faultless(spot) {
         return Ok(());
     }
-    let rule = rule_in(item_at(alloc, linked, spot))?;
+    let rule = rule_in(item_at(alloc, set, spot))?;
     match rule {
         Some(rule) => add_at(spot, rule, found),
         None => Ok(()),
@@ -105,18 +101,17 @@ fn add_value<'a>(
 /// The same of an element, where it is an item.
 fn add_if_item<'a>(
     alloc: Global,
-    linked: &Linked<'_, 'a>,
-    spot: &Spot<'a>,
+    set: &LinkedSet<'_, 'a>,
     found: &mut Breaches,
+    spot: &Spot<'a>,
 ) -> Result<(), NoMemory>
-    requires among { Contains (all_of linked.now) (located spot.now) }
-    requires linked { IsLinked linked.now }
+    requires { Contains set.now.elements (located spot.now) }
     ensures { OnOk result ((more : List Found)
-        × AreOfItems (IsItem (base_in (bases_of linked.now)) (asks (all_of linked.now))) (filter kinds.is_item (located spot.now ∷ [])) more
+        × AreOfItems (IsItem (base_in set.now.bases) (asks set.now.elements)) (filter kinds.is_item (located spot.now ∷ [])) more
         × (found.new ≡ found.old ++ more)) }
 {
     if is_item(spot) {
-        return add_value(alloc, linked, spot, found);
+        return add_value(alloc, set, spot, found);
     }
     Ok(())
 }
@@ -124,26 +119,24 @@ fn add_if_item<'a>(
 /// The rules of values that these elements break.
 fn faults_among<'a>(
     alloc: Global,
-    linked: &Linked<'_, 'a>,
+    set: &LinkedSet<'_, 'a>,
     spots: &[&'a Spot<'a>],
 ) -> Result<Breaches, NoMemory>
-    requires linked { IsLinked linked.now }
-    requires among { AreAmong (all_of linked.now) spots.now }
-    ensures { IfOk result (AreOfItems (IsItem (base_in (bases_of linked.now)) (asks (all_of linked.now)))
+    requires { AreAmong set.now.elements spots.now }
+    ensures { IfOk result (AreOfItems (IsItem (base_in set.now.bases) (asks set.now.elements))
         (filter kinds.is_item (all_located spots.now))) }
 {
     let mut found = Breaches::new(alloc);
     for spot in spots {
-        add_if_item(alloc, linked, spot, &mut found)?;
+        add_if_item(alloc, set, &mut found, spot)?;
     }
     Ok(found)
 }
 
 /// The rules of values that the items of a set break.
-pub(crate) fn value_faults(alloc: Global, linked: &Linked<'_, '_>) -> Result<Breaches, NoMemory>
-    requires linked { IsLinked linked.now }
-    ensures { IfOk result (AreOfItems (IsItem (base_in (bases_of linked.now)) (asks (all_of linked.now)))
-        (filter kinds.is_item (all_of linked.now))) }
+pub(crate) fn value_faults(alloc: Global, set: &LinkedSet<'_, '_>) -> Result<Breaches, NoMemory>
+    ensures { IfOk result (AreOfItems (IsItem (base_in set.now.bases) (asks set.now.elements))
+        (filter kinds.is_item set.now.elements)) }
 {
-    faults_among(alloc, linked, linked.index.spots())
+    faults_among(alloc, set, set.linked.index.spots())
 }

@@ -13,7 +13,7 @@ use Rattle.tr4_dates.specs.declared.part.Fields.{Fields}
 use Rattle.tr4_dates.specs.declared.format.Language.{Language}
 use Rattle.tr4_dates.specs.declared.part.Part.{Part}
 use Rattle.tr4_dates.specs.Parts.{nothing, put}
-use Rattle.tr4_dates.specs.Reading.{read, says, piece_at, separator, is_linked, closes, name_at, is_number, month_in, month_of}
+use Rattle.tr4_dates.specs.Readers.{read, says, piece_at, separator, is_linked, closes, name_at, is_number, month_in, month_of}
 use Rattle.tr4_dates.specs.declared.part.Part.TheVariants.{Day, Month, Year, Gap, Tail, Signs, Edge, Ordinal, Name}
 use Rattle.tr4_dates.proofs.Pieces.{separator_parted}
 use Rattle.tr4_dates.proofs.RunLemmas.{run_after, all_in-run}

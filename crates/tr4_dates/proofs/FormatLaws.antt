@@ -8,7 +8,7 @@ use Rattle.tr4_dates.specs.declared.part.Fields.{Fields}
 use Rattle.tr4_dates.specs.Formats.{language_of, layout_of}
 use Rattle.tr4_dates.specs.Transformation.{parts_of, written, IsReal, Tr}
 use Rattle.tr4_dates.specs.Parts.{Joins}
-use Rattle.tr4_dates.specs.Reading.{read}
+use Rattle.tr4_dates.specs.Readers.{read}
 use Rattle.tr4_dates.specs.Runs.{digits, ends_in}
 use Rattle.tr4_dates.proofs.Laws.{sound, complete}
 use Rattle.tr4_dates.proofs.Rows.{is_row}

@@ -16,7 +16,7 @@ use Rattle.tr4_dates.specs.declared.part.Part.TheVariants.{Day, Month, Year, Gap
 use Rattle.tr4_dates.specs.Languages.{names, ordinals, has_links}
 use Rattle.tr4_dates.specs.Runs.{Class, Digit, Letter, Sign, class_of, is_nil, digits, letters, others, signs, alphanumerics, all_in, begins_in, ends_in, run, after, number}
 use Rattle.tr4_dates.specs.Parts.{IsIn, IsSmall, IsYear, IsName, IsSeparator, Joins, put, year_of, is_year_size, is_ordinal, is_listed, is_link_word}
-use Rattle.tr4_dates.specs.Reading.{read, says, piece_at, small, is_within, when, month_of, month_in, is_number, is_linked, closes, separator, name_at}
+use Rattle.tr4_dates.specs.Readers.{read, says, piece_at, small, is_within, when, month_of, month_in, is_number, is_linked, closes, separator, name_at}
 use Rattle.tr4_dates.proofs.RunLemmas.{run_after, all_in-run, begins_in-after, run-append, run-whole}
 use Rattle.tr4_dates.proofs.KeyTests.{bytes_eq-true}
 use Rattle.tr4_dates.proofs.MonthKeys.{month_found, named_from}

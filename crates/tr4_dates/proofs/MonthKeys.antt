@@ -7,7 +7,7 @@ use Rattle.caseless.specs.Caseless.{canonical_key}
 use Rattle.tr4_dates.specs.declared.format.Language.{Language}
 use Rattle.tr4_dates.specs.Languages.{Row, names}
 use Rattle.tr4_dates.specs.Parts.{IsNameIn}
-use Rattle.tr4_dates.specs.Reading.{month_in}
+use Rattle.tr4_dates.specs.Readers.{month_in}
 use Rattle.tr4_dates.proofs.KeyTests.{bytes_eq-true, bytes_eq-same, is_plain, are_plain, keyed, agrees, all_agree, names_plain, names_agree}
 
 -- what holds of the key of each name holds of the key of a text that is a name

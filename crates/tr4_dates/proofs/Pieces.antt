@@ -6,7 +6,7 @@ use Rattle.tr4_dates.specs.declared.format.Language.{Language}
 use Rattle.tr4_dates.specs.Runs.{Class, Digit, Letter, Sign, class_of, letters, others, signs, alphanumerics, all_in, begins_in, ends_in, run, after}
 use Rattle.tr4_dates.specs.Languages.{has_links}
 use Rattle.tr4_dates.specs.Parts.{IsSigns, IsLinked, IsSeparator, is_link_word}
-use Rattle.tr4_dates.specs.Reading.{is_linked, link_and_signs, separator, closes, name_at}
+use Rattle.tr4_dates.specs.Readers.{is_linked, link_and_signs, separator, closes, name_at}
 use Rattle.tr4_dates.proofs.RunLemmas.{run_after, all_in-run, begins_in-after, run-append, after-append, run-all, after-all, run-whole, after-whole, run-stops, ends_in-tail, all_in-tail}
 use Rattle.tr4_dates.proofs.PlainNames.{link_letters, link_some}
 

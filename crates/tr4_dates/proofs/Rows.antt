@@ -2,7 +2,7 @@
 use Rattle.std.proofs.Common.{Bool, true, false, not, ◌&&◌, ◌||◌, List, [], ◌∷◌, if◌then◌else◌}
 use Rattle.tr4_dates.specs.declared.part.Part.{Part}
 use Rattle.tr4_dates.specs.declared.part.Part.TheVariants.{Day, Month, Year, Gap, Tail, Signs, Edge, Ordinal, Name}
-use Rattle.tr4_dates.specs.Reading.{is_number}
+use Rattle.tr4_dates.specs.Readers.{is_number}
 use Rattle.tr4_dates.specs.Runs.{Class, Digit, Letter, Sign, digits, letters, others, signs}
 
 -- the set of the run that a part takes, or that its first byte is of

@@ -2,6 +2,6 @@ pub mod Code
 pub mod Formats
 pub mod Languages
 pub mod Parts
-pub mod Reading
+pub mod Readers
 pub mod Runs
 pub mod Transformation

@@ -3,7 +3,7 @@ ghost use Rattle.std.specs.Prelude.{◌≡◌, chars, IfOk};
 ghost use Rattle.caseless.specs.Caseless.{canonical_key};
 ghost use Rattle.tr4_dates.specs.Code.{rows_of};
 ghost use Rattle.tr4_dates.specs.Languages.{names};
-ghost use Rattle.tr4_dates.specs.Reading.{month_in, month_of};
+ghost use Rattle.tr4_dates.specs.Readers.{month_in, month_of};
 
 use crate::format::Language;
 use crate::run::{Set, begins, ends};

@@ -3,7 +3,7 @@ ghost use Rattle.std.specs.Prelude.{◌+◌, ◌-◌, ◌≡◌, ◌≤◌, ◌&
 ghost use Rattle.std.specs.Char.{to_ascii_lowercase};
 ghost use Rattle.tr4_dates.specs.Languages.{has_links};
 ghost use Rattle.tr4_dates.specs.Parts.{is_link_word, is_ordinal, is_year_size};
-ghost use Rattle.tr4_dates.specs.Reading.{separator, closes, name_at, piece_at, says, read, small, year, when, is_number};
+ghost use Rattle.tr4_dates.specs.Readers.{separator, closes, name_at, piece_at, says, read, small, year, when, is_number};
 ghost use Rattle.tr4_dates.specs.Runs.{class_of, digits, letters, all_in, begins_in, number};
 
 use crate::format::Language;
@@ -55,7 +55,7 @@ fn is_letter_next(language: Language, text: &[u8]) -> bool
 
 /// Whether the byte is a letter and a name may end behind it. What lies behind a separator is looked at only where one
 /// begins, so all such looks at a text together take time in proportion to its length.
-#[tactic(auto, unfolding(crate::specs::Reading::closes))]
+#[tactic(auto, unfolding(crate::specs::Readers::closes))]
 fn ends_name(language: Language, byte: u8, behind: &[u8]) -> bool
     ensures { result ≡ (letters (class_of byte) && closes language behind.now) }
 {
@@ -80,7 +80,7 @@ fn name_len(language: Language, text: &[u8]) -> usize
 }
 
 /// The length of the piece that the part takes.
-#[tactic(auto, unfolding(crate::specs::Reading::piece_at))]
+#[tactic(auto, unfolding(crate::specs::Readers::piece_at))]
 fn piece_len(language: Language, part: Part, text: &[u8]) -> usize
     ensures { result ≡ length (piece_at language part text.now) }
 {
@@ -185,7 +185,7 @@ fn filled(holds: bool) -> Option<Option<u16>>
 }
 
 /// What the piece says; none where it isn't in the part's set.
-#[tactic(auto, unfolding(crate::specs::Reading::says))]
+#[tactic(auto, unfolding(crate::specs::Readers::says))]
 fn said(
     alloc: Global,
     language: Language,

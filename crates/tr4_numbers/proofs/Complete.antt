@@ -3,7 +3,7 @@ use Rattle.std.proofs.Common.{◌≡◌, ℕ, List, Some}
 use Rattle.tr4_numbers.specs.declared.NumberFormat.{NumberFormat}
 use Rattle.tr4_numbers.specs.declared.NumberFormat.TheVariants as N
 use Rattle.tr4_numbers.specs.Transformation.{IsValue}
-use Rattle.tr4_numbers.specs.Reading.{first, read}
+use Rattle.tr4_numbers.specs.Readers.{first, read}
 use Rattle.tr4_numbers.proofs.CompleteDecimal.{complete-decimal}
 use Rattle.tr4_numbers.proofs.CompleteUnits.{complete-units}
 

@@ -4,7 +4,7 @@ use Rattle.std.proofs.lemmas.List.{append-nil}
 use Rattle.tr4_numbers.specs.declared.NumberFormat.{NumberFormat}
 use Rattle.tr4_numbers.specs.declared.reader.Phase.TheVariants.{Start, Whole, Pause, Gap, Point, Fraction, End}
 use Rattle.tr4_numbers.specs.Transformation.{is_digit, AreDropped, IsGap, AreDigits, Follow, Grouped, IsWhole, IsPointed, IsBare, IsDecimal, IsBetween}
-use Rattle.tr4_numbers.specs.Reading.{with_front, read}
+use Rattle.tr4_numbers.specs.Readers.{with_front, read}
 use Rattle.tr4_numbers.proofs.Sorts.{sort-digit, sort-dropped, sort-gap, sort-decimal_sign}
 
 pub front-nil : (o : Option (List ℕ)) → with_front [] o ≡ o

@@ -6,7 +6,7 @@ use Rattle.tr4_numbers.specs.declared.reader.Sort.TheVariants as S
 use Rattle.tr4_numbers.specs.declared.reader.Phase.{Phase}
 use Rattle.tr4_numbers.specs.declared.reader.Phase.TheVariants.{Lead, Sum, Word, Cent, Tail}
 use Rattle.tr4_numbers.specs.Transformation.{is_digit, may_part, AreDropped, IsGap, Follow, Grouped, AreOthers, HasWord, AreCents, two, IsUnits, IsBetween}
-use Rattle.tr4_numbers.specs.Reading.{sort_of, next, added, with_front, read_by, read}
+use Rattle.tr4_numbers.specs.Readers.{sort_of, next, added, with_front, read_by, read}
 use Rattle.tr4_numbers.proofs.Sorts.{sort-digit, sort-other, sort-dropped, sort-gap, sort-word, cases_part, clashing, dropped-other}
 use Rattle.tr4_numbers.proofs.CompleteDecimal.{front-nil, front-front}
 

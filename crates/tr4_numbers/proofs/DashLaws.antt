@@ -3,7 +3,7 @@ use Rattle.std.proofs.Common.{◌≡◌, ◌⊎◌, ℕ, ◌||◌, ◌&&◌, ◌
 use Rattle.std.proofs.lemmas.Bool.{cases_Bool, eqb-true}
 use Rattle.std.proofs.lemmas.List.{drop_all, drop_more}
 use Rattle.tr4_numbers.specs.Transformation.{is_space, is_line, is_dash, AreDropped, IsDash, IsBetween}
-use Rattle.tr4_numbers.specs.Reading.{reads_dash}
+use Rattle.tr4_numbers.specs.Readers.{reads_dash}
 
 -- what a turn of the reader says
 turn-by : (dropped dash was x y : Bool) → cond dropped x (cond (dash && not was) y false) ≡ true → ((dropped ≡ true) × (x ≡ true)) ⊎ ((dash ≡ true) × (y ≡ true))

@@ -6,7 +6,7 @@ use Rattle.tr4_numbers.specs.declared.NumberFormat.TheVariants as N
 use Rattle.tr4_numbers.specs.declared.reader.Sort.{Sort}
 use Rattle.tr4_numbers.specs.declared.reader.Sort.TheVariants as S
 use Rattle.tr4_numbers.specs.Transformation.{is_digit, is_space, is_line, is_group_sign, is_decimal_sign, may_part}
-use Rattle.tr4_numbers.specs.Reading.{sort_of}
+use Rattle.tr4_numbers.specs.Readers.{sort_of}
 
 -- what the sort says of the tests: a digit, a space, a line's end, a decimal sign, a group sign
 abbrev pub Means : Bool → Bool → Bool → Bool → Bool → Sort → Type 0

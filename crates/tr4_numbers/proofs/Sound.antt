@@ -7,7 +7,7 @@ use Rattle.tr4_numbers.specs.declared.reader.Sort.TheVariants as S
 use Rattle.tr4_numbers.specs.declared.reader.Phase.{Phase}
 use Rattle.tr4_numbers.specs.declared.reader.Phase.TheVariants.{Start, Whole, Pause, Gap, Point, Fraction, End, Lead, Sum, Word, Cent, Tail}
 use Rattle.tr4_numbers.specs.Transformation.{AreDropped, IsDecimal, AreOthers, IsUnits, IsBetween, IsValue}
-use Rattle.tr4_numbers.specs.Reading.{sort_of, first, next, added, with_front, read_by, read}
+use Rattle.tr4_numbers.specs.Readers.{sort_of, first, next, added, with_front, read_by, read}
 use Rattle.tr4_numbers.proofs.Sorts.{Known, known, left, right, line-parts, decimal_sign-parts}
 use Rattle.tr4_numbers.proofs.SoundDecimal.{Rests, done, pointed, Gaps, Fractions, rests-gaps, wider, at_digit, digit-fraction, no_digits, first_digit, first_sign, first_dropped}
 use Rattle.tr4_numbers.proofs.SoundUnits.{Cents, Sums, Seconds, lead_digit, lead_dropped, next_digit, next_part, next_word, next_other, first_cent, one_cent, two_cents, last_cent}

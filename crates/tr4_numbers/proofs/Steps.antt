@@ -8,7 +8,7 @@ use Rattle.tr4_numbers.specs.declared.reader.Sort.TheVariants as S
 use Rattle.tr4_numbers.specs.declared.reader.Phase.{Phase}
 use Rattle.tr4_numbers.specs.declared.reader.Phase.TheVariants.{Start, Whole, Pause, Gap, Point, Fraction, End, Lead, Sum, Word, Cent, Tail}
 use Rattle.tr4_numbers.specs.Transformation.{IsValue}
-use Rattle.tr4_numbers.specs.Reading.{sort_of, first, next, may_end, last, added, with_front, read, held}
+use Rattle.tr4_numbers.specs.Readers.{sort_of, first, next, may_end, last, added, with_front, read, held}
 use Rattle.tr4_numbers.proofs.CompleteDecimal.{front-nil, front-front}
 use Rattle.tr4_numbers.proofs.Complete.{complete}
 use Rattle.tr4_numbers.proofs.Sound.{sound}

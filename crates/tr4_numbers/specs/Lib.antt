@@ -1,4 +1,4 @@
-pub mod Transformation
 pub mod Names
+pub mod Readers
+pub mod Transformation
 pub mod Values
-pub mod Reading

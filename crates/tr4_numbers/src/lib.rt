@@ -7,7 +7,7 @@ ghost use Rattle.tr4_numbers.specs.declared.FixedFormat.{FixedFormat};
 ghost use Rattle.tr4_numbers.specs.declared.NumberFormat.{NumberFormat};
 ghost use Rattle.tr4_numbers.specs.Transformation.{IsValue, IsFixedValue, Takes, fixed_value};
 ghost use Rattle.tr4_numbers.specs.Names.{number_name, fixed_name, number_name_3, fixed_name_3};
-ghost use Rattle.tr4_numbers.specs.Reading.{reads_dash};
+ghost use Rattle.tr4_numbers.specs.Readers.{reads_dash};
 ghost use Rattle.tr4_numbers.specs.Values.{IsUnsignedDecimal};
 
 mod reader;

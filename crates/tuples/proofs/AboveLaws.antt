@@ -7,13 +7,13 @@ use Rattle.std.specs.Prelude.{IfSome}
 use Rattle.ix_base.specs.declared.tree.Spot.{Spot, out-Spot}
 use Rattle.ix_base.specs.declared.tree.Spot as spots
 use Rattle.ix_base.specs.Elements.{path_above, place_of, placed}
-use Rattle.ix_base.specs.Located.{Located, is_tuple, located, on_page}
+use Rattle.ix_base.specs.LocatedElements.{Located, is_tuple, located, on_page}
 use Rattle.ix_base.specs.Membership.{nearest_tuple}
 use Rattle.ix_base.specs.Spots.{elements_up, IsOn, IsOnOnePage}
 use Rattle.id_table.specs.Tables.{elements_above}
 use Rattle.id_table.proofs.OnPages.{On-of, elements_up-is}
 use Rattle.tuples.specs.declared.fact.Owner.{Owner}
-use Rattle.tuples.specs.Known.{owner_seen}
+use Rattle.tuples.specs.OwnedFacts.{owner_seen}
 
 -- a spot is of the page of which all from it up is
 page-at : (n : ℕ) (s : Spot) → All (IsOn n) (elements_up s) → (place_of s).page ≡ n

@@ -9,7 +9,7 @@ use Rattle.ix_base.specs.Fronts.{AppendsFront}
 use Rattle.ix_base.specs.LinkRules.{breaking, broken_at, breaks_link, found_at}
 use Rattle.ix_base.specs.Kinds as kinds
 use Rattle.ix_base.specs.Kinds.{kind_of, same_kind}
-use Rattle.ix_base.specs.Located.{Located, is_fact, is_tuple}
+use Rattle.ix_base.specs.LocatedElements.{Located, is_fact, is_tuple}
 use Rattle.ix_base.specs.declared.kind.Kind.{Kind}
 use Rattle.ix_base.specs.declared.kind.Kind.TheVariants as kind
 use Rattle.ix_base.specs.Membership.{owner}
@@ -19,7 +19,7 @@ use Rattle.id_table.proofs.RowLemmas.{flat_map-next}
 use Rattle.tuples.specs.declared.fact.Fact.{Fact}
 use Rattle.tuples.specs.declared.rules.Test.{Test}
 use Rattle.tuples.specs.declared.rules.Test.TheVariants as test
-use Rattle.tuples.specs.Known.{all_seen, seen}
+use Rattle.tuples.specs.OwnedFacts.{all_seen, seen}
 use Rattle.tuples.specs.Tests.{tuple_rule}
 
 -- the breaches of a rule by the facts from this index on
@@ -74,7 +74,7 @@ breaks-no : (a : Asks Located) (t : Test) (e : Located) → is_fact e ≡ false 
 breaks-no a test.Lacking e h = and-left (is_fact e) _ h
 breaks-no a test.Deep e h = and-left (is_tuple e) _ (no-tuple (kind_of e.placed) h)
 breaks-no a test.Leaving e h = and-left (is_fact e) _ h
-breaks-no a test.Tied e h = and-left (is_fact e) _ h
+breaks-no a test.Repeating e h = and-left (is_fact e) _ h
 breaks-no a test.Unordered e h = and-left (is_fact e && is_some (owner a e)) _ (and-left (is_fact e) _ h)
 
 facts-only : (a : Asks Located) (t : Test) (e : Located) → is_fact e ≡ false → broken_at a (tuple_rule t) e ≡ []

@@ -5,9 +5,9 @@ use Rattle.std.proofs.lemmas.Bool.Decides.{nat_tests}
 use Rattle.std.specs.Prelude.{◌==◌}
 use Rattle.std.specs.Option.{option_map_or}
 use Rattle.ix_base.specs.Asks.{Asks}
-use Rattle.ix_base.specs.Located.{Located}
+use Rattle.ix_base.specs.LocatedElements.{Located}
 use Rattle.ix_base.specs.Membership.{owner, owners}
-use Rattle.tuples.specs.Known.{owner_seen}
+use Rattle.tuples.specs.OwnedFacts.{owner_seen}
 use Rattle.tuples.specs.Owners.{are_above}
 use Rattle.tuples.specs.declared.fact.Owner.{Owner}
 

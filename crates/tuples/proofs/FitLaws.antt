@@ -5,9 +5,9 @@ use Rattle.std.specs.List.{list_all, All, AllByRecursion}
 use Rattle.std.proofs.lemmas.List.Elements.{All-from_recursion}
 use Rattle.std.specs.Borrow.{Bor}
 use Rattle.ix_base.specs.declared.tree.Spot.{Spot}
-use Rattle.ix_base.specs.Located.{located}
+use Rattle.ix_base.specs.LocatedElements.{located}
 use Rattle.id_table.specs.Tables.{all_located}
-use Rattle.tuples.specs.Fits.{fits}
+use Rattle.tuples.specs.OrderNumbers.{fits}
 
 parts : (b c : Bool) → (b && c) ≡ true → (b ≡ true) × (c ≡ true)
 parts true c h = (refl, h)

@@ -10,18 +10,18 @@ use Rattle.indexmap.specs.IndexMap.{IndexMap}
 use Rattle.text_map.specs.Texts.{Texts}
 use Rattle.ix_base.specs.Asks.{Asks, only}
 use Rattle.ix_base.specs.Ids.{one_tuple}
-use Rattle.ix_base.specs.Located.{Located, located}
+use Rattle.ix_base.specs.LocatedElements.{Located, located}
 use Rattle.ix_base.specs.Membership as spec
 use Rattle.ix_base.specs.declared.tree.Spot.{Spot}
+use Rattle.id_table.specs.declared.slice.Slice.{Slice}
+use Rattle.id_table.specs.Slices.{lists_in, slice_at}
 use Rattle.id_table.specs.Tables.{all_located, spots_at}
-use Rattle.tuples.specs.declared.slice.Slice.{Slice}
-use Rattle.tuples.specs.Grouped.{is_key}
-use Rattle.tuples.specs.Kept.{Kept, listed, owner_by, tuple_at, tuples_in}
-use Rattle.tuples.specs.Slices.{lists_in, members_in, slice_at}
+use Rattle.id_table.proofs.SliceLaws.{lookup-lists_in}
+use Rattle.tuples.specs.Model.{Kept, listed, owner_by, tuple_at, tuples_in}
 
 pub listed-is : {S : Type 0} (m : IndexMap (ℕ × ℕ) Slice S) (ts : List (List ℕ × List Located)) (page offset : ℕ)
     → listed (record { lists = lists_in m; tuples = ts }) page offset ≡ option_map_or (λ l. l) (slice_at m page offset) []
-listed-is m ts page offset = ap (λ o. option_map_or (λ l. l) o []) (lookup-map_values members_in (is_key page offset) m.entries)
+listed-is m ts page offset = ap (λ o. option_map_or (λ l. l) o []) (lookup-lists_in m page offset)
 
 only-map : (xs : List (Bor Spot)) → only (all_located xs) ≡ option_map (λ s. located s.now) (only xs)
 only-map [] = refl

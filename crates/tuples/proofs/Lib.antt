@@ -2,6 +2,7 @@ pub mod AboveLaws
 pub mod Adding
 pub mod DeepLaws
 pub mod Each
+pub mod EqualOrders
 pub mod FitLaws
 pub mod GroupLaws
 pub mod KeptLaws
@@ -10,4 +11,3 @@ pub mod OrderLaws
 pub mod RankLaws
 pub mod RisingLaws
 pub mod SliceLaws
-pub mod TieLaws

@@ -9,12 +9,12 @@ use Rattle.std.specs.declared.cmp.Ordering.TheVariants.{Less, Equal, Greater}
 use Rattle.ix_base.proofs.StableLemmas.{sorted-map}
 use Rattle.ix_base.specs.Asks.{Asks, asks}
 use Rattle.ix_base.specs.LinkRules.{is_at, ties, same_order, are_many}
-use Rattle.ix_base.specs.Located.{Located, is_fact, same_place, offset_of}
+use Rattle.ix_base.specs.LocatedElements.{Located, is_fact, same_place, offset_of}
 use Rattle.ix_base.specs.Membership.{owner}
-use Rattle.ix_base.specs.Sorted.{put_by, put, sorted}
+use Rattle.ix_base.specs.SortedLists.{put_by, put, sorted}
 use Rattle.tuples.specs.declared.fact.Fact.{Fact}
-use Rattle.tuples.specs.Grouping.{is_member_at, members_at}
-use Rattle.tuples.specs.Known.{all_seen, by_order, fact_cmp, is_owned_at, seen, IsKnown}
+use Rattle.tuples.specs.MemberTables.{is_member_at, members_at}
+use Rattle.tuples.specs.OwnedFacts.{all_seen, by_order, fact_cmp, is_owned_at, seen, IsKnown}
 
 keep : (p : Located → Bool) (b : Bool) (e : Located) (es rest : List Located) → filter p es ≡ rest
     → filter p (cond b (e ∷ es) es) ≡ cond (b && p e) (e ∷ rest) rest
@@ -75,18 +75,18 @@ filter-same : (p q : Located → Bool) → ((x : Located) → p x ≡ q x) → (
 filter-same p q h [] = refl
 filter-same p q h (x ∷ xs) = λ i. cond (h x i) (x ∷ filter-same p q h xs i) (filter-same p q h xs i)
 
-tie-by : (a : Asks Located) (e o : Located) (r : Option Located) (f : Located) → r ≡ Some o
+same-by : (a : Asks Located) (e o : Located) (r : Option Located) (f : Located) → r ≡ Some o
     → (is_member_at a o.page (offset_of o) f && same_order e f)
     ≡ (is_fact f && option_map_or (λ o. option_map_or (same_place o) (owner a f) false) r false && same_order e f)
-tie-by a e o r f h = ap (λ r. is_fact f && option_map_or (λ o. option_map_or (same_place o) (owner a f) false) r false && same_order e f) (sym h)
+same-by a e o r f h = ap (λ r. is_fact f && option_map_or (λ o. option_map_or (same_place o) (owner a f) false) r false && same_order e f) (sym h)
 
 neither : (b c : Bool) → (b && false && c) ≡ false
 neither true c = refl
 neither false c = refl
 
-tie-none : (a : Asks Located) (e : Located) (r : Option Located) (f : Located) → r ≡ None
+same-none : (a : Asks Located) (e : Located) (r : Option Located) (f : Located) → r ≡ None
     → (is_fact f && option_map_or (λ o. option_map_or (same_place o) (owner a f) false) r false && same_order e f) ≡ false
-tie-none a e r f h =
+same-none a e r f h =
     ap (λ r. is_fact f && option_map_or (λ o. option_map_or (same_place o) (owner a f) false) r false && same_order e f) h ∙ neither (is_fact f) (same_order e f)
 
 nothing-kept : (xs : List Located) → filter (λ x. false) xs ≡ []
@@ -94,13 +94,13 @@ nothing-kept [] = refl
 nothing-kept (x ∷ xs) = nothing-kept xs
 
 -- of the members of a fact's tuple more than one has its order
-pub tied-among : (es : List Located) (e o : Located) → owner (asks es) e ≡ Some o
+pub repeated-among : (es : List Located) (e o : Located) → owner (asks es) e ≡ Some o
     → nat_lt 1 (length (filter (same_order e) (members_at es o.page (offset_of o)))) ≡ are_many (asks es) (ties (asks es) e)
-tied-among es e o h =
+repeated-among es e o h =
     ap (nat_lt 1) (count-sorted by_order (same_order e) (filter (is_member_at (asks es) o.page (offset_of o)) es))
     ∙ ap (λ l. nat_lt 1 (length l)) (twice (same_order e) (is_member_at (asks es) o.page (offset_of o)) es
-    ∙ filter-same (λ f. is_member_at (asks es) o.page (offset_of o) f && same_order e f) (ties (asks es) e) (λ f. tie-by (asks es) e o (owner (asks es) e) f h) es)
+    ∙ filter-same (λ f. is_member_at (asks es) o.page (offset_of o) f && same_order e f) (ties (asks es) e) (λ f. same-by (asks es) e o (owner (asks es) e) f h) es)
 
-pub none-tied : (es : List Located) (e : Located) → owner (asks es) e ≡ None → false ≡ are_many (asks es) (ties (asks es) e)
-none-tied es e h =
-    ap (λ l. nat_lt 1 (length l)) (sym (filter-same (ties (asks es) e) (λ f. false) (λ f. tie-none (asks es) e (owner (asks es) e) f h) es ∙ nothing-kept es))
+pub none-repeated : (es : List Located) (e : Located) → owner (asks es) e ≡ None → false ≡ are_many (asks es) (ties (asks es) e)
+none-repeated es e h =
+    ap (λ l. nat_lt 1 (length l)) (sym (filter-same (ties (asks es) e) (λ f. false) (λ f. same-none (asks es) e (owner (asks es) e) f h) es ∙ nothing-kept es))

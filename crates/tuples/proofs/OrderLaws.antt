@@ -16,7 +16,7 @@ use Rattle.ix_base.specs.Decimals.{AreDigits, number_in, front_of, back_of, whol
 use Rattle.ix_base.specs.Forms.{is_digit, is_decimal, is_negative, unsigned_of, with_sign}
 use Rattle.ix_base.specs.Orders.{decimal_cmp, order_cmp, times}
 use Rattle.tuples.specs.DecimalOrder.{size_cmp, signed_cmp}
-use Rattle.scale_sign.specs.Written.{strip, cut, kept}
+use Rattle.scale_sign.specs.WrittenDigits.{strip, cut, kept}
 use Rattle.scale_sign.proofs.Digits.{AreDigits-append, AreDigits-left, AreDigits-right, AreDigits-zeros, cut-pad}
 use Rattle.scale_sign.proofs.Values.{number_in-append, number_in-below, number_in-pad, number_in-strip, pow_pos-ten}
 
@@ -63,26 +63,26 @@ digits-cmp (x ∷ xs) (y ∷ ys) d e l =
     ∙ sym (place-cmp (x - 48) (y - 48) (number_in xs) (number_in ys) (10 ^ length xs) (number_in-below xs d.2) (rw k (number_in-below ys e.2)))
     ∙ ap (λ n. nat_cmp ((x - 48) * 10 ^ length xs + number_in xs) ((y - 48) * 10 ^ n + number_in ys)) k
 
-less-or_tie : (o : Ordering) (c d : ℕ) → MatchOrdering o (c < d) (c ≡ d) (d < c) → c ≤ d → ordering_then o Less ≡ Less
-less-or_tie Less c d m l = refl
-less-or_tie Equal c d m l = refl
-less-or_tie Greater c d m l = absurd (omega arith)
+less-or_equal : (o : Ordering) (c d : ℕ) → MatchOrdering o (c < d) (c ≡ d) (d < c) → c ≤ d → ordering_then o Less ≡ Less
+less-or_equal Less c d m l = refl
+less-or_equal Equal c d m l = refl
+less-or_equal Greater c d m l = absurd (omega arith)
 
-greater-or_tie : (o : Ordering) (c d : ℕ) → MatchOrdering o (c < d) (c ≡ d) (d < c) → d ≤ c → ordering_then o Greater ≡ Greater
-greater-or_tie Less c d m l = absurd (omega arith)
-greater-or_tie Equal c d m l = refl
-greater-or_tie Greater c d m l = refl
+greater-or_equal : (o : Ordering) (c d : ℕ) → MatchOrdering o (c < d) (c ≡ d) (d < c) → d ≤ c → ordering_then o Greater ≡ Greater
+greater-or_equal Less c d m l = absurd (omega arith)
+greater-or_equal Equal c d m l = refl
+greater-or_equal Greater c d m l = refl
 
 kept-cmp : (c d : ℕ) (ps qs : List ℕ) → 48 ≤ c → 48 ≤ d → ordering_then (nat_cmp c d) (slice_cmp nat_cmp ps qs) ≡ slice_cmp nat_cmp (kept c ps) (kept d qs)
 kept-cmp c d (p ∷ ps) (q ∷ qs) l h = refl
 kept-cmp c d [] (q ∷ qs) l h =
     elim (cases_eq c 48) [
-      | inl e ↦ rw (eq-eqb c 48 e) (less-or_tie (nat_cmp c d) c d (ranked c d (nat_cmp c d) refl) (omega arith))
+      | inl e ↦ rw (eq-eqb c 48 e) (less-or_equal (nat_cmp c d) c d (ranked c d (nat_cmp c d) refl) (omega arith))
       | inr n ↦ rw (ne_eqb c 48 n) refl
     ]
 kept-cmp c d (p ∷ ps) [] l h =
     elim (cases_eq d 48) [
-      | inl e ↦ rw (eq-eqb d 48 e) (greater-or_tie (nat_cmp c d) c d (ranked c d (nat_cmp c d) refl) (omega arith))
+      | inl e ↦ rw (eq-eqb d 48 e) (greater-or_equal (nat_cmp c d) c d (ranked c d (nat_cmp c d) refl) (omega arith))
       | inr n ↦ rw (ne_eqb d 48 n) refl
     ]
 kept-cmp c d [] [] l h =
@@ -264,10 +264,10 @@ decimal-is x y dx dy =
 
 -- decimals are in one order
 
-then-tie : (o : Ordering) → ordering_then o Equal ≡ o
-then-tie Less = refl
-then-tie Equal = refl
-then-tie Greater = refl
+then-equal : (o : Ordering) → ordering_then o Equal ≡ o
+then-equal Less = refl
+then-equal Equal = refl
+then-equal Greater = refl
 
 add-zero : (n : ℕ) → n ≡ n + 0
 add-zero n = omega arith
@@ -278,7 +278,7 @@ plus_comm m n = omega arith
 scaled-cmp : (n m k : ℕ) → nat_cmp (n * 10 ^ k) (m * 10 ^ k) ≡ nat_cmp n m
 scaled-cmp n m k =
     let p = pow_pos-ten k in
-    let e : nat_cmp (n * 10 ^ k + 0) (m * 10 ^ k + 0) ≡ nat_cmp n m = place-cmp n m 0 0 (10 ^ k) p p ∙ then-tie (nat_cmp n m) in
+    let e : nat_cmp (n * 10 ^ k + 0) (m * 10 ^ k + 0) ≡ nat_cmp n m = place-cmp n m 0 0 (10 ^ k) p p ∙ then-equal (nat_cmp n m) in
     (λ i. nat_cmp (add-zero (n * 10 ^ k) (i)) (add-zero (m * 10 ^ k) (i))) ∙ e
 
 power : (w i k : ℕ) → w * 10 ^ (i + k) ≡ (w * 10 ^ i) * 10 ^ k

@@ -7,10 +7,10 @@ use Rattle.std.specs.List.{filter}
 use Rattle.std.specs.List.Sorted.{IsPartitionedBy, IsSortedBy, IsStableBy, ties}
 use Rattle.ix_base.proofs.StableLemmas.{stable_is_sorted}
 use Rattle.ix_base.specs.Membership.{order_of}
-use Rattle.ix_base.specs.Sorted.{sorted}
+use Rattle.ix_base.specs.SortedLists.{sorted}
 use Rattle.tuples.specs.declared.fact.Fact.{Fact}
-use Rattle.tuples.specs.Grouped.{is_earlier}
-use Rattle.tuples.specs.Known.{fact_cmp, seen}
+use Rattle.tuples.specs.FactGroups.{is_earlier}
+use Rattle.tuples.specs.OwnedFacts.{fact_cmp, seen}
 use Rattle.tuples.proofs.OrderLaws.{order_total}
 
 pub strict : IsStrictWeakOrder is_earlier

@@ -15,12 +15,12 @@ use Rattle.ix_base.specs.declared.rule.Rule.{Rule}
 use Rattle.ix_base.specs.declared.rule.Rule.TheVariants.{L12, L13}
 use Rattle.ix_base.specs.Asks.{Asks, asks}
 use Rattle.ix_base.specs.LinkRules.{are_siblings, breaking, breaks_link, broken_at, same_order, ties}
-use Rattle.ix_base.specs.Located.{Located, is_fact, offset_of, same_place}
+use Rattle.ix_base.specs.LocatedElements.{Located, is_fact, offset_of, same_place}
 use Rattle.ix_base.specs.Membership.{is_owned_by, members, order_of, owner}
 use Rattle.ix_base.specs.Orders.{decimal_cmp, order_cmp, same_decimal}
 use Rattle.ix_base.specs.Rows.{row}
-use Rattle.ix_base.specs.Sorted.{put, put_by, sorted}
-use Rattle.tuples.specs.Rising.{RiseStrictly}
+use Rattle.ix_base.specs.SortedLists.{put, put_by, sorted}
+use Rattle.tuples.specs.StrictOrder.{RiseStrictly}
 use Rattle.tuples.proofs.OrderLaws.{decimal_total, order_total}
 
 module _ {X : Type 0} (R : X → X → Ordering) (o : IsTotalOrder R) where
@@ -164,16 +164,16 @@ module _ (a : Asks Located) (t : Located) where
   all-and : (b c d : Bool) → b ≡ true → c ≡ true → (b && c && d) ≡ d
   all-and b c d e f = λ i. e i && f i && d
 
-  tie-is : (e f : Located) → owned e ≡ true → owned f ≡ true → ties a e f ≡ same_order e f
-  tie-is e f h k =
+  same_order-is : (e f : Located) → owned e ≡ true → owned f ≡ true → ties a e f ≡ same_order e f
+  same_order-is e f h k =
       let m = both (is_fact e) (option_map_or (same_place t) (owner a e) false) h in
       let n = both (is_fact f) (option_map_or (same_place t) (owner a f) false) k in
       all-and (is_fact f) (are_siblings a e f) (same_order e f) n.0 (same-owner (owner a e) (owner a f) m.1 n.1)
 
   differ : (e f : Located) → owned e ≡ true → is_some (order_of e) ≡ true → owned f ≡ true → ties a e f ≡ false → order_cmp (order_of e) (order_of f) ≢ Equal
-  differ e f h s k q = apart-by (order_of e) (order_of f) s (sym (tie-is e f h k) ∙ q)
+  differ e f h s k q = apart-by (order_of e) (order_of f) s (sym (same_order-is e f h k) ∙ q)
 
-  -- none of those behind a member ties with it
+  -- none of those behind a member has its order
   apart-from : (e : Located) (back : List Located) → owned e ≡ true → is_some (order_of e) ≡ true → All (λ f. ties a e f ≡ false) back
       → All (λ f. order_cmp (order_of e) (order_of f) ≢ Equal) (filter owned back)
   apart-from e [] h s d = All-nil (λ f. order_cmp (order_of e) (order_of f) ≢ Equal)
@@ -217,7 +217,7 @@ module _ (all : List Located) (t : Located) where
             let has = has-order (asks all) t e h (All-head (λ e. breaks_link (asks all) e L13 ≡ false) e back l13) in
             let few = subst (λ es. nat_lt 1 (length (filter (ties (asks all) e) es)) ≡ false) s
             (repeats-not (asks all) t e (length (filter (ties (asks all) e) all)) h (All-head (λ e. breaks_link (asks all) e L12 ≡ false) e back l12)) in
-            let none = behind-one (ties (asks all) e) front e back few (tie-is (asks all) t e e h h ∙ own-order (order_of e) has) in
+            let none = behind-one (ties (asks all) e) front e back few (same_order-is (asks all) t e e h h ∙ own-order (order_of e) has) in
             (apart-from (asks all) t e back h has none, rest)
         by false h rest = rest
 

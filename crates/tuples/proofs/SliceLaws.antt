@@ -1,54 +1,22 @@
 -- Members that are kept by place, owner by owner.
-use Rattle.std.proofs.Common.{◌≡◌, ◌∙◌, ◌++◌, ◌+◌, ◌<◌, length, take, get_or, ℕ, Bool, true, false, cond, List, [], ◌∷◌, refl, ap, sym, Option, Some, None, option_map, eqb→eq, subst, ◌||◌, arith}
-use Rattle.std.proofs.Math.Dec.{T}
+use Rattle.std.proofs.Common.{◌≡◌, ◌∙◌, ◌++◌, ◌+◌, ◌<◌, length, take, get_or, ℕ, Bool, true, false, cond, List, [], ◌∷◌, refl, ap, sym, Option, Some, None, ◌||◌, arith}
 use Rattle.std.proofs.lemmas.Bool.Decides.{nat_tests}
 use Rattle.std.proofs.lemmas.List.{take_more}
-use Rattle.std.specs.Prelude.{◌&&◌, ◌==◌, is_some, Vec}
+use Rattle.std.specs.Prelude.{◌&&◌, ◌==◌, Vec}
 use Rattle.std.specs.Option.{option_map_or}
 use Rattle.std.specs.Global.{Global}
 use Rattle.std.specs.List.{list_any, filter, All}
 use Rattle.indexmap.specs.IndexMap.{IndexMap}
 use Rattle.ix_base.specs.Asks.{asks}
-use Rattle.ix_base.specs.Located.{Located, is_fact}
-use Rattle.ix_base.specs.Sorted.{sorted}
+use Rattle.ix_base.specs.LocatedElements.{Located, is_fact}
+use Rattle.ix_base.specs.SortedLists.{sorted}
+use Rattle.id_table.specs.Slices.{put_first}
+use Rattle.id_table.proofs.SliceLaws.{same-key}
 use Rattle.tuples.specs.declared.fact.Fact.{Fact}
-use Rattle.tuples.specs.declared.slice.Slice.{Slice}
-use Rattle.tuples.specs.Grouped.{group_at}
-use Rattle.tuples.specs.Grouping.{members_at, AreGrouped}
-use Rattle.tuples.specs.Known.{all_seen, fact_cmp, is_owned_at, IsKnown}
-use Rattle.tuples.specs.Slices.{members_in, put_first}
+use Rattle.tuples.specs.FactGroups.{group_at}
+use Rattle.tuples.specs.MemberTables.{members_at, AreGrouped}
+use Rattle.tuples.specs.OwnedFacts.{all_seen, fact_cmp, is_owned_at, IsKnown}
 use Rattle.tuples.proofs.MemberLaws.{members-are}
-
-entered-by : (old new : Option (List Located)) (b : Bool) (x : List Located) → (b ≡ true → old ≡ None) → new ≡ cond b (Some x) old → new ≡ put_first old b x
-entered-by old new true x h n = n ∙ sym (ap (λ o. put_first o true x) (h refl))
-entered-by None new false x h n = n
-entered-by (Some y) new false x h n = n
-
-option_map-cond : {X Y : Type 0} (f : X → Y) (b : Bool) (o p : Option X) → option_map f (cond b o p) ≡ cond b (option_map f o) (option_map f p)
-option_map-cond f true o p = refl
-option_map-cond f false o p = refl
-
-pub none-of : {X : Type 0} (o : Option X) → is_some o ≡ false → o ≡ None
-none-of None h = refl
-none-of (Some x) h = absurd (cc)
-
-both : (a b : Bool) → (a && b) ≡ true → (a ≡ true) × (b ≡ true)
-both true b h = (refl, h)
-both false b h = absurd (cc)
-
-same-nat : (m n : ℕ) → (m == n) ≡ true → m ≡ n
-same-nat m n e = eqb→eq m n (subst T (sym e) tt)
-
-pub same-key : {X : Type 0} (f : ℕ → ℕ → X) (k l page offset : ℕ) → ((k == page) && (l == offset)) ≡ true → f k l ≡ f page offset
-same-key f k l page offset e =
-    let p : (k == page) ≡ true = (both (k == page) (l == offset) e).0 in
-    let q : (l == offset) ≡ true = (both (k == page) (l == offset) e).1 in
-    λ i. f (same-nat k page p i) (same-nat l offset q i)
-
-pub slice-entered : (old new : Option Slice) (b : Bool) (x : Slice) → (b ≡ true → option_map members_in old ≡ None) → new ≡ cond b (Some x) old
-    → option_map members_in new ≡ put_first (option_map members_in old) b (members_in x)
-slice-entered old new b x h n =
-    entered-by (option_map members_in old) _ b (members_in x) h (ap (option_map members_in) n ∙ option_map-cond members_in b (Some x) old)
 
 -- what is put in where the test holds may be told in other words there
 put-same : (old : Option (List Located)) (b : Bool) (x y : List Located) → (b ≡ true → x ≡ y) → put_first old b x ≡ put_first old b y

@@ -4,7 +4,7 @@ use Rattle.std.specs.Cmp.Lexicographic.{slice_cmp}
 use Rattle.std.specs.Ordering.{nat_cmp, ordering_then}
 use Rattle.std.specs.declared.cmp.Ordering.{Ordering}
 use Rattle.std.specs.declared.cmp.Ordering.TheVariants.{Less, Greater}
-use Rattle.scale_sign.specs.Written.{strip, cut}
+use Rattle.scale_sign.specs.WrittenDigits.{strip, cut}
 
 -- two decimals without a sign, by their digits in front of the point and behind it
 abbrev pub size_cmp : List ℕ → List ℕ → List ℕ → List ℕ → Ordering

@@ -1,10 +1,9 @@
 pub mod DecimalOrder
-pub mod Fits
-pub mod Grouped
-pub mod Grouping
-pub mod Kept
-pub mod Known
+pub mod FactGroups
+pub mod MemberTables
+pub mod Model
+pub mod OrderNumbers
+pub mod OwnedFacts
 pub mod Owners
-pub mod Rising
-pub mod Slices
+pub mod StrictOrder
 pub mod Tests

@@ -1,7 +1,7 @@
 -- Owners above owners.
 use Rattle.std.specs.Prelude.{ℕ, zero, suc, Bool, true, false, Option, Some, None}
 use Rattle.ix_base.specs.Asks.{Asks}
-use Rattle.ix_base.specs.Located.{Located}
+use Rattle.ix_base.specs.LocatedElements.{Located}
 use Rattle.ix_base.specs.Membership.{owner}
 
 -- so many owners stand above, from this one on

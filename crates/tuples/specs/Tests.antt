@@ -9,5 +9,5 @@ abbrev pub tuple_rule : Test → Rule
 tuple_rule test.Lacking = L8
 tuple_rule test.Deep = L9
 tuple_rule test.Leaving = L10
-tuple_rule test.Tied = L12
+tuple_rule test.Repeating = L12
 tuple_rule test.Unordered = L13

@@ -5,8 +5,7 @@ ghost use Rattle.ix_base.specs.Forms as forms;
 ghost use Rattle.ix_base.specs.Orders as orders;
 ghost use Rattle.tuples.specs.DecimalOrder as spec;
 
-use ix_base::{has_minus, unsigned_of};
-use scale_sign::{is_negative, parts_of, stripped, trimmed};
+use scale_sign::{has_minus, is_negative, parts_of, stripped, trimmed, unsigned_of};
 use std::cmp::Ordering;
 
 /// Two decimals without a sign, by their digits in front of the point and behind it.

@@ -1,10 +1,10 @@
-//! A fact, with its order and its owner.
+//! Facts with what tuples ask of them.
 ghost use Rattle.std.specs.Prelude.{◌≡◌, true, option_map};
-ghost use Rattle.ix_base.specs.Located as kinds;
-ghost use Rattle.ix_base.specs.Located.{located};
+ghost use Rattle.ix_base.specs.LocatedElements as kinds;
+ghost use Rattle.ix_base.specs.LocatedElements.{located};
 ghost use Rattle.ix_base.specs.Membership.{order_of};
 ghost use Rattle.ix_base.specs.Spots.{IsOnOnePage};
-ghost use Rattle.tuples.specs.Fits.{is_number};
+ghost use Rattle.tuples.specs.OrderNumbers.{is_number};
 
 use ix_base::Spot;
 

@@ -1,12 +1,12 @@
 //! The facts of a set, each with its order and its owner.
 ghost use Rattle.std.specs.Prelude.{◌≡◌, ◌++◌, OnOk, IfOk, All, true, [], ◌∷◌, filter, option_map};
-ghost use Rattle.ix_base.specs.Located as kinds;
-ghost use Rattle.ix_base.specs.Located.{located};
+ghost use Rattle.ix_base.specs.LocatedElements as kinds;
+ghost use Rattle.ix_base.specs.LocatedElements.{located};
 ghost use Rattle.ix_base.specs.Membership as spec;
 ghost use Rattle.ix_base.specs.Spots.{IsOnOnePage};
-ghost use Rattle.id_table.specs.Held.{asked};
-ghost use Rattle.tuples.specs.Fits.{fits};
-ghost use Rattle.tuples.specs.Known.{seen, all_seen, IsKnown};
+ghost use Rattle.id_table.specs.Model.{asked};
+ghost use Rattle.tuples.specs.OrderNumbers.{fits};
+ghost use Rattle.tuples.specs.OwnedFacts.{seen, all_seen, IsKnown};
 
 use crate::fact::Fact;
 use crate::owners::owner_of;

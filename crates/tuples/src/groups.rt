@@ -1,10 +1,10 @@
 //! Facts by the places of their owners.
 ghost use Rattle.std.specs.Prelude.{◌≡◌, ◌++◌, ◌==◌, ◌&&◌, if◌then◌else◌, ℕ, OnOk, IfOk, All, [], ◌∷◌, filter};
-ghost use Rattle.ix_base.specs.Located.{is_fact};
-ghost use Rattle.id_table.specs.Held.{asked};
-ghost use Rattle.tuples.specs.Grouped.{group_at, put_at, AreGroups};
-ghost use Rattle.tuples.specs.Grouping.{AreGrouped};
-ghost use Rattle.tuples.specs.Known.{all_seen, is_owned_at, IsKnown};
+ghost use Rattle.ix_base.specs.LocatedElements.{is_fact};
+ghost use Rattle.id_table.specs.Model.{asked};
+ghost use Rattle.tuples.specs.FactGroups.{group_at, put_at, AreGroups};
+ghost use Rattle.tuples.specs.MemberTables.{AreGrouped};
+ghost use Rattle.tuples.specs.OwnedFacts.{all_seen, is_owned_at, IsKnown};
 
 use crate::fact::Fact;
 use crate::owners::place_of;

@@ -8,6 +8,7 @@
 #![tactic(auto)]
 
 mod decimals;
+mod equal_orders;
 mod fact;
 mod facts;
 mod groups;
@@ -16,10 +17,8 @@ mod linking;
 mod members;
 mod owners;
 mod rules;
-mod slice;
 mod slices;
 mod sorting;
-mod ties;
 
 pub use linking::membership;
 pub use members::Members;

@@ -3,12 +3,12 @@ ghost use Rattle.std.specs.Prelude.{◌≡◌, ◌++◌, All, IfOk, OnErr, OnOk,
 ghost use Rattle.ix_base.specs.Fronts.{AppendsFront};
 ghost use Rattle.ix_base.specs.declared.rule.Rule.TheVariants.{L8, L9, L10, L12, L13};
 ghost use Rattle.ix_base.specs.LinkRules.{breaking};
-ghost use Rattle.ix_base.specs.Located.{is_fact};
-ghost use Rattle.id_table.specs.Held.{asked};
-ghost use Rattle.tuples.specs.Fits.{fits};
-ghost use Rattle.tuples.specs.Grouping.{AreGrouped};
-ghost use Rattle.tuples.specs.Kept.{AreMembersOf};
-ghost use Rattle.tuples.specs.Known.{all_seen, IsKnown};
+ghost use Rattle.ix_base.specs.LocatedElements.{is_fact};
+ghost use Rattle.id_table.specs.Model.{asked};
+ghost use Rattle.tuples.specs.OrderNumbers.{fits};
+ghost use Rattle.tuples.specs.MemberTables.{AreGrouped};
+ghost use Rattle.tuples.specs.Model.{AreMembersOf};
+ghost use Rattle.tuples.specs.OwnedFacts.{all_seen, IsKnown};
 
 use crate::fact::Fact;
 use crate::facts::facts_of;
@@ -38,7 +38,7 @@ fn add_breaches<'a>(
     add_broken(index, groups, facts, Test::Lacking, breaches)?;
     add_broken(index, groups, facts, Test::Deep, breaches)?;
     add_broken(index, groups, facts, Test::Leaving, breaches)?;
-    add_broken(index, groups, facts, Test::Tied, breaches)?;
+    add_broken(index, groups, facts, Test::Repeating, breaches)?;
     add_broken(index, groups, facts, Test::Unordered, breaches)
 }
 

@@ -4,24 +4,24 @@ ghost use Rattle.std.specs.Option.{option_map_or};
 ghost use Rattle.ix_base.specs.Asks.{only};
 ghost use Rattle.ix_base.specs.Elements.{placed};
 ghost use Rattle.ix_base.specs.Ids as ids;
-ghost use Rattle.ix_base.specs.Located.{is_fact, located, offset_of};
+ghost use Rattle.ix_base.specs.LocatedElements.{is_fact, located, offset_of};
 ghost use Rattle.ix_base.specs.Membership as spec;
 ghost use Rattle.ix_base.specs.Spots.{IsOnOnePage};
-ghost use Rattle.id_table.specs.Held.{asked};
+ghost use Rattle.id_table.specs.Model.{asked};
+ghost use Rattle.id_table.specs.Slices.{slice_at};
 ghost use Rattle.id_table.specs.Tables.{all_located, spots_at, AreOnOwnPages};
-ghost use Rattle.tuples.specs.Grouping.{AreGrouped};
-ghost use Rattle.tuples.specs.Kept.{listed, owner_in, AreAllOnOwnPages, AreMembersOf};
-ghost use Rattle.tuples.specs.Known.{all_seen, IsKnown};
-ghost use Rattle.tuples.specs.Slices.{members_in, slice_at};
+ghost use Rattle.tuples.specs.MemberTables.{AreGrouped};
+ghost use Rattle.tuples.specs.Model.{listed, owner_in, AreAllOnOwnPages, AreMembersOf};
+ghost use Rattle.tuples.specs.OwnedFacts.{all_seen, IsKnown};
 
 use crate::fact::Fact;
 use crate::groups::Groups;
 use crate::owners::nearest_tuple;
-use crate::slice::Slice;
-use crate::slices::{Slices, slices_of};
+use crate::slices::slices_of;
 use bumpalo::Bump;
-use id_table::{Holders, Index, enter, one_in};
-use ix_base::{NoMemory, Spot, tuple_id_at, tuple_ref};
+use id_table::{Holders, Index, Slice, Slices, enter, one_in, slice_in};
+use ix_base::{NoMemory, Spot};
+use link_ids::{tuple_id_at, tuple_ref};
 use std::alloc::Global;
 use std::marker::Model;
 
@@ -35,8 +35,8 @@ pub struct Members<'a> {
 }
 
 impl<'a> Model for Members<'a> {
-    ghost use Rattle.tuples.specs.Kept.{kept_code, tuples_in, AreAllOnOwnPages, Kept};
-    ghost use Rattle.tuples.specs.Slices.{lists_in};
+    ghost use Rattle.id_table.specs.Slices.{lists_in};
+    ghost use Rattle.tuples.specs.Model.{kept_code, tuples_in, AreAllOnOwnPages, Kept};
 
     ghost Value = { Kept };
 
@@ -58,13 +58,6 @@ fn tuples_of<'a>(alloc: Global, index: &Index<'a>) -> Result<Holders<'a>, NoMemo
         enter(&mut tuples, tuple_id_at(spot), *spot)?;
     }
     Ok(tuples)
-}
-
-/// The members that are kept at a place, if there are any.
-fn slice_in<'a>(slices: &Slices<'a>, key: (u32, u64)) -> Option<Slice<'a>>
-    ensures { option_map members_in result ≡ slice_at slices.now key.0 key.1 }
-{
-    slices.get(&key).copied()
 }
 
 /// The members that are kept at a place.
@@ -99,7 +92,7 @@ fn tuple_around<'a>(spot: &Spot<'a>) -> Option<&'a Spot<'a>>
 }
 
 impl<'a> Members<'a> {
-    /// The members of a tuple by rising order, those that tie as they came, and those without one behind all others. It
+    /// The members of a tuple by rising order, those with equal orders as they came, and those without one behind all others. It
     /// takes no memory.
     pub fn of(&self, tuple: &Spot<'a>) -> &'a [&'a Spot<'a>]
         ensures members { all_located result.now ≡ listed self.now (located tuple.now).page (offset_of (located tuple.now)) }

@@ -2,16 +2,17 @@
 ghost use Rattle.std.specs.Prelude.{◌≡◌, All, IfSome, option_map};
 ghost use Rattle.ix_base.specs.Elements.{placed, path_above};
 ghost use Rattle.ix_base.specs.Ids as ids;
-ghost use Rattle.ix_base.specs.Located.{located, on_page, offset_of};
+ghost use Rattle.ix_base.specs.LocatedElements.{located, on_page, offset_of};
 ghost use Rattle.ix_base.specs.Membership as spec;
 ghost use Rattle.ix_base.specs.Spots.{IsOn, IsOnOnePage};
-ghost use Rattle.id_table.specs.Held.{asked};
+ghost use Rattle.id_table.specs.Model.{asked};
 ghost use Rattle.id_table.specs.Tables.{elements_above};
-ghost use Rattle.tuples.specs.Known.{owner_seen};
+ghost use Rattle.tuples.specs.OwnedFacts.{owner_seen};
 
 use crate::fact::Owner;
 use id_table::Index;
-use ix_base::{Spot, is_tuple, tuple_ref};
+use ix_base::{Spot, is_tuple};
+use link_ids::tuple_ref;
 
 /// The place of an owner.
 pub(crate) fn place_of(owner: Owner<'_>) -> (u32, u64)

@@ -5,22 +5,23 @@ ghost use Rattle.ix_base.specs.Fronts.{AppendsFront};
 ghost use Rattle.ix_base.specs.Ids as ids;
 ghost use Rattle.ix_base.specs.LinkRules as rules_of;
 ghost use Rattle.ix_base.specs.LinkRules.{breaking, broken_at, breaks_link};
-ghost use Rattle.ix_base.specs.Located as kinds;
+ghost use Rattle.ix_base.specs.LocatedElements as kinds;
 ghost use Rattle.ix_base.specs.Membership as spec;
-ghost use Rattle.id_table.specs.Held.{asked};
-ghost use Rattle.tuples.specs.Grouping.{AreGrouped};
-ghost use Rattle.tuples.specs.Known.{all_seen, owner_seen, seen, IsKnown};
+ghost use Rattle.id_table.specs.Model.{asked};
+ghost use Rattle.tuples.specs.MemberTables.{AreGrouped};
+ghost use Rattle.tuples.specs.OwnedFacts.{all_seen, owner_seen, seen, IsKnown};
 ghost use Rattle.tuples.specs.Owners.{are_above};
 ghost use Rattle.tuples.specs.Tests.{tuple_rule};
 
+use crate::equal_orders::repeats_order;
 use crate::fact::{Fact, Owner};
 use crate::groups::Groups;
 use crate::owners::owner_on;
-use crate::ties::repeats_order;
 use fact_view::target_of;
 use id_table::Index;
 use ix_base::limits::DEEPEST_TUPLE;
-use ix_base::{Breaches, NoMemory, Rule, is_tuple, tuple_ref};
+use ix_base::{Breaches, NoMemory, Rule, is_tuple};
+use link_ids::tuple_ref;
 use value_forms::is_nil;
 
 /// What is asked of each fact.
@@ -33,7 +34,7 @@ pub(crate) enum Test {
     /// Its target isn't that of its owner.
     Leaving,
     /// Another member of its tuple has its order.
-    Tied,
+    Repeating,
     /// It has an owner and no order.
     Unordered,
 }
@@ -47,7 +48,7 @@ impl Test {
             Test::Lacking => Rule::L8,
             Test::Deep => Rule::L9,
             Test::Leaving => Rule::L10,
-            Test::Tied => Rule::L12,
+            Test::Repeating => Rule::L12,
             Test::Unordered => Rule::L13,
         }
     }
@@ -138,7 +139,7 @@ fn is_broken<'a>(index: &Index<'a>, groups: &Groups<'a>, fact: &Fact<'a>, test: 
         Test::Lacking => lacks_tuple(index, fact),
         Test::Deep => is_too_deep(index, fact),
         Test::Leaving => leaves_target(index, fact),
-        Test::Tied => repeats_order(index, groups, fact),
+        Test::Repeating => repeats_order(index, groups, fact),
         Test::Unordered => lacks_order(index, fact),
     }
 }

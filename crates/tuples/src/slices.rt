@@ -1,39 +1,22 @@
 //! The members of tuples as slices of an arena.
 ghost use Rattle.std.specs.Prelude.{◌≡◌, ◌++◌, ◌==◌, ◌&&◌, ℕ, All, OnOk, IfOk, [], filter};
 ghost use Rattle.std.specs.Option.{option_map_or};
-ghost use Rattle.ix_base.specs.Located.{is_fact};
-ghost use Rattle.id_table.specs.Held.{asked};
+ghost use Rattle.ix_base.specs.LocatedElements.{is_fact};
+ghost use Rattle.id_table.specs.Model.{asked};
+ghost use Rattle.id_table.specs.Slices.{put_first, slice_at, spots_in};
 ghost use Rattle.id_table.specs.Tables.{all_located, AreOnOwnPages};
-ghost use Rattle.tuples.specs.Grouped.{group_at};
-ghost use Rattle.tuples.specs.Grouping.{members_at, AreGrouped};
-ghost use Rattle.tuples.specs.Known.{all_seen, is_owned_at, IsKnown};
-ghost use Rattle.tuples.specs.Slices.{members_in, put_first, slice_at};
+ghost use Rattle.tuples.specs.FactGroups.{group_at};
+ghost use Rattle.tuples.specs.MemberTables.{members_at, AreGrouped};
+ghost use Rattle.tuples.specs.OwnedFacts.{all_seen, is_owned_at, IsKnown};
 
 use crate::fact::Fact;
 use crate::groups::Groups;
 use crate::owners::place_of;
-use crate::slice::Slice;
 use bumpalo::Bump;
 use bumpalo::collections::into_bump_slice;
-use id_table::Index;
-use indexmap::IndexMap;
+use id_table::{Index, Slice, Slices, enter_slice};
 use ix_base::{NoMemory, Spot};
 use std::alloc::Global;
-
-/// Members, by the places of their tuples.
-pub(crate) type Slices<'a> = IndexMap<(u32, u64), Slice<'a>>;
-
-/// Enters members at a place, unless there are some.
-fn enter_at<'a>(slices: &mut Slices<'a>, key: (u32, u64), slice: Slice<'a>) -> Result<(), NoMemory>
-    ensures { OnOk result ((page offset : ℕ) → slice_at slices.new page offset
-        ≡ put_first (slice_at slices.old page offset) ((key.0 == page) && (key.1 == offset)) (members_in slice.entry)) }
-{
-    if slices.contains_key(&key) {
-        return Ok(());
-    }
-    slices.insert(key, slice)?;
-    Ok(())
-}
 
 /// Adds facts at the end of a list of the arena.
 fn push_spots<'a>(to: &mut Vec<&'a Spot<'a>, &'a Bump>, facts: &[Fact<'a>]) -> Result<(), NoMemory>
@@ -49,7 +32,7 @@ fn push_spots<'a>(to: &mut Vec<&'a Spot<'a>, &'a Bump>, facts: &[Fact<'a>]) -> R
 
 /// Facts, in the arena.
 fn slice_of<'a>(arena: &'a Bump, facts: &[Fact<'a>]) -> Result<Slice<'a>, NoMemory>
-    ensures { IfOk result (λ s. members_in s ≡ all_seen facts.now) }
+    ensures { IfOk result (λ s. spots_in s ≡ all_seen facts.now) }
 {
     let mut kept = Vec::new(arena);
     push_spots(&mut kept, facts)?;
@@ -59,12 +42,12 @@ fn slice_of<'a>(arena: &'a Bump, facts: &[Fact<'a>]) -> Result<Slice<'a>, NoMemo
 }
 
 /// The members at a place, in the arena.
-fn slice_in<'a>(
+fn group_slice<'a>(
     arena: &'a Bump,
     groups: &Groups<'a>,
     key: (u32, u64),
 ) -> Result<Slice<'a>, NoMemory>
-    ensures { IfOk result (λ s. members_in s ≡ all_seen (group_at groups.now key.0 key.1)) }
+    ensures { IfOk result (λ s. spots_in s ≡ all_seen (group_at groups.now key.0 key.1)) }
 {
     match groups.get(&key) {
         Some(group) => slice_of(arena, group.as_slice()),
@@ -85,8 +68,8 @@ fn enter_members<'a>(
     if slices.contains_key(&key) {
         return Ok(());
     }
-    let slice = slice_in(arena, groups, key)?;
-    enter_at(slices, key, slice)
+    let slice = group_slice(arena, groups, key)?;
+    enter_slice(slices, key, slice)
 }
 
 /// Enters the members of the tuple that owns a fact, unless they are there.
@@ -121,7 +104,7 @@ pub(crate) fn slices_of<'a>(
     ensures { IfOk result (λ s. (page offset : ℕ)
         → option_map_or (λ l. l) (slice_at s page offset) [] ≡ members_at index.now.spots page offset) }
 {
-    let mut slices = IndexMap::new(alloc);
+    let mut slices = Slices::new(alloc);
     for fact in facts {
         enter(arena, index, groups, fact, &mut slices)?;
     }

@@ -1,8 +1,8 @@
 //! Facts by rising order.
 ghost use Rattle.std.specs.Prelude.{◌≡◌, OnOk, IfOk};
 ghost use Rattle.std.specs.List.Sorted.{IsSortedBy, IsStableBy};
-ghost use Rattle.tuples.specs.Grouped.{is_earlier};
-ghost use Rattle.tuples.specs.Known.{fact_cmp};
+ghost use Rattle.tuples.specs.FactGroups.{is_earlier};
+ghost use Rattle.tuples.specs.OwnedFacts.{fact_cmp};
 
 use crate::decimals::decimal_cmp;
 use crate::fact::Fact;
@@ -33,7 +33,7 @@ fn copied<'a>(alloc: Global, facts: &[Fact<'a>]) -> Result<Vec<Fact<'a>>, NoMemo
     Ok(copy)
 }
 
-/// Puts facts in rising order; those that tie stand as they came.
+/// Puts facts in rising order; those with equal orders stand as they came.
 fn sort(facts: &mut Vec<Fact<'_>>) -> Result<(), NoMemory>
     ensures sorted { OnOk result (IsSortedBy is_earlier facts.new.items) }
     ensures stable { OnOk result (IsStableBy is_earlier facts.old.items facts.new.items) }
@@ -44,7 +44,7 @@ fn sort(facts: &mut Vec<Fact<'_>>) -> Result<(), NoMemory>
     }
 }
 
-/// Facts by rising order; those that tie stand as they came.
+/// Facts by rising order; those with equal orders stand as they came.
 pub(crate) fn ranked<'a>(alloc: Global, facts: &[Fact<'a>]) -> Result<Vec<Fact<'a>>, NoMemory>
     ensures sorted { IfOk result (λ v. IsSortedBy is_earlier v.items) }
     ensures stable { IfOk result (λ v. IsStableBy is_earlier facts.now v.items) }

@@ -16,7 +16,7 @@ use Rattle.ix_base.specs.declared.kind.Kind.{Kind}
 use Rattle.ix_base.specs.declared.kind.Kind.TheVariants as kind
 use Rattle.ix_base.specs.Alike.{same_each, same_member, same_dim, same_period, same_context, same_unit, same_forms}
 use Rattle.ix_base.specs.Kinds.{kind_of}
-use Rattle.ix_base.specs.Located.{Located}
+use Rattle.ix_base.specs.LocatedElements.{Located}
 use Rattle.ix_base.specs.OwnNames.{same_own}
 use Rattle.ix_base.specs.Trees.{Tree}
 

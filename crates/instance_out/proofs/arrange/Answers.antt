@@ -1,5 +1,5 @@
 use Rattle.std.proofs.Common.{refl}
-use Rattle.instance_out.specs.Arranged.{arranged}
+use Rattle.instance_out.specs.Arrangement.{arranged}
 use Rattle.instance_out.proofs.arrange.Goals as goal
 
 pub returns : goal.returns

@@ -1,8 +1,8 @@
 //! Pages in memory.
-ghost use Rattle.std.specs.Prelude.{◌≡◌, ◌+◌, ◌^◌, ◌<◌, ◌≤◌, Some, None, true, false, IsTrue, MatchOption, take, drop, is_none, is_ok, OnOk, OnErr, IfOk, IfSome, is_err, option_map, vec_len, length};
+ghost use Rattle.std.specs.Prelude.{◌≡◌, ◌+◌, ◌^◌, ◌<◌, ◌≤◌, Some, None, true, false, IsTrue, MatchOption, take, drop, is_none, is_ok, OnOk, IfOk, vec_len, length};
 ghost use Rattle.ix_base.specs.declared.limits.TheConstants.{LONGEST_NAME};
 ghost use Rattle.ix_base.specs.Causes.{Shows};
-ghost use Rattle.ix_base.specs.Outside.{HasCause, ReadsFrom, TellsAlso};
+ghost use Rattle.ix_base.specs.Outside.{Begins, Gives, IsCounted, ReadsFrom, SameNames};
 ghost use Rattle.ix_base.specs.Pages.{page_of, bytes_at};
 
 use super::Calls;
@@ -112,8 +112,7 @@ fn copy_from(page: &[u8], offset: usize, step: usize, buf: &mut [u8]) -> usize
 }
 
 impl PageSource for MemPages {
-    ghost use Rattle.ix_base.specs.Calls.{called};
-    ghost use Rattle.ix_base.specs.MemPages.{pages_faults, pages_page, pages_left, pages_started, pages_asked, pages_starts, start_fails, read_fails, pages_calls, pages_step, pages_failed, pages_numbers};
+    ghost use Rattle.ix_base.specs.MemPages.{ReadsAs, StartsAs, pages_asked, pages_failed, pages_faults, pages_left, pages_numbers, pages_page, pages_started, pages_starts};
 
     ghost faults = { pages_faults };
 
@@ -134,19 +133,14 @@ impl PageSource for MemPages {
     fn start(&mut self, name: &str) -> Result<(), Failed>
         requires count { pages_faults self.old + 1 < 2 ^ 64 }
         requires name { length name.now ≤ LONGEST_NAME }
-        ensures cause { HasCause (pages_faults self.old) (pages_faults self.new) result }
-        ensures failed { pages_failed self.new ≡ is_err result }
-        ensures numbers { pages_numbers self.new ≡ pages_numbers self.old }
+        ensures counted { IsCounted (pages_faults self.old) (pages_faults self.new) (pages_failed self.new)
+            (pages_numbers self.old) (pages_numbers self.new) result }
         ensures pages { pages_page self.new ≡ pages_page self.old }
-        ensures told { OnOk result (TellsAlso (pages_page self.old) name.now) }
+        ensures begins { OnOk result (Begins (pages_page self.old) (pages_left self.new) name.now) }
         ensures started { pages_started self.new ≡ is_ok result }
         ensures asked { pages_asked self.new ≡ Some name.now }
         ensures starts { pages_starts self.new ≡ pages_starts self.old }
-        ensures left { OnOk result (pages_left self.new ≡ pages_page self.old name.now) }
-        ensures held { OnErr result (pages_left self.new ≡ pages_left self.old) }
-        ensures fails { is_err result ≡ start_fails self.old name.now }
-        ensures calls { pages_calls self.new ≡ called (pages_calls self.old) (is_err result) }
-        ensures step { pages_step self.new ≡ pages_step self.old }
+        ensures exact { StartsAs self.old self.new name.now result }
     {
         keep_name(&mut self.asked, name);
         self.asked_len = name.len();
@@ -169,22 +163,13 @@ impl PageSource for MemPages {
         requires count { pages_faults self.old + 1 < 2 ^ 64 }
         requires started { IsTrue (pages_started self.old) }
         requires room { 0 < length buf.old }
-        ensures cause { HasCause (pages_faults self.old) (pages_faults self.new) result }
-        ensures failed { pages_failed self.new ≡ is_err result }
-        ensures numbers { pages_numbers self.new ≡ pages_numbers self.old }
+        ensures counted { IsCounted (pages_faults self.old) (pages_faults self.new) (pages_failed self.new)
+            (pages_numbers self.old) (pages_numbers self.new) result }
         ensures pages { pages_page self.new ≡ pages_page self.old }
         ensures started { pages_started self.new ≡ pages_started self.old }
-        ensures asked { pages_asked self.new ≡ pages_asked self.old }
-        ensures starts { pages_starts self.new ≡ pages_starts self.old }
-        ensures within { IfOk result (λ n. n ≤ length buf.old) }
-        ensures bytes { IfOk result (λ n. IfSome (pages_left self.old) (λ rest. ReadsFrom rest buf.new n)) }
-        ensures left { IfOk result (λ n. pages_left self.new ≡ option_map (drop n) (pages_left self.old)) }
-        ensures fails { is_err result ≡ read_fails self.old }
-        ensures step { IfOk result (λ n. n ≤ pages_step self.old) }
-        ensures held { OnErr result (pages_left self.new ≡ pages_left self.old) }
-        ensures untouched { OnErr result (buf.new ≡ buf.old) }
-        ensures calls { pages_calls self.new ≡ called (pages_calls self.old) (is_err result) }
-        ensures same_step { pages_step self.new ≡ pages_step self.old }
+        ensures names { SameNames (pages_asked self.old) (pages_asked self.new) (pages_starts self.old) (pages_starts self.new) }
+        ensures gives { IfOk result (λ n. Gives (pages_left self.old) (pages_left self.new) (length buf.old) buf.new n) }
+        ensures exact { ReadsAs self.old self.new buf.old buf.new result }
     {
         if self.calls.enter() {
             return Err(self.calls.fail());

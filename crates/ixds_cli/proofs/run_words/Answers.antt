@@ -1,6 +1,6 @@
 use Rattle.std.proofs.Common.{◌≡◌, ◌∙◌, ap, sym, refl}
 use Rattle.std.specs.Option.{option_and_then}
-use Rattle.ixds_run.specs.Commands.{command_of}
+use Rattle.command_words.specs.Commands.{command_of}
 use Rattle.ixds_run.specs.declared.status.Status.TheVariants.{NoMemory}
 use Rattle.ixds_run.proofs.SessionLaws.{along_answered, untouched}
 use Rattle.ixds_cli.specs.Words.{command_in}

@@ -1,4 +1,4 @@
-//! Words as the system hands them over.
+//! Tests of the words of a command line.
 
 use crate::words::words_of;
 use ix_base::NoMemory;

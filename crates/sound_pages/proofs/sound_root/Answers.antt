@@ -2,7 +2,7 @@ use Rattle.std.proofs.Common.{◌∙◌, ℕ, [], ◌++◌, subst}
 use Rattle.ix_base.specs.Sound.{IsSoundRoot}
 use Rattle.ix_base.specs.Trees.{tree_of}
 use Rattle.page_tree.specs.Page.{page}
-use Rattle.page_tree.specs.Standing.{page_number}
+use Rattle.page_tree.specs.Model.{page_number}
 use Rattle.sound_pages.proofs.sound_root.Goals as goal
 
 pub returns : goal.returns

@@ -1,6 +1,6 @@
 use Rattle.std.proofs.Common.{◌≡◌, Some, None, sym, ◌∙◌, true≢false}
 use Rattle.tr4_dates.specs.Formats.{language_of, layout_of}
-use Rattle.tr4_dates.specs.Reading.{read}
+use Rattle.tr4_dates.specs.Readers.{read}
 use Rattle.tr4_dates.specs.Transformation.{parts_of}
 use Rattle.tr4_dates.proofs.FormatLaws.{related, unread, unreal, one_value}
 use Rattle.tr4_dates.proofs.apply.Goals as goal

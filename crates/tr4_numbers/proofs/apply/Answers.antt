@@ -4,7 +4,7 @@ use Rattle.std.proofs.lemmas.List.{length_push}
 use Rattle.std.proofs.lemmas.Str.{length-le-encodes, encodes-chars}
 use Rattle.std.proofs.lemmas.Iterator.Consumers.{YieldsList-turn, YieldsList-end}
 use Rattle.std.specs.Str.{chars, IsUtf8}
-use Rattle.tr4_numbers.specs.Reading.{held}
+use Rattle.tr4_numbers.specs.Readers.{held}
 use Rattle.tr4_numbers.proofs.Steps.{fits-next, fits-last, held-first, begun, turned, refused, accepted, unended}
 use Rattle.tr4_numbers.proofs.apply.Goals as goal
 

@@ -1,6 +1,6 @@
 use Rattle.std.proofs.Common.{◌+◌, ◌≤◌, length, take}
 use Rattle.std.specs.Str.{chars}
-use Rattle.tr4_numbers.specs.Reading.{held}
+use Rattle.tr4_numbers.specs.Readers.{held}
 use Rattle.tr4_numbers.proofs.Steps.{StandsAt}
 use Rattle.tr4_numbers.proofs.apply.Given as goal
 

@@ -1,16 +1,17 @@
-use Rattle.std.proofs.Common.{◌≡◌, ◌∙◌, ◌+◌, ◌<◌, ap, arith, sym, take, length, option_map, Some, List}
+use Rattle.std.proofs.Common.{◌≡◌, ◌∙◌, ◌<◌, ap, arith, sym, length, option_map, Some}
 use Rattle.std.proofs.lemmas.List.{length-map, take_all}
 use Rattle.std.specs.Borrow.{Bor}
 use Rattle.std.specs.List.{slice_get}
 use Rattle.std.specs.Map.{lookup}
 use Rattle.ix_base.specs.declared.tree.Spot.{Spot}
 use Rattle.ix_base.specs.Chain.{chain}
-use Rattle.ix_base.specs.Located.{Located, located}
-use Rattle.id_table.specs.Held.{asked}
+use Rattle.ix_base.specs.LocatedElements.{Located, located}
+use Rattle.id_table.specs.Model.{asked}
+use Rattle.id_table.specs.Slices.{is_key, slice_at, spots_in}
 use Rattle.id_table.specs.Tables.{all_located}
-use Rattle.continuations.specs.Slices.{chain_in, first_start, is_key, slice_at}
+use Rattle.continuations.specs.ChainStarts.{first_start}
 use Rattle.continuations.proofs.Numbering.{got-at}
-use Rattle.continuations.proofs.SliceLaws.{first-of-both, first-of-none, start-more}
+use Rattle.continuations.proofs.StartLaws.{first-of-both, first-of-none, start-more}
 use Rattle.continuations.proofs.chains.slices_of.Goals as goal
 
 pub loop-number-preserved : goal.loop-number-preserved
@@ -26,7 +27,7 @@ loop-number-preserved c = λ page offset.
 
 pub loop-number-init : goal.loop-number-init
 loop-number-init c = λ page offset.
-    ap (λ entries. option_map chain_in (lookup (is_key page offset) entries)) c.in_ok-slices.ensures.empty
+    ap (λ entries. option_map spots_in (lookup (is_key page offset) entries)) c.in_ok-slices.ensures.empty
     ∙ sym (ap (option_map (chain (asked c.args.index.now)))
     (first-of-none page offset c.args.index.now.spots (all_located c.args.links.now.spots.items) c.args.links.now.continuations c.requires.spots c.requires.counted))
 

@@ -1,8 +1,9 @@
 use Rattle.std.proofs.Common.{◌≡◌, ℕ, take, option_map}
 use Rattle.ix_base.specs.Chain.{chain}
-use Rattle.id_table.specs.Held.{asked}
+use Rattle.id_table.specs.Model.{asked}
+use Rattle.id_table.specs.Slices.{slice_at}
 use Rattle.id_table.specs.Tables.{all_located}
-use Rattle.continuations.specs.Slices.{slice_at, first_start}
+use Rattle.continuations.specs.ChainStarts.{first_start}
 use Rattle.continuations.proofs.chains.slices_of.Given as goal
 
 -- the chains of the elements before here are kept

@@ -1,6 +1,6 @@
 use Rattle.std.proofs.Common.{◌∙◌, ◌++◌, ap, refl, List, ℕ, [], ◌∷◌}
 use Rattle.std.specs.Prelude.{◌&&◌, ◌==◌}
-use Rattle.continuations.specs.Inside.{numbers_at}
+use Rattle.continuations.specs.InnerElements.{numbers_at}
 use Rattle.continuations.proofs.Inner.{entered-at}
 use Rattle.continuations.proofs.inside.enter_at.Goals as goal
 

@@ -1,5 +1,5 @@
 use Rattle.std.proofs.Common.{arith}
-use Rattle.ix_base.specs.Located.{located}
+use Rattle.ix_base.specs.LocatedElements.{located}
 use Rattle.continuations.proofs.Inner.{inner-more}
 use Rattle.continuations.proofs.Numbering.{located-at}
 use Rattle.continuations.proofs.inside.inner_marks.Goals as goal

@@ -1,6 +1,6 @@
 use Rattle.std.proofs.Common.{◌≡◌, length}
 use Rattle.id_table.specs.Tables.{all_located}
-use Rattle.continuations.specs.Inside.{AreInner}
+use Rattle.continuations.specs.InnerElements.{AreInner}
 use Rattle.continuations.proofs.inside.inner_marks.Given as goal
 
 -- the elements before here are marked, if they stand inside others

@@ -1,6 +1,6 @@
 use Rattle.std.proofs.Common.{◌↔◌}
 use Rattle.ix_base.specs.Elements.{placed, path_above}
-use Rattle.continuations.specs.Inside.{numbers_at, AnyOf, SharesAny}
+use Rattle.continuations.specs.InnerElements.{numbers_at, AnyOf, SharesAny}
 use Rattle.continuations.proofs.inside.is_inner.Given as goal
 
 -- none of the elements passed is shared

@@ -1,4 +1,4 @@
-use Rattle.ix_base.specs.Located.{located}
+use Rattle.ix_base.specs.LocatedElements.{located}
 use Rattle.continuations.proofs.Inner.{placed-more}
 use Rattle.continuations.proofs.Numbering.{located-at}
 use Rattle.continuations.proofs.inside.placed_by.Goals as goal

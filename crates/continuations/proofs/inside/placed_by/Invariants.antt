@@ -1,5 +1,5 @@
 use Rattle.id_table.specs.Tables.{all_located}
-use Rattle.continuations.specs.Inside.{ArePlaced}
+use Rattle.continuations.specs.InnerElements.{ArePlaced}
 use Rattle.continuations.proofs.inside.placed_by.Given as goal
 
 -- the elements before here are entered

@@ -1,5 +1,5 @@
 use Rattle.std.proofs.Common.{take}
-use Rattle.continuations.specs.Inside.{SharesAny}
+use Rattle.continuations.specs.InnerElements.{SharesAny}
 use Rattle.continuations.proofs.inside.shares_any.Given as goal
 
 -- none of those before here is shared

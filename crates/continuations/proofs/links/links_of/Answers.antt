@@ -4,8 +4,8 @@ use Rattle.std.specs.Borrow.{Bor}
 use Rattle.std.specs.List.{filter, list_any}
 use Rattle.ix_base.specs.declared.tree.Spot.{Spot}
 use Rattle.ix_base.specs.LinkRules.{lacks_continuation}
-use Rattle.ix_base.specs.Located.{located, is_continuation, is_start}
-use Rattle.id_table.specs.Held.{asked}
+use Rattle.ix_base.specs.LocatedElements.{located, is_start}
+use Rattle.id_table.specs.Model.{asked}
 use Rattle.id_table.specs.Tables.{all_located}
 use Rattle.continuations.specs.Walks.{Joined, next_at}
 use Rattle.continuations.proofs.LinkLaws.{any-kinds, first-spots, lacking-kind, linked}

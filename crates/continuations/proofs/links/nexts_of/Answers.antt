@@ -1,9 +1,8 @@
-use Rattle.std.proofs.Common.{◌≡◌, ◌∙◌, ◌||◌, ap, arith, is_some, option_map, List, ℕ, Option, Some}
-use Rattle.std.specs.Borrow.{Bor}
+use Rattle.std.proofs.Common.{◌∙◌, ap, arith, option_map, Some}
 use Rattle.std.specs.Prelude.{option_and_then}
 use Rattle.ix_base.specs.Chain.{continuation}
-use Rattle.ix_base.specs.Located.{located}
-use Rattle.id_table.specs.Held.{asked}
+use Rattle.ix_base.specs.LocatedElements.{located}
+use Rattle.id_table.specs.Model.{asked}
 use Rattle.continuations.proofs.LinkLaws.{lacks-more}
 use Rattle.continuations.proofs.Numbering.{names-more, located-at}
 use Rattle.continuations.proofs.links.nexts_of.Goals as goal

@@ -1,8 +1,8 @@
 use Rattle.std.proofs.Common.{◌≡◌, length, take}
 use Rattle.std.specs.List.{filter, list_any}
 use Rattle.ix_base.specs.LinkRules.{lacks_continuation}
-use Rattle.ix_base.specs.Located.{is_continuation}
-use Rattle.id_table.specs.Held.{asked}
+use Rattle.ix_base.specs.LocatedElements.{is_continuation}
+use Rattle.id_table.specs.Model.{asked}
 use Rattle.id_table.specs.Tables.{all_located}
 use Rattle.continuations.specs.Numbers.{NameNexts}
 use Rattle.continuations.proofs.links.nexts_of.Given as goal

@@ -3,8 +3,8 @@ use Rattle.std.specs.Borrow.{Bor}
 use Rattle.std.specs.Prelude.{option_and_then}
 use Rattle.ix_base.specs.declared.tree.Spot.{Spot}
 use Rattle.ix_base.specs.Chain.{continuation}
-use Rattle.ix_base.specs.Located.{located}
-use Rattle.id_table.specs.Held.{asked}
+use Rattle.ix_base.specs.LocatedElements.{located}
+use Rattle.id_table.specs.Model.{asked}
 use Rattle.continuations.proofs.Numbering.{number-is}
 use Rattle.continuations.proofs.links.number_in.Goals as goal
 

@@ -1,4 +1,4 @@
-use Rattle.ix_base.specs.Located.{located}
+use Rattle.ix_base.specs.LocatedElements.{located}
 use Rattle.continuations.proofs.Numbering.{numbered-more, located-at}
 use Rattle.continuations.proofs.links.numbers_of.Goals as goal
 

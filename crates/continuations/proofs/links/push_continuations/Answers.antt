@@ -1,4 +1,4 @@
-use Rattle.ix_base.specs.Located.{is_continuation}
+use Rattle.ix_base.specs.LocatedElements.{is_continuation}
 use Rattle.continuations.proofs.LinkLaws.{pushed, pushed-pages}
 use Rattle.continuations.proofs.links.push_continuations.Goals as goal
 

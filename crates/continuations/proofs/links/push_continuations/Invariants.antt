@@ -1,6 +1,6 @@
 use Rattle.std.proofs.Common.{◌≡◌, ◌++◌, take}
 use Rattle.std.specs.List.{filter}
-use Rattle.ix_base.specs.Located.{located, is_continuation}
+use Rattle.ix_base.specs.LocatedElements.{located, is_continuation}
 use Rattle.continuations.proofs.links.push_continuations.Given as goal
 
 -- those before here are added

@@ -1,6 +1,6 @@
 use Rattle.std.proofs.Common.{◌≡◌, ◌++◌, take}
 use Rattle.std.specs.List.{filter}
-use Rattle.ix_base.specs.Located.{located, is_start}
+use Rattle.ix_base.specs.LocatedElements.{located, is_start}
 use Rattle.continuations.proofs.links.push_starts.Given as goal
 
 -- those before here are added

@@ -3,7 +3,7 @@ use Rattle.std.proofs.lemmas.List.{take_all}
 use Rattle.std.specs.List.{filter}
 use Rattle.ix_base.specs.Asks.{asks}
 use Rattle.ix_base.specs.LinkRules.{goes_on_at}
-use Rattle.ix_base.specs.Located.{Located, located}
+use Rattle.ix_base.specs.LocatedElements.{Located, located}
 use Rattle.id_table.proofs.Asking.{count-map}
 use Rattle.continuations.proofs.named.namers_of.Goals as goal
 

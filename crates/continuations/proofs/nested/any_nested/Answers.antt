@@ -5,13 +5,12 @@ use Rattle.std.specs.Borrow.{Bor}
 use Rattle.std.specs.List.{slice_get}
 use Rattle.ix_base.specs.declared.tree.Spot.{Spot}
 use Rattle.ix_base.specs.Chain.{chain}
-use Rattle.ix_base.specs.Located.{Located, located}
-use Rattle.id_table.specs.Held.{asked}
+use Rattle.ix_base.specs.LocatedElements.{Located, located}
+use Rattle.id_table.specs.Model.{asked}
 use Rattle.id_table.specs.Tables.{all_located}
-use Rattle.continuations.specs.Nested.{is_nested}
+use Rattle.continuations.specs.Nesting.{is_nested}
 use Rattle.continuations.proofs.Numbering.{got-at}
 use Rattle.continuations.proofs.ReachLaws.{no-start-passes, start-passes}
-use Rattle.continuations.proofs.Walking.{some-inj}
 use Rattle.continuations.proofs.nested.any_nested.Goals as goal
 
 pub returns-then-branch : goal.returns-then-branch

@@ -1,10 +1,10 @@
 use Rattle.std.proofs.Common.{◌≡◌, ◌<◌, ◌≤◌, ℕ, Some, false}
 use Rattle.std.specs.List.{slice_get}
 use Rattle.ix_base.specs.Chain.{chain}
-use Rattle.ix_base.specs.Located.{Located}
-use Rattle.id_table.specs.Held.{asked}
+use Rattle.ix_base.specs.LocatedElements.{Located}
+use Rattle.id_table.specs.Model.{asked}
 use Rattle.id_table.specs.Tables.{all_located}
-use Rattle.continuations.specs.Nested.{is_nested}
+use Rattle.continuations.specs.Nesting.{is_nested}
 use Rattle.continuations.proofs.nested.any_nested.Given as goal
 
 -- no chain before here has an element inside another one

@@ -1,6 +1,6 @@
 use Rattle.std.proofs.Common.{◌∙◌, ap, sym}
-use Rattle.ix_base.specs.Located.{located}
-use Rattle.continuations.specs.Nested.{is_around}
+use Rattle.ix_base.specs.LocatedElements.{located}
+use Rattle.continuations.specs.Nesting.{is_around}
 use Rattle.continuations.proofs.Nesting.{nested-at}
 use Rattle.continuations.proofs.nested.any_within.Goals as goal
 

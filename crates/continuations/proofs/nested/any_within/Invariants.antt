@@ -1,7 +1,7 @@
 use Rattle.std.proofs.Common.{◌≡◌, take, false}
 use Rattle.std.specs.List.{list_any}
 use Rattle.id_table.specs.Tables.{all_located}
-use Rattle.continuations.specs.Nested.{is_around}
+use Rattle.continuations.specs.Nesting.{is_around}
 use Rattle.continuations.proofs.nested.any_within.Given as goal
 
 -- none of those before here stands inside another one

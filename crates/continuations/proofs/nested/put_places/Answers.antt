@@ -6,7 +6,7 @@ use Rattle.std.specs.List.{list_any}
 use Rattle.ix_base.specs.declared.tree.Spot.{Spot}
 use Rattle.ix_base.specs.LinkRules.{is_at}
 use Rattle.id_table.specs.Tables.{all_located}
-use Rattle.continuations.specs.Slices.{is_key}
+use Rattle.id_table.specs.Slices.{is_key}
 use Rattle.continuations.proofs.nested.put_places.Goals as goal
 
 pub returns-clause-places : goal.returns-clause-places

@@ -2,7 +2,7 @@ use Rattle.std.proofs.Common.{◌≡◌, ℕ, take}
 use Rattle.std.specs.List.{list_any}
 use Rattle.ix_base.specs.LinkRules.{is_at}
 use Rattle.id_table.specs.Tables.{all_located}
-use Rattle.continuations.specs.Slices.{is_key}
+use Rattle.id_table.specs.Slices.{is_key}
 use Rattle.continuations.proofs.nested.put_places.Given as goal
 
 -- the places of those before here are put

@@ -1,9 +1,9 @@
 use Rattle.std.proofs.Common.{◌≡◌}
 use Rattle.std.specs.List.{list_any}
 use Rattle.ix_base.specs.Elements.{path_above}
-use Rattle.ix_base.specs.Located.{located}
-use Rattle.continuations.specs.Nested.{is_around}
-use Rattle.continuations.specs.Slices.{is_key}
+use Rattle.ix_base.specs.LocatedElements.{located}
+use Rattle.continuations.specs.Nesting.{is_around}
+use Rattle.id_table.specs.Slices.{is_key}
 use Rattle.continuations.proofs.nested.stands_within.Given as goal
 
 -- none of the elements passed is at one of the places

@@ -1,5 +1,5 @@
 use Rattle.std.proofs.Common.{refl}
-use Rattle.ix_base.specs.Located.{located}
+use Rattle.ix_base.specs.LocatedElements.{located}
 use Rattle.continuations.proofs.Numbering.{located-at}
 use Rattle.continuations.proofs.Standing.{held-more}
 use Rattle.continuations.proofs.places.marked_places.Goals as goal

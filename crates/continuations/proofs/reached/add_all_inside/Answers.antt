@@ -1,6 +1,6 @@
 use Rattle.ix_base.proofs.FrontLemmas.{on-err}
 use Rattle.ix_base.specs.declared.rule.Rule.TheVariants.{L7}
-use Rattle.id_table.specs.Held.{asked}
+use Rattle.id_table.specs.Model.{asked}
 use Rattle.continuations.proofs.Adding.{no-more, one-more}
 use Rattle.continuations.proofs.reached.add_all_inside.Goals as goal
 

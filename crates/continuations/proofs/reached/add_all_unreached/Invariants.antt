@@ -1,7 +1,7 @@
 use Rattle.ix_base.proofs.FrontLemmas.{Grows}
 use Rattle.ix_base.specs.declared.rule.Rule.TheVariants.{L6}
 use Rattle.ix_base.specs.LinkRules.{breaking}
-use Rattle.id_table.specs.Held.{asked}
+use Rattle.id_table.specs.Model.{asked}
 use Rattle.continuations.proofs.Adding.{from_on}
 use Rattle.continuations.proofs.reached.add_all_unreached.Given as goal
 

@@ -1,5 +1,5 @@
 use Rattle.std.proofs.Common.{◌∙◌}
-use Rattle.ix_base.specs.Located.{located, offset_of}
+use Rattle.ix_base.specs.LocatedElements.{located, offset_of}
 use Rattle.continuations.proofs.SeenLaws.{inner-is}
 use Rattle.continuations.proofs.reached.is_inside.Goals as goal
 

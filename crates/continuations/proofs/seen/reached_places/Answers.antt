@@ -1,9 +1,9 @@
-use Rattle.std.proofs.Common.{◌≡◌, ◌∙◌, ap, sym, subst, length, List}
+use Rattle.std.proofs.Common.{◌∙◌, ap, sym, subst, length, List}
 use Rattle.std.proofs.lemmas.List.{length-map}
 use Rattle.std.proofs.lemmas.Result.{IfOk-weaker}
 use Rattle.std.specs.Borrow.{Bor}
 use Rattle.ix_base.specs.declared.tree.Spot.{Spot}
-use Rattle.ix_base.specs.Located.{located}
+use Rattle.ix_base.specs.LocatedElements.{located}
 use Rattle.id_table.specs.Tables.{all_located}
 use Rattle.continuations.specs.Places.{HoldsMarked}
 use Rattle.continuations.proofs.Standing.{of-links, reached-stands}

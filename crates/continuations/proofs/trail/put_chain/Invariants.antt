@@ -1,8 +1,8 @@
 use Rattle.std.proofs.Common.{◌≡◌, ◌++◌, ◌+◌, ◌-◌, ◌<◌, ℕ, Some, length}
 use Rattle.std.specs.List.{slice_get}
 use Rattle.ix_base.specs.Chain.{chain_of}
-use Rattle.ix_base.specs.Located.{Located}
-use Rattle.id_table.specs.Held.{asked}
+use Rattle.ix_base.specs.LocatedElements.{Located}
+use Rattle.id_table.specs.Model.{asked}
 use Rattle.id_table.specs.Tables.{all_located, AreOnOwnPages}
 use Rattle.continuations.proofs.Chaining.{element_at, left}
 use Rattle.continuations.proofs.trail.put_chain.Given as goal

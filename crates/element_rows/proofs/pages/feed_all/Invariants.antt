@@ -1,5 +1,5 @@
 use Rattle.std.proofs.Common.{◌≡◌, ◌≤◌, ◌-◌, length}
-use Rattle.page_tree.specs.Standing.{fed_bytes}
+use Rattle.page_tree.specs.Model.{fed_bytes}
 use Rattle.element_rows.proofs.pages.feed_all.Given as goal
 
 abbrev pub invariant-pieces : goal.invariant-pieces

@@ -1,5 +1,5 @@
 use Rattle.std.proofs.Common.{◌≡◌}
-use Rattle.page_tree.specs.Standing.{fed_bytes}
+use Rattle.page_tree.specs.Model.{fed_bytes}
 use Rattle.element_rows.proofs.pages.waiting.Given as goal
 
 abbrev pub invariant-loop-cell : goal.invariant-loop-cell

@@ -1,6 +1,6 @@
 use Rattle.std.proofs.Common.{◌≡◌, take, map, option_map}
 use Rattle.ix_base.specs.Trees.{named, valued}
-use Rattle.escape_text.specs.Owned.{own, written_of}
+use Rattle.escape_text.specs.OwnedAttributes.{own, written_of}
 use Rattle.escape_text.proofs.attributes.owns_in.Given as goal
 
 -- those before here are there

@@ -5,7 +5,7 @@ use Rattle.std.specs.Cmp.{IsStrictWeakOrder}
 use Rattle.std.specs.Cmp.Lexicographic.{on_texts}
 use Rattle.ix_base.specs.Markup.{attribute_cmp}
 use Rattle.ix_base.proofs.StableLemmas.{stable_is_sorted, sorted-map}
-use Rattle.escape_text.specs.Owned.{own, own_cmp, is_earlier}
+use Rattle.escape_text.specs.OwnedAttributes.{own, own_cmp, is_earlier}
 use Rattle.escape_text.specs.declared.attributes.Own.{Own}
 use Rattle.escape_text.proofs.attributes.sort_owns.Goals as goal
 

@@ -1,6 +1,6 @@
 use Rattle.std.proofs.Common.{◌≡◌, drop}
 use Rattle.ix_base.specs.Trees.{nodes_of}
-use Rattle.escape_text.specs.Linked.{has_links}
+use Rattle.escape_text.specs.LinkPlaces.{has_links}
 use Rattle.escape_text.proofs.links.+links.Given as goal
 
 -- no link stands in the nodes before here

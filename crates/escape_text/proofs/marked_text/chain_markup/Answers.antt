@@ -1,5 +1,5 @@
 use Rattle.std.proofs.Common.{Some}
-use Rattle.ix_base.specs.Located.{base_in}
+use Rattle.ix_base.specs.LocatedElements.{base_in}
 use Rattle.escape_text.proofs.MarkupSteps.{along-step}
 use Rattle.escape_text.proofs.marked_text.chain_markup.Goals as goal
 

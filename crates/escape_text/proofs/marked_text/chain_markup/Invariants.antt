@@ -1,5 +1,5 @@
 use Rattle.std.proofs.Common.{◌≡◌, ◌++◌, drop, map, Some}
-use Rattle.ix_base.specs.Located.{located, base_in}
+use Rattle.ix_base.specs.LocatedElements.{located, base_in}
 use Rattle.ix_base.specs.Markup.{markup_along}
 use Rattle.escape_text.proofs.marked_text.chain_markup.Given as goal
 

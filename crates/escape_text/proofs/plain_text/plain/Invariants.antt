@@ -1,5 +1,5 @@
 use Rattle.std.proofs.Common.{drop, map}
-use Rattle.ix_base.specs.Located.{located}
+use Rattle.ix_base.specs.LocatedElements.{located}
 use Rattle.ix_base.specs.Markup.{plain_along}
 use Rattle.ix_base.proofs.FrontLemmas.{Grows}
 use Rattle.escape_text.proofs.plain_text.plain.Given as goal

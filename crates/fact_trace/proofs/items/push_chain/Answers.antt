@@ -1,4 +1,4 @@
-use Rattle.fact_trace.specs.Held.{IsText, sources_of}
+use Rattle.fact_trace.specs.Model.{IsText, sources_of}
 use Rattle.fact_trace.specs.Spans.{lying_at}
 use Rattle.fact_trace.proofs.TextLaws.{item-text}
 use Rattle.fact_trace.proofs.items.push_chain.Goals as goal

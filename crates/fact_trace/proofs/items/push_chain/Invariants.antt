@@ -1,7 +1,7 @@
 use Rattle.std.proofs.Common.{◌≡◌, ◌++◌, drop, map}
 use Rattle.std.specs.List.{flat_map}
 use Rattle.id_table.specs.Tables.{all_located}
-use Rattle.fact_trace.specs.Held.{sources_of}
+use Rattle.fact_trace.specs.Model.{sources_of}
 use Rattle.fact_trace.specs.Spans.{lying_at, spans_in}
 use Rattle.fact_trace.proofs.items.push_chain.Given as goal
 

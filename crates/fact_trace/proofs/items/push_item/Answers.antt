@@ -1,9 +1,9 @@
 use Rattle.std.proofs.Common.{◌≡◌, ◌++◌, ap, map, subst, sym, All, OnOk, codes}
 use Rattle.std.specs.List.{flat_map}
 use Rattle.ix_base.specs.Asks.{asks}
-use Rattle.ix_base.specs.Located.{located}
+use Rattle.ix_base.specs.LocatedElements.{located}
 use Rattle.id_table.specs.Tables.{all_located}
-use Rattle.fact_trace.specs.Held.{IsText, sources_of}
+use Rattle.fact_trace.specs.Model.{IsText, sources_of}
 use Rattle.fact_trace.specs.Spans.{elements, lying_at, spans_in, text_elements_as}
 use Rattle.fact_trace.proofs.TextLaws.{are-parts, chain-texts, has-chain, is-number, is-text, same-chain}
 use Rattle.fact_trace.proofs.items.push_item.Goals as goal

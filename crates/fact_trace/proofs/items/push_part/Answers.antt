@@ -1,8 +1,8 @@
 use Rattle.std.proofs.Common.{◌∙◌, ap, sym}
-use Rattle.ix_base.specs.Located.{located}
+use Rattle.ix_base.specs.LocatedElements.{located}
 use Rattle.ix_base.specs.Trees.{tree_of}
 use Rattle.facts.specs.FractionValue.{part_in}
-use Rattle.fact_trace.specs.Held.{sources_of}
+use Rattle.fact_trace.specs.Model.{sources_of}
 use Rattle.fact_trace.proofs.TextLaws.{children-at, part-is}
 use Rattle.fact_trace.proofs.items.push_part.Goals as goal
 

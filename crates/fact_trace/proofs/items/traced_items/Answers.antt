@@ -1,5 +1,5 @@
 use Rattle.std.proofs.Common.{Contains}
-use Rattle.fact_trace.specs.Held.{sources_of}
+use Rattle.fact_trace.specs.Model.{sources_of}
 use Rattle.fact_trace.specs.Spans.{elements}
 use Rattle.fact_trace.proofs.TextLaws.{item-text}
 use Rattle.fact_trace.proofs.items.traced_items.Goals as goal

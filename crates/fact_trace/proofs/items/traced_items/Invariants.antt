@@ -1,7 +1,7 @@
 use Rattle.std.proofs.Common.{◌≡◌, ◌++◌, drop, map, filter}
-use Rattle.ix_base.specs.Located.{is_item}
+use Rattle.ix_base.specs.LocatedElements.{is_item}
 use Rattle.id_table.specs.Tables.{all_located}
-use Rattle.fact_trace.specs.Held.{sources_of}
+use Rattle.fact_trace.specs.Model.{sources_of}
 use Rattle.fact_trace.specs.Spans.{traced_of}
 use Rattle.fact_trace.proofs.items.traced_items.Given as goal
 

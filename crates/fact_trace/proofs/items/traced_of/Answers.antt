@@ -1,7 +1,7 @@
 use Rattle.std.proofs.Common.{◌≡◌, length, arith}
 use Rattle.std.proofs.lemmas.List.{length-map}
-use Rattle.ix_base.specs.Located.{located}
-use Rattle.fact_trace.specs.Held.{sources_of}
+use Rattle.ix_base.specs.LocatedElements.{located}
+use Rattle.fact_trace.specs.Model.{sources_of}
 use Rattle.fact_trace.proofs.TextLaws.{element-stands}
 use Rattle.fact_trace.proofs.items.traced_of.Goals as goal
 

@@ -3,7 +3,7 @@ use Rattle.std.proofs.lemmas.List.Sorted.{answers_always, ranks_by}
 use Rattle.std.specs.Cmp.{IsStrictWeakOrder}
 use Rattle.std.specs.List.Sorted.{IsSortedBy, IsStableBy}
 use Rattle.std.specs.Ordering.{is_lt}
-use Rattle.ix_base.specs.Sorted.{sorted}
+use Rattle.ix_base.specs.SortedLists.{sorted}
 use Rattle.ix_base.proofs.StableLemmas.{stable_is_sorted}
 use Rattle.fact_trace.specs.Spans.{traced_cmp}
 use Rattle.fact_trace.specs.declared.span.Traced.{Traced}

@@ -1,6 +1,6 @@
 use Rattle.std.proofs.Common.{◌∙◌, All, Contains, List, subst}
 use Rattle.std.proofs.lemmas.List.Elements.{All-contains_itself}
-use Rattle.ix_base.specs.Located.{Located}
+use Rattle.ix_base.specs.LocatedElements.{Located}
 use Rattle.id_table.specs.Tables.{all_located}
 use Rattle.fact_trace.proofs.tracer.traced_all.Goals as goal
 

@@ -1,7 +1,7 @@
 use Rattle.std.proofs.Common.{◌∙◌, ap, map}
-use Rattle.ix_base.specs.Located.{located, base_in}
+use Rattle.ix_base.specs.LocatedElements.{located, base_in}
 use Rattle.ix_base.specs.Readers.{escapes}
-use Rattle.facts.specs.Along.{text_along}
+use Rattle.facts.specs.ChainTexts.{text_along}
 use Rattle.facts.specs.ItemValue.{IsItemOf, item_text}
 use Rattle.facts.proofs.ItemLaws.{said-weaker}
 use Rattle.facts.proofs.OneItem.{item_along, text-along}

@@ -1,9 +1,9 @@
 use Rattle.std.proofs.lemmas.Result.{on_err_weaker}
 use Rattle.ix_base.proofs.FrontLemmas.{front-none, front-second}
 use Rattle.ix_base.specs.LinkRules.{broken_at}
-use Rattle.ix_base.specs.Located.{located}
+use Rattle.ix_base.specs.LocatedElements.{located}
 use Rattle.ix_base.specs.declared.rule.Rule.TheVariants.{L2, L3}
-use Rattle.id_table.specs.Held.{asked}
+use Rattle.id_table.specs.Model.{asked}
 use Rattle.facts.proofs.links.refs_of.Goals as goal
 
 -- what is told of the context is a front of all

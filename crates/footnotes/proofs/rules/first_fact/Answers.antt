@@ -1,7 +1,7 @@
 use Rattle.std.proofs.Common.{◌∙◌, sym, take}
-use Rattle.ix_base.specs.Located.{is_fact, located}
+use Rattle.ix_base.specs.LocatedElements.{is_fact, located}
 use Rattle.id_table.specs.Tables.{all_located}
-use Rattle.continuations.proofs.SliceLaws.{located-take}
+use Rattle.id_table.proofs.RowLemmas.{located-take}
 use Rattle.footnotes.proofs.LoopLaws.{found-at, none-more}
 use Rattle.footnotes.proofs.rules.first_fact.Goals as goal
 

@@ -1,6 +1,6 @@
 use Rattle.std.proofs.Common.{◌≡◌, take, None}
 use Rattle.std.specs.List.{find}
-use Rattle.ix_base.specs.Located.{is_fact}
+use Rattle.ix_base.specs.LocatedElements.{is_fact}
 use Rattle.id_table.specs.Tables.{all_located}
 use Rattle.footnotes.proofs.rules.first_fact.Given as goal
 

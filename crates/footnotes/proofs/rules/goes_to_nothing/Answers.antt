@@ -1,9 +1,9 @@
 use Rattle.std.proofs.Common.{◌∙◌, ◌||◌, ap, sym}
-use Rattle.id_table.specs.Held.{asked}
+use Rattle.id_table.specs.Model.{asked}
 use Rattle.footnotes.proofs.EndLaws.{ends-break}
 use Rattle.footnotes.proofs.rules.goes_to_nothing.Goals as goal
 
-pub returns-else-relation : goal.returns-else-relation
-returns-else-relation c =
-    ap (λ m. m || c.has_both.result) (sym c.if-relation.false)
-    ∙ ends-break (asked c.args.index.now) c.args.relation.now c.has_both.result c.requires.known c.requires.is c.has_both.ensures
+pub returns-else-relationship : goal.returns-else-relationship
+returns-else-relationship c =
+    ap (λ m. m || c.has_both.result) (sym c.if-relationship.false)
+    ∙ ends-break (asked c.args.index.now) c.args.relationship.now c.has_both.result c.requires.known c.requires.is c.has_both.ensures

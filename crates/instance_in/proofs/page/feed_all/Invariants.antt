@@ -1,5 +1,5 @@
 use Rattle.std.proofs.Common.{◌≡◌, ◌++◌, List, ℕ, length}
-use Rattle.page_tree.specs.Standing.{StandsFor, limit}
+use Rattle.page_tree.specs.Model.{StandsFor, limit}
 use Rattle.instance_in.proofs.page.feed_all.Given as goal
 
 -- the builder was given what isn't left

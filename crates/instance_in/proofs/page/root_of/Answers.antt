@@ -1,7 +1,7 @@
 use Rattle.std.proofs.Common.{◌≡◌, ◌∙◌, ap, sym, Err, None}
 use Rattle.page_tree.proofs.PageLaws.{unbroken}
 use Rattle.page_tree.specs.Break.{w}
-use Rattle.page_tree.specs.Standing.{limit, verdict_of}
+use Rattle.page_tree.specs.Model.{limit, verdict_of}
 use Rattle.page_tree.specs.declared.builder.PageFault.TheVariants as fault
 use Rattle.instance_in.proofs.page.root_of.Goals as goal
 

@@ -1,7 +1,7 @@
 use Rattle.std.proofs.Common.{◌≡◌, ◌∙◌, ap, sym, Bool, true, false, cond, List, [], ◌∷◌, ◌++◌, append-nil}
 use Rattle.std.specs.Prelude.{bytes_eq, not}
 use Rattle.ix_base.specs.declared.content.Footnote.{Footnote}
-use Rattle.instance_out.specs.Arranged.{firsts}
+use Rattle.instance_out.specs.Arrangement.{firsts}
 use Rattle.instance_out.specs.Elements.{footnote_text}
 use Rattle.instance_out.proofs.FirstLaws.{firsts-push, has_text, has_text-push}
 use Rattle.instance_out.proofs.arranged_note.first_footnotes.Goals as goal

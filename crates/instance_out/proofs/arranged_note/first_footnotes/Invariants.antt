@@ -1,6 +1,6 @@
 use Rattle.std.proofs.Common.{◌≡◌, List, ℕ}
 use Rattle.std.specs.BTreeSet.{contains_text}
-use Rattle.instance_out.specs.Arranged.{firsts}
+use Rattle.instance_out.specs.Arrangement.{firsts}
 use Rattle.instance_out.specs.Elements.{footnote_text}
 use Rattle.instance_out.proofs.FirstLaws.{has_text}
 use Rattle.instance_out.proofs.arranged_note.first_footnotes.Given as goal

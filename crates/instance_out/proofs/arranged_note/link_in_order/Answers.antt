@@ -1,5 +1,5 @@
 use Rattle.std.proofs.Common.{refl}
-use Rattle.instance_out.specs.Arranged.{arranged_link}
+use Rattle.instance_out.specs.Arrangement.{arranged_link}
 use Rattle.instance_out.proofs.arranged_note.link_in_order.Goals as goal
 
 pub returns : goal.returns

@@ -1,6 +1,6 @@
 use Rattle.std.proofs.Common.{◌∙◌, ap, map}
 use Rattle.ix_base.specs.declared.content.NoteLink.{NoteLink}
-use Rattle.instance_out.specs.Arranged.{arranged_link}
+use Rattle.instance_out.specs.Arrangement.{arranged_link}
 use Rattle.instance_out.specs.declared.sort.Keyed.{Keyed}
 use Rattle.instance_out.proofs.Sorting.{made_by_keys}
 use Rattle.instance_out.proofs.Steps.{all_moved}

@@ -1,6 +1,6 @@
 use Rattle.std.proofs.Common.{◌≡◌, map}
 use Rattle.ix_base.specs.declared.content.NoteLink.{NoteLink}
-use Rattle.instance_out.specs.Arranged.{arranged_link}
+use Rattle.instance_out.specs.Arrangement.{arranged_link}
 use Rattle.instance_out.specs.declared.sort.Keyed.{Keyed}
 use Rattle.instance_out.proofs.arranged_note.links_in_order.Given as goal
 

@@ -1,10 +1,10 @@
 use Rattle.std.proofs.Common.{◌∙◌, ap, subst}
 use Rattle.std.specs.List.{range_with_len}
 use Rattle.std.specs.List.Sorted.{IsPermutation}
-use Rattle.ix_base.specs.Sorted.{sorted}
-use Rattle.instance_out.specs.Arranged.{by_line}
+use Rattle.ix_base.specs.SortedLists.{sorted}
+use Rattle.instance_out.specs.Arrangement.{by_line}
 use Rattle.instance_out.specs.Elements.{fact_line, fact_markup}
-use Rattle.instance_out.specs.Numbered.{numbers_by}
+use Rattle.instance_out.specs.Numbering.{numbers_by}
 use Rattle.instance_out.proofs.NumberLaws.{numbers-moved, sorted-by_numbers}
 use Rattle.instance_out.proofs.arrangement.facts_by_line.Goals as goal
 

@@ -3,7 +3,7 @@ use Rattle.std.specs.List.{range_with_len}
 use Rattle.std.proofs.lemmas.List.FromFn.{map-range_with_len_more}
 use Rattle.std.proofs.lemmas.Result.{IfOk-weaker}
 use Rattle.instance_out.specs.Elements.{fact_line}
-use Rattle.instance_out.specs.Numbered.{key_at}
+use Rattle.instance_out.specs.Numbering.{key_at}
 use Rattle.instance_out.specs.declared.sort.Keyed.{Keyed}
 use Rattle.instance_out.proofs.NumberLaws.{key_at-is}
 use Rattle.instance_out.proofs.Sorting.{by_keys_of}

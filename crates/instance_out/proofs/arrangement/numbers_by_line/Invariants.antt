@@ -1,7 +1,7 @@
 use Rattle.std.proofs.Common.{◌≡◌, ℕ, map}
 use Rattle.std.specs.List.{range_with_len}
 use Rattle.instance_out.specs.Elements.{fact_line}
-use Rattle.instance_out.specs.Numbered.{key_at}
+use Rattle.instance_out.specs.Numbering.{key_at}
 use Rattle.instance_out.specs.declared.sort.Keyed.{Keyed}
 use Rattle.instance_out.proofs.arrangement.numbers_by_line.Given as goal
 

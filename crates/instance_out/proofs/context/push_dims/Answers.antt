@@ -1,4 +1,4 @@
-use Rattle.ix_base.specs.Written.{nothing, written}
+use Rattle.ix_base.specs.WrittenMarkup.{nothing, written}
 use Rattle.instance_out.specs.Canonical.{dim_markup, each_markup}
 use Rattle.instance_out.proofs.MarkupLaws.{dims_step}
 use Rattle.instance_out.proofs.Steps.{step}

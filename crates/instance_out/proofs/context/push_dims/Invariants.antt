@@ -1,5 +1,5 @@
 use Rattle.std.proofs.Common.{◌≡◌, ◌++◌, List, ℕ, drop}
-use Rattle.ix_base.specs.Written.{nothing, written}
+use Rattle.ix_base.specs.WrittenMarkup.{nothing, written}
 use Rattle.instance_out.specs.Canonical.{dim_markup, each_markup}
 use Rattle.instance_out.proofs.context.push_dims.Given as goal
 

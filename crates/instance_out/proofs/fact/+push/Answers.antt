@@ -1,5 +1,5 @@
 use Rattle.ix_base.specs.Facts.{facts_of}
-use Rattle.ix_base.specs.Written.{written}
+use Rattle.ix_base.specs.WrittenMarkup.{written}
 use Rattle.instance_out.specs.Canonical.{facts_markup}
 use Rattle.instance_out.specs.Elements.{fact_markup}
 use Rattle.instance_out.proofs.MarkupLaws.{written-before}

@@ -1,6 +1,6 @@
 use Rattle.std.proofs.Common.{◌≡◌, ◌++◌, List, ℕ, drop}
 use Rattle.ix_base.specs.Facts.{facts_of}
-use Rattle.ix_base.specs.Written.{written}
+use Rattle.ix_base.specs.WrittenMarkup.{written}
 use Rattle.instance_out.specs.Canonical.{facts_markup}
 use Rattle.instance_out.proofs.fact.+push.Given as goal
 

@@ -1,10 +1,10 @@
 use Rattle.std.proofs.Common.{◌≡◌, ◌∙◌, ap, map, sym}
 use Rattle.ix_base.specs.declared.content.Content.{Content}
 use Rattle.ix_base.specs.Facts.{facts_of}
-use Rattle.ix_base.specs.Said.{said_of}
+use Rattle.ix_base.specs.PlainContents.{said_of}
 use Rattle.instance_out.specs.Canonical.{content_spaces, fact_markups, line}
 use Rattle.instance_out.specs.Elements.{fact_line, fact_markup}
-use Rattle.instance_out.specs.Holds.{said_spaces}
+use Rattle.instance_out.specs.Holdings.{said_spaces}
 use Rattle.instance_out.proofs.MarkupLaws.{fact_markups-are}
 use Rattle.instance_out.proofs.Sorting.{map-map}
 use Rattle.instance_out.proofs.fact.fact_lines_in.Goals as goal

@@ -1,5 +1,5 @@
 use Rattle.std.proofs.Common.{◌≡◌, ◌++◌, List, ℕ, drop}
-use Rattle.ix_base.specs.Written.{attrs_text}
+use Rattle.ix_base.specs.WrittenMarkup.{attrs_text}
 use Rattle.instance_out.specs.Tags.{attrs_of}
 use Rattle.instance_out.proofs.markup.push_attributes.Given as goal
 

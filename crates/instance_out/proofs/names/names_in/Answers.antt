@@ -1,6 +1,6 @@
 use Rattle.std.proofs.Common.{◌≡◌, ◌∙◌, sym, refl, append-nil}
-use Rattle.ix_base.specs.Said.{said_of}
-use Rattle.instance_out.specs.Holds.{all_names}
+use Rattle.ix_base.specs.PlainContents.{said_of}
+use Rattle.instance_out.specs.Holdings.{all_names}
 use Rattle.instance_out.specs.Tables.{values_of}
 use Rattle.instance_out.proofs.names.names_in.Goals as goal
 

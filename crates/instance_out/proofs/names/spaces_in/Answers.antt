@@ -1,9 +1,9 @@
 use Rattle.std.proofs.Common.{◌∙◌, ap}
 use Rattle.ix_base.specs.Once.{in_order}
-use Rattle.ix_base.specs.Said.{said_of}
-use Rattle.ix_base.specs.Sorted.{text_cmp}
+use Rattle.ix_base.specs.PlainContents.{said_of}
+use Rattle.ix_base.specs.SortedLists.{text_cmp}
 use Rattle.instance_out.specs.Canonical.{content_spaces}
-use Rattle.instance_out.specs.Holds.{all_names}
+use Rattle.instance_out.specs.Holdings.{all_names}
 use Rattle.instance_out.specs.Tables.{own_spaces, values_of}
 use Rattle.instance_out.proofs.PrefixLaws.{spaces_of-in_order}
 use Rattle.instance_out.proofs.names.spaces_in.Goals as goal

@@ -1,6 +1,6 @@
 use Rattle.std.proofs.Common.{◌∙◌, ap, sym, ◌+◌, ◌++◌, [], ◌∷◌, map, drop, get_or, List, ℕ, Bor}
 use Rattle.std.proofs.Math.ListN.{drop_of_length-le}
-use Rattle.ix_base.specs.Written.{attrs_text}
+use Rattle.ix_base.specs.WrittenMarkup.{attrs_text}
 use Rattle.instance_out.specs.Prefixes.{declaration, numbered}
 use Rattle.instance_out.specs.Tables.{values_of}
 use Rattle.instance_out.proofs.RootLaws.{root_line-is, root_step}

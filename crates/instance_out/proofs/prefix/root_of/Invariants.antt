@@ -1,5 +1,5 @@
 use Rattle.std.proofs.Common.{◌≡◌, ◌+◌, ◌++◌, List, ℕ, drop, map}
-use Rattle.ix_base.specs.Written.{attrs_text}
+use Rattle.ix_base.specs.WrittenMarkup.{attrs_text}
 use Rattle.instance_out.specs.Prefixes.{declaration, numbered}
 use Rattle.instance_out.specs.Tables.{values_of}
 use Rattle.instance_out.proofs.prefix.root_of.Given as goal

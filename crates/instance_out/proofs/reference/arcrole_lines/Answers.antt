@@ -1,7 +1,7 @@
 use Rattle.std.proofs.Common.{◌∙◌, ap, sym, map, take, ◌++◌, ◌∷◌, [], List, ℕ}
 use Rattle.std.proofs.lemmas.Result.{IfOk-weaker}
 use Rattle.ix_base.specs.Once.{in_order}
-use Rattle.ix_base.specs.Sorted.{text_cmp}
+use Rattle.ix_base.specs.SortedLists.{text_cmp}
 use Rattle.ix_base.specs.declared.content.RoleRef.{RoleRef}
 use Rattle.instance_out.specs.Canonical.{line, arcrole_markup}
 use Rattle.instance_out.proofs.Sorting.{once_lines}

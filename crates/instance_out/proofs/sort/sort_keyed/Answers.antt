@@ -5,7 +5,7 @@ use Rattle.std.specs.Cmp.{IsStrictWeakOrder}
 use Rattle.std.specs.Cmp.Lexicographic.{on_texts}
 use Rattle.std.specs.List.Sorted.{IsSortedBy, IsStableBy}
 use Rattle.std.specs.Ordering.{is_lt}
-use Rattle.ix_base.specs.Sorted.{sorted}
+use Rattle.ix_base.specs.SortedLists.{sorted}
 use Rattle.instance_out.specs.Keys.{by_key}
 use Rattle.instance_out.specs.declared.sort.Keyed.{Keyed}
 use Rattle.ix_base.proofs.StableLemmas.{stable_is_sorted}

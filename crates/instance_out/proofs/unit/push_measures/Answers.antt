@@ -1,5 +1,5 @@
 use Rattle.std.proofs.Common.{refl}
-use Rattle.ix_base.specs.Written.{nothing, written}
+use Rattle.ix_base.specs.WrittenMarkup.{nothing, written}
 use Rattle.instance_out.specs.Canonical.{measure_markup, measures_markup}
 use Rattle.instance_out.proofs.Steps.{step}
 use Rattle.instance_out.proofs.unit.push_measures.Goals as goal

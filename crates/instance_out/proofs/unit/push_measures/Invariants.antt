@@ -1,5 +1,5 @@
 use Rattle.std.proofs.Common.{◌≡◌, ◌++◌, List, ℕ, drop}
-use Rattle.ix_base.specs.Written.{written}
+use Rattle.ix_base.specs.WrittenMarkup.{written}
 use Rattle.instance_out.specs.Canonical.{measures_markup}
 use Rattle.instance_out.proofs.unit.push_measures.Given as goal
 

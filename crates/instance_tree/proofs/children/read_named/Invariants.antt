@@ -1,5 +1,5 @@
 use Rattle.std.proofs.Common.{◌≡◌, ◌++◌, option_map, drop}
-use Rattle.ix_base.specs.Holding.{named_in}
+use Rattle.ix_base.specs.ElementContent.{named_in}
 use Rattle.ix_base.specs.Steps.{each}
 use Rattle.ix_base.specs.Trees.{nodes_of}
 use Rattle.instance_tree.proofs.children.read_named.Given as goal

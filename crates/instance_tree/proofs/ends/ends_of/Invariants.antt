@@ -1,6 +1,6 @@
 use Rattle.std.proofs.Common.{◌≡◌, ◌++◌, drop, map}
 use Rattle.instance_out.specs.Denotation.{ends_of}
-use Rattle.instance_tree.specs.Reading.{end_of}
+use Rattle.instance_tree.specs.ReaderWords.{end_of}
 use Rattle.instance_tree.proofs.ends.ends_of.Given as goal
 
 abbrev pub invariant-loop-loc : goal.invariant-loop-loc

@@ -1,6 +1,6 @@
 use Rattle.std.proofs.Common.{◌∙◌, sym, arith}
 use Rattle.instance_tree.proofs.EndLaws.{apart-before, clash, ids-before}
-use Rattle.instance_tree.specs.Reading.{id_at}
+use Rattle.instance_tree.specs.ReaderWords.{id_at}
 use Rattle.instance_tree.proofs.ends.table_of.Goals as goal
 
 pub returns-then-not-branch-clause-apart : goal.returns-then-not-branch-clause-apart

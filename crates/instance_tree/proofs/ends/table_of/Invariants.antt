@@ -1,6 +1,6 @@
 use Rattle.std.proofs.Common.{◌≡◌, ◌≤◌, true, drop, length, map}
 use Rattle.instance_out.specs.Lists.{are_apart}
-use Rattle.instance_tree.specs.Reading.{HasEnds, end_of, labels_of}
+use Rattle.instance_tree.specs.ReaderWords.{HasEnds, end_of, labels_of}
 use Rattle.instance_tree.proofs.ends.table_of.Given as goal
 
 -- the table has the ends from here on, and no two of them have one label

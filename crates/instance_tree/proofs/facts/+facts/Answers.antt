@@ -1,10 +1,10 @@
 use Rattle.std.proofs.Common.{◌≡◌, ◌∙◌, sym, ap, Some, true, drop, option_map, rules}
 use Rattle.ix_base.specs.Facts.{before, facts_of}
-use Rattle.ix_base.specs.Holding.{is_blank}
+use Rattle.ix_base.specs.ElementContent.{is_blank}
 use Rattle.ix_base.specs.OwnNames.{own}
 use Rattle.ix_base.specs.Trees.{none, nodes_of, tree_of}
 use Rattle.instance_out.specs.Denotation.{facts_in}
-use Rattle.instance_tree.specs.Reading.{in_front}
+use Rattle.instance_tree.specs.ReaderWords.{in_front}
 use Rattle.instance_tree.proofs.FactSteps.{blank-step, fact-step, front-none, tuple-is}
 use Rattle.instance_tree.proofs.NodeLaws.{chars-front, elem-front, name-is, none-left}
 use Rattle.instance_tree.proofs.facts.+facts.Goals as goal

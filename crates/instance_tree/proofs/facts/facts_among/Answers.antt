@@ -1,9 +1,9 @@
 use Rattle.std.proofs.Common.{◌≡◌, ◌∙◌, sym, ap, Some, true, false, drop, option_map, rules}
 use Rattle.ix_base.specs.Facts.{before}
-use Rattle.ix_base.specs.Holding.{is_blank}
+use Rattle.ix_base.specs.ElementContent.{is_blank}
 use Rattle.ix_base.specs.Trees.{none, nodes_of, tree_of}
 use Rattle.instance_out.specs.Denotation.{facts_among, facts_in, is_part}
-use Rattle.instance_tree.specs.Reading.{in_front}
+use Rattle.instance_tree.specs.ReaderWords.{in_front}
 use Rattle.instance_tree.proofs.FactSteps.{blank-among, fact-among, front-none}
 use Rattle.instance_tree.proofs.NodeLaws.{chars-front, elem-front, name-is, none-left}
 use Rattle.instance_tree.proofs.facts.facts_among.Goals as goal

@@ -1,7 +1,7 @@
 use Rattle.std.proofs.Common.{◌≡◌, option_map, drop}
 use Rattle.ix_base.specs.Trees.{nodes_of}
 use Rattle.instance_out.specs.Denotation as spec
-use Rattle.instance_tree.specs.Reading.{in_front}
+use Rattle.instance_tree.specs.ReaderWords.{in_front}
 use Rattle.instance_tree.proofs.facts.facts_among.Given as goal
 
 -- what was read in front of what is left is what is due

@@ -1,7 +1,7 @@
 use Rattle.std.proofs.Common.{◌≡◌, ◌∙◌, ap, sym, subst, true, codes, rules, IfOk, Option, option_map}
 use Rattle.ix_base.specs.declared.content.NoteLink.{NoteLink}
 use Rattle.ix_base.specs.Trees.{nodes_of, tree_of}
-use Rattle.instance_tree.specs.Reading.{is_typed}
+use Rattle.instance_tree.specs.ReaderWords.{is_typed}
 use Rattle.instance_tree.proofs.EndLaws.{link-read}
 use Rattle.instance_tree.proofs.NodeLaws.{children_are}
 use Rattle.instance_tree.proofs.notes.notes_of.Goals as goal

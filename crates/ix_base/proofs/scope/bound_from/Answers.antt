@@ -1,12 +1,9 @@
-use Rattle.std.proofs.Common.{◌≡◌, ◌∙◌, ap, rules, subst, sym, Option}
-use Rattle.std.specs.Borrow.{Bor}
+use Rattle.std.proofs.Common.{◌∙◌, ap, rules, subst, sym}
 use Rattle.std.specs.List.{Contains}
 use Rattle.ix_base.specs.Scope.{namespace_of}
-use Rattle.ix_base.specs.declared.tree.Binding.{Binding}
-use Rattle.ix_base.specs.declared.tree.Level.{Level}
-use Rattle.ix_base.specs.Spaces.{space_bound, spaces_above}
+use Rattle.ix_base.specs.Spaces.{spaces_above}
 use Rattle.ix_base.specs.Trees.{bindings_above}
-use Rattle.ix_base.proofs.SpaceLemmas.{space_own, space_up}
+use Rattle.ix_base.proofs.SpaceLemmas.{space_up}
 use Rattle.ix_base.proofs.UnderLemmas.{bound_above}
 use Rattle.ix_base.proofs.scope.bound_from.Goals as goal
 

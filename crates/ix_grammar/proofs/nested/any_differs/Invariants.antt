@@ -1,7 +1,7 @@
 use Rattle.std.proofs.Common.{◌≡◌, drop}
 use Rattle.std.specs.Prelude.{codes}
 use Rattle.std.specs.List.{list_any}
-use Rattle.ix_base.specs.Holding.{named_in}
+use Rattle.ix_base.specs.ElementContent.{named_in}
 use Rattle.ix_base.specs.Namespaces.{ix_namespace}
 use Rattle.ix_base.specs.Trees.{nodes_of}
 use Rattle.ix_grammar.specs.Measures.{seen, differs_from}

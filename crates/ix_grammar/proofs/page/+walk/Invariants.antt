@@ -1,7 +1,7 @@
 use Rattle.std.proofs.Common.{◌≡◌, ◌++◌, ◌≤◌, length, drop}
 use Rattle.ix_base.specs.Elements.{path_above, path_of, placed}
 use Rattle.ix_base.specs.Trees.{tree_of, nodes_of}
-use Rattle.ix_grammar.specs.Adding.{found_from, found_below}
+use Rattle.ix_grammar.specs.Additions.{found_from, found_below}
 use Rattle.ix_grammar.proofs.page.+walk.Given as goal
 
 -- what is done, and what the nodes from here on break, is what is due; nothing was taken away

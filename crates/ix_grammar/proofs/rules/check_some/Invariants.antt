@@ -1,6 +1,6 @@
 use Rattle.std.proofs.Common.{drop}
 use Rattle.ix_base.specs.Elements.{placed}
-use Rattle.ix_grammar.specs.Adding.{Stands, found_as}
+use Rattle.ix_grammar.specs.Additions.{Stands, found_as}
 use Rattle.ix_grammar.proofs.rules.check_some.Given as goal
 
 -- what the rules from here on give is left

@@ -28,15 +28,15 @@ returns-in-Ok g c =
     due_answered old new (c.made_ready.new.pages ≡ c.args.pages.now) (c.deliver.new.sink ≡ c.args.sink.now) (c.deliver.new.out ≡ c.args.out.now) c.in-Ok.due c.deliver.result c.args.command.now c.in-Ok.ensures
     (subst (λ (d : Option (List ℕ)). Delivered c.in-Ok.due d old new (c.deliver.new.sink ≡ c.args.sink.now) (c.deliver.new.out ≡ c.args.out.now) c.deliver.result) c.dir.ensures (record {
       either = put.either;
-      targets = put.targets;
-      text = put.text;
-      quiet = put.quiet;
+      targets = λ e. (put.whole e).0;
+      text = λ e. (put.whole e).1;
+      quiet = λ e. ((put.whole e).2, (put.whole e).3);
       cause = put.cause;
-      last = put.last;
-      last_text = put.last_text;
+      last = λ e f. (put.cut e f).0;
+      last_text = λ e f. (put.front e f).0;
       numbers = put.numbers;
-      part = put.part;
-      all = put.all;
-      no_dir = λ e. put.no_dir (dir_none c.dir.result e);
-      none = put.none;
+      part = λ e f. ((put.cut e f).1, (put.cut e f).2);
+      all = λ e f. ((put.front e f).1, (put.front e f).2);
+      no_dir = λ e. put.still.0 (dir_none c.dir.result e);
+      none = put.still.1;
     }))

@@ -10,7 +10,7 @@ returns-in_err-write-clause-err g c =
     let p = err_from_is_err_and c.from_residual-in_err-write.result c.from_residual-in_err-write.ensures.1 in
     let text = concat c.args.target.now.prepared in
     rw (p.1) (subst (λ (n : List ℕ). GainsCut (finished_with c.args.dir.now n text) (g.S.TargetSink.targets c.args.sink.now) (g.S.TargetSink.targets c.write.new.sink)) c.as_str.ensures
-    (write_failed c.args.dir.now c.as_str.result.now text _ _ _ c.in_ok-begin.ensures.ok c.in_err-write.ensures.err))
+    (write_failed c.args.dir.now c.as_str.result.now text _ _ _ c.in_ok-begin.ensures.ok c.in_err-write.ensures.err.0))
 
 pub returns-clause-ok : goal.returns-clause-ok
 returns-clause-ok g c =

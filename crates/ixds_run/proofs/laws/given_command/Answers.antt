@@ -1,4 +1,4 @@
-use Rattle.ixds_run.proofs.GivenLaws.{given}
+use Rattle.command_words.proofs.GivenLaws.{given}
 use Rattle.ixds_run.proofs.laws.given_command.Goals as goal
 
 pub returns : goal.returns

@@ -1,5 +1,5 @@
 use Rattle.std.proofs.Common.{◌≡◌, ◌≤◌, false, Some, map, drop}
-use Rattle.ixds_run.specs.Reading.{HasReadSome}
+use Rattle.ixds_run.specs.PageReads.{HasReadSome}
 use Rattle.ixds_run.proofs.made_pages.build_all.Given as goal
 
 abbrev pub invariant-loop-number : goal.invariant-loop-number

@@ -1,5 +1,5 @@
 use Rattle.std.proofs.Common.{ap, refl, rules, ◌∙◌, subst, List, ℕ, Some, [], ◌+◌}
-use Rattle.ixds_run.specs.Reading.{ReadsOn}
+use Rattle.ixds_run.specs.PageReads.{ReadsOn}
 use Rattle.ixds_run.proofs.ForestLaws.{built_on}
 use Rattle.ixds_run.proofs.made_pages.build_page.Goals as goal
 

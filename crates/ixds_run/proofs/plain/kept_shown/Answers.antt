@@ -1,6 +1,6 @@
 use Rattle.std.proofs.Common.{◌≡◌, ◌∙◌, ◌==◌, ap, sym, length, true, false, refl, arith}
 use Rattle.ixds_run.proofs.JudgeLaws.{found_below}
-use Rattle.ixds_run.proofs.PlainLaws.{alone_of, break_says, first_is, numbered_first, root_says, sound_first}
+use Rattle.ixds_run.proofs.PlainLaws.{alone_of, break_says, first_is, root_says, sound_first}
 use Rattle.ixds_run.proofs.plain.kept_shown.Goals as goal
 
 pub reported-requires : goal.reported-requires
@@ -26,13 +26,7 @@ pub root_shown-requires-clause-sound : goal.root_shown-requires-clause-sound
 root_shown-requires-clause-sound c =
     let read = c.requires.read in
     let empty : (length c.args.forest.found == 0) ≡ true = sym c.is_empty.ensures ∙ c.if-not-is_empty.false in
-    sound_first c.sound_tree.ensures.tree read.0 c.args.forest c.index.result.now (alone_of read.0 c.args.forest read.1 read.2 empty) c.index.ensures
-
-pub root_shown-requires-clause-spaces : goal.root_shown-requires-clause-spaces
-root_shown-requires-clause-spaces c =
-    let read = c.requires.read in
-    let empty : (length c.args.forest.found == 0) ≡ true = sym c.is_empty.ensures ∙ c.if-not-is_empty.false in
-    numbered_first read.0 c.args.forest c.index.result.now (alone_of read.0 c.args.forest read.1 read.2 empty) c.index.ensures
+    sound_first c.sound_tree.ensures.root read.0 c.args.forest c.index.result.now (alone_of read.0 c.args.forest read.1 read.2 empty) c.index.ensures
 
 pub returns-clause-shown : goal.returns-clause-shown
 returns-clause-shown c =

@@ -1,5 +1,5 @@
 use Rattle.std.proofs.Common.{refl}
-use Rattle.page_tree.specs.Standing.{limit}
+use Rattle.page_tree.specs.Model.{limit}
 use Rattle.ixds_run.proofs.ForestLaws.{gained_root, gained_fault}
 use Rattle.ixds_run.proofs.read_pages.end_tree.Goals as goal
 

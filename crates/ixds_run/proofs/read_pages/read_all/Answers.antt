@@ -28,18 +28,18 @@ loop-number-preserved g c =
     let name = c.index-names-number.result in
     let next = next_read _ _ names n name _ _ _ (omega arith) c.index-names-number.is c.loop-number.invariant.page c.in_ok-read_next.ensures.reads c.loop-number.invariant.read in
     record {
-      faults = c.in_ok-read_next.ensures.ok ∙ c.loop-number.invariant.faults;
-      numbers = c.in_ok-read_next.ensures.numbers ∙ c.loop-number.invariant.numbers;
-      page = c.in_ok-read_next.ensures.pages ∙ c.loop-number.invariant.page;
+      faults = c.in_ok-read_next.ensures.tries.ok ∙ c.loop-number.invariant.faults;
+      numbers = c.in_ok-read_next.ensures.tries.numbers ∙ c.loop-number.invariant.numbers;
+      page = c.in_ok-read_next.ensures.tries.pages ∙ c.loop-number.invariant.page;
       room = c.loop-number.invariant.room;
       most = omega arith;
-      tags = c.in_ok-read_next.ensures.tags;
+      tags = c.in_ok-read_next.ensures.sums.1;
       read = read_more _ names name _ n _ _ _ (omega arith) next.0
-          (subst (λ (pg : List ℕ → Option (List ℕ)). TellsAlso pg name) c.loop-number.invariant.page c.in_ok-read_next.ensures.told) next.1;
-      starts = one_started names n name _ _ _ (omega arith) c.index-names-number.is c.loop-number.invariant.starts c.in_ok-read_next.ensures.started;
+          (subst (λ (pg : List ℕ → Option (List ℕ)). TellsAlso pg name) c.loop-number.invariant.page c.in_ok-read_next.ensures.tries.told) next.1;
+      starts = one_started names n name _ _ _ (omega arith) c.index-names-number.is c.loop-number.invariant.starts c.in_ok-read_next.ensures.tries.started;
       keeps = c.in_ok-read_next.ensures.keeps ∙ c.loop-number.invariant.keeps;
       same = λ e. absurd (let z : n + 1 ≡ 0 = e in omega arith);
-      stops = inr (last_is _ names name _ n _ _ _ _ c.loop-number.invariant.most c.in_ok-read_next.ensures.most c.in_ok-read_next.ensures.named next.0 next.1);
+      stops = inr (last_is _ names name _ n _ _ _ _ c.loop-number.invariant.most c.in_ok-read_next.ensures.sums.0 c.in_ok-read_next.ensures.tries.named next.0 next.1);
     }
 
 pub returns-then-forest-gt-MOST_BYTES-clause-reads : goal.returns-then-forest-gt-MOST_BYTES-clause-reads
@@ -60,7 +60,7 @@ returns-then-forest-gt-MOST_BYTES-clause-stops g c =
     let name = c.index-names-number.result in
     let next = next_read _ _ names n name _ _ _ (omega arith) c.index-names-number.is c.loop-number.invariant.page c.in_ok-read_next.ensures.reads c.loop-number.invariant.read in (
       drop (n + 1) names,
-      last_is _ names name _ n _ _ _ _ c.loop-number.invariant.most c.in_ok-read_next.ensures.most c.in_ok-read_next.ensures.named next.0 next.1,
+      last_is _ names name _ n _ _ _ _ c.loop-number.invariant.most c.in_ok-read_next.ensures.sums.0 c.in_ok-read_next.ensures.tries.named next.0 next.1,
       inr (names_over _ names name _ n _ _ _ c.if-forest-gt-MOST_BYTES.true next.0 next.1),
     )
 
@@ -71,12 +71,12 @@ returns-then-forest-gt-MOST_BYTES-clause-asks g c =
     let name = c.index-names-number.result in
     let before = before_next _ names n name _ (omega arith) c.index-names-number.is c.loop-number.invariant.read in
     record {
-      ok = c.in_ok-read_next.ensures.ok ∙ c.loop-number.invariant.faults;
+      ok = c.in_ok-read_next.ensures.tries.ok ∙ c.loop-number.invariant.faults;
       stopped = tt;
-      asked = inr (name, next_among _ names name _ n _ _ c.loop-number.invariant.most c.in_ok-read_next.ensures.named before);
-      starts = (n + 1, one_started names n name _ _ _ (omega arith) c.index-names-number.is c.loop-number.invariant.starts c.in_ok-read_next.ensures.started);
-      pages = c.in_ok-read_next.ensures.pages ∙ c.loop-number.invariant.page;
-      numbers = c.in_ok-read_next.ensures.numbers ∙ c.loop-number.invariant.numbers;
+      asked = inr (name, next_among _ names name _ n _ _ c.loop-number.invariant.most c.in_ok-read_next.ensures.tries.named before);
+      starts = (n + 1, one_started names n name _ _ _ (omega arith) c.index-names-number.is c.loop-number.invariant.starts c.in_ok-read_next.ensures.tries.started);
+      pages = c.in_ok-read_next.ensures.tries.pages ∙ c.loop-number.invariant.page;
+      numbers = c.in_ok-read_next.ensures.tries.numbers ∙ c.loop-number.invariant.numbers;
     }
 
 pub returns-clause-reads : goal.returns-clause-reads
@@ -114,15 +114,15 @@ returns-in_err-read_next-clause-asks g c =
     let name = c.index-names-number.result in
     let before = before_next _ names n name _ (omega arith) c.index-names-number.is c.loop-number.invariant.read in
     let why = next_stopped _ names name _ n _ c.loop-number.forest _ _ _ _ _ c.loop-number.invariant.most c.loop-number.invariant.faults before
-    c.in_err-read_next.ensures.stopped in
+    c.in_err-read_next.ensures.tries.stopped in
     record {
       ok = search rules;
       stopped = search rules;
       asked = asked_on _ g.P.PageSource.asked _ names name _ _ n _ c.loop-number.pages c.args.pages.now c.read_next.new.pages _
-          c.loop-number.invariant.most c.loop-number.invariant.same c.loop-number.invariant.stops before c.in_err-read_next.ensures.asked;
-      starts = next_started names n name _ _ _ (omega arith) c.index-names-number.is c.loop-number.invariant.starts c.in_err-read_next.ensures.starts;
-      pages = c.in_err-read_next.ensures.pages ∙ c.loop-number.invariant.page;
-      numbers = c.in_err-read_next.ensures.numbers ∙ c.loop-number.invariant.numbers;
+          c.loop-number.invariant.most c.loop-number.invariant.same c.loop-number.invariant.stops before c.in_err-read_next.ensures.tries.asked;
+      starts = next_started names n name _ _ _ (omega arith) c.index-names-number.is c.loop-number.invariant.starts c.in_err-read_next.ensures.tries.starts;
+      pages = c.in_err-read_next.ensures.tries.pages ∙ c.loop-number.invariant.page;
+      numbers = c.in_err-read_next.ensures.tries.numbers ∙ c.loop-number.invariant.numbers;
     }
 
 pub returns-in_default-clause-asks : goal.returns-in_default-clause-asks

@@ -1,5 +1,5 @@
 use Rattle.std.proofs.Common.{◌≡◌, ◌⊎◌, ◌≤◌, ◌++◌, vec_len, drop, take, option_map}
-use Rattle.ixds_run.specs.Reading.{HasReadSome, IsLast}
+use Rattle.ixds_run.specs.PageReads.{HasReadSome, IsLast}
 use Rattle.ixds_run.proofs.read_pages.read_all.Given as goal
 
 abbrev pub invariant-loop-number : goal.invariant-loop-number

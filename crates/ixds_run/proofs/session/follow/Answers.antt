@@ -2,7 +2,7 @@ use Rattle.std.proofs.Common.{◌∙◌, inl, inr, ℕ, List, Option, Some, sym,
 use Rattle.std.proofs.lemmas.Result.{IfErr-weaker, IfOk-weaker, on_ok_weaker}
 use Rattle.page_session.specs.Sources.{source_told}
 use Rattle.page_session.specs.declared.script.ScriptLine.{ScriptLine}
-use Rattle.ixds_run.specs.Following.{AreLines, IsEnded, OfLines, Started}
+use Rattle.ixds_run.specs.ScriptRuns.{AreLines, IsEnded, OfLines, Started}
 use Rattle.ixds_run.specs.DueTables.{outcome_of}
 use Rattle.ixds_run.specs.SessionBytes.{OfScript, to_read}
 use Rattle.ixds_run.specs.SessionOutcomes.{IsSession}
@@ -29,15 +29,15 @@ returns-in-Err-Failed g c =
       due = tt;
       silent = tt;
       all_starts = tt;
-      starts = starts_script _ _ _ _ read.starts;
+      starts = starts_script _ _ _ _ read.tries.starts;
       ok = tt;
       stopped = (
-        read.cause,
+        read.tries.cause,
         unread_script c.args.script.now c.in-Ok.line.items (source_told g.P.PageSource c.args.pages.now) (source_told g.P.PageSource c.read_script.new.pages)
-            (read.named refl) c.in-Ok.ensures read.failed,
+            (read.tries.named refl) c.in-Ok.ensures read.tries.failed,
       );
-      pages = read.pages;
-      numbers = read.numbers;
+      pages = read.tries.pages;
+      numbers = read.tries.numbers;
     }
 
 pub returns-in-Err-NoMemory : goal.returns-in-Err-NoMemory
@@ -47,11 +47,11 @@ returns-in-Err-NoMemory g c =
       due = tt;
       silent = tt;
       all_starts = tt;
-      starts = starts_script _ _ _ _ read.starts;
+      starts = starts_script _ _ _ _ read.tries.starts;
       ok = tt;
-      stopped = read.cause;
-      pages = read.pages;
-      numbers = read.numbers;
+      stopped = read.tries.cause;
+      pages = read.tries.pages;
+      numbers = read.tries.numbers;
     }
 
 pub follow_lines-requires-clause-lines : goal.follow_lines-requires-clause-lines
@@ -69,7 +69,7 @@ returns g c =
     let mid : Option (List (List ℕ)) = g.P.PageSource.starts c.read_script.new.pages in
     let new : Option (List (List ℕ)) = g.P.PageSource.starts c.follow_lines.new.pages in
     let read = rw c.in-Ok-Good.field-0-is at c.in-Ok-Good.ensures in
-    let ended = rw (read.pages, c.as_slice.ensures) at c.follow_lines.ensures.due in
+    let ended = rw (read.tries.pages, c.as_slice.ensures) at c.follow_lines.ensures.due in
     record {
       due = IfOk-weaker c.follow_lines.result (λ due. OfLines page lines (IsEnded base script lines mid new due))
           (λ due. OfScript page script (λ text bs. (dir : List ℕ) → IsSession base dir script text bs (outcome_of (Some dir) due)))
@@ -77,14 +77,14 @@ returns g c =
       silent = c.follow_lines.ensures.silent;
       all_starts = IfOk-weaker c.follow_lines.result (λ due. OfLines page lines (IsEnded base script lines mid new due))
           (λ due. OfScript page script (λ text bs. Started (to_read script text bs) old new))
-          (λ due h. good_starts page script lines read.says base old mid new due read.started h) ended;
-      starts = good_gains _ _ _ read.says _ _ _ read.started (rw (read.pages, c.as_slice.ensures) at c.follow_lines.ensures.starts);
-      ok = on_ok_weaker c.follow_lines.result (λ same. same ∙ read.cause) c.follow_lines.ensures.ok;
+          (λ due h. good_starts page script lines read.says base old mid new due read.tries.started h) ended;
+      starts = good_gains _ _ _ read.says _ _ _ read.tries.started (rw (read.tries.pages, c.as_slice.ensures) at c.follow_lines.ensures.starts);
+      ok = on_ok_weaker c.follow_lines.result (λ same. same ∙ read.tries.cause) c.follow_lines.ensures.ok;
       stopped = IfErr-weaker c.follow_lines.result _ _ (λ why w. good_stopped _ _ _ read.says (source_told g.P.PageSource c.args.pages.now)
-          (source_told g.P.PageSource c.read_script.new.pages) (source_told g.P.PageSource c.follow_lines.new.pages) why refl read.pages read.cause read.told w)
+          (source_told g.P.PageSource c.read_script.new.pages) (source_told g.P.PageSource c.follow_lines.new.pages) why refl read.tries.pages read.tries.cause read.tries.told w)
           (rw c.as_slice.ensures at c.follow_lines.ensures.stopped);
-      pages = c.follow_lines.ensures.pages ∙ read.pages;
-      numbers = c.follow_lines.ensures.numbers ∙ read.numbers;
+      pages = c.follow_lines.ensures.pages ∙ read.tries.pages;
+      numbers = c.follow_lines.ensures.numbers ∙ read.tries.numbers;
     }
 
 pub returns-in-Ok-due_of_line : goal.returns-in-Ok-due_of_line
@@ -93,12 +93,12 @@ returns-in-Ok-due_of_line g c =
     record {
       due = bad_due _ _ _ read.says _ c.in-Ok-due_of_line.due c.in-Ok-due_of_line.ensures.due;
       silent = c.in-Ok-due_of_line.ensures.silent;
-      all_starts = bad_starts _ _ _ read.says _ _ read.started;
-      starts = starts_script _ _ _ _ (inr read.started);
-      ok = read.cause;
+      all_starts = bad_starts _ _ _ read.says _ _ read.tries.started;
+      starts = starts_script _ _ _ _ (inr read.tries.started);
+      ok = read.tries.cause;
       stopped = tt;
-      pages = read.pages;
-      numbers = read.numbers;
+      pages = read.tries.pages;
+      numbers = read.tries.numbers;
     }
 
 pub returns-in-Ok-Bad : goal.returns-in-Ok-Bad
@@ -108,9 +108,9 @@ returns-in-Ok-Bad g c =
       due = tt;
       silent = tt;
       all_starts = tt;
-      starts = starts_script _ _ _ _ (inr read.started);
+      starts = starts_script _ _ _ _ (inr read.tries.started);
       ok = tt;
-      stopped = read.cause;
-      pages = read.pages;
-      numbers = read.numbers;
+      stopped = read.tries.cause;
+      pages = read.tries.pages;
+      numbers = read.tries.numbers;
     }

@@ -1,7 +1,7 @@
 use Rattle.std.proofs.Common.{◌≡◌, true, drop}
 use Rattle.std.specs.List.{list_any}
 use Rattle.page_session.specs.Script.{is_extract}
-use Rattle.ixds_run.specs.Following.{HasFollowed}
+use Rattle.ixds_run.specs.ScriptRuns.{HasFollowed}
 use Rattle.ixds_run.proofs.session.follow_lines.Given as goal
 
 abbrev pub invariant-loop-line : goal.invariant-loop-line

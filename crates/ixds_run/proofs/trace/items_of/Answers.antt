@@ -4,9 +4,9 @@ use Rattle.std.proofs.lemmas.List.{length-map}
 use Rattle.std.proofs.lemmas.Result.{IfOk-weaker}
 use Rattle.ix_base.specs.Elements.{pages_of}
 use Rattle.ix_base.specs.Trees.{tree_of}
-use Rattle.fact_trace.specs.Held.{Held}
+use Rattle.fact_trace.specs.Model.{Held}
 use Rattle.fact_trace.specs.Spans.{Source, traces}
-use Rattle.fact_trace.specs.Unbroken.{BreakNoRule}
+use Rattle.fact_trace.specs.ValidPages.{BreakNoRule}
 use Rattle.ixds_run.proofs.TraceLaws.{all_came, held_more, no_rule, page_comes, roots_length}
 use Rattle.ixds_run.proofs.trace.items_of.Goals as goal
 

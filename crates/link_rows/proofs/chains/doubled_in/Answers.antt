@@ -4,8 +4,8 @@ use Rattle.std.specs.Borrow.{Bor}
 use Rattle.std.specs.List.{flat_map, list_all}
 use Rattle.ix_base.specs.declared.breach.Found.{Found}
 use Rattle.ix_base.specs.declared.tree.Spot.{Spot}
-use Rattle.ix_base.specs.Located.{located}
-use Rattle.id_table.specs.Held.{Held, doubled_at}
+use Rattle.ix_base.specs.LocatedElements.{located}
+use Rattle.id_table.specs.Model.{Held, doubled_at}
 use Rattle.link_rows.proofs.FoundRows.{all-within, doubled-within}
 use Rattle.link_rows.proofs.chains.doubled_in.Goals as goal
 

@@ -6,7 +6,7 @@ use Rattle.ix_base.specs.declared.breach.Found.{Found}
 use Rattle.ix_base.specs.declared.rule.Rule.TheVariants.{L4, L5, L6, L7}
 use Rattle.ix_base.specs.declared.tree.Spot.{Spot}
 use Rattle.ix_base.specs.LinkRules.{breaking}
-use Rattle.ix_base.specs.Located.{located}
+use Rattle.ix_base.specs.LocatedElements.{located}
 use Rattle.link_rows.proofs.FoundRows.{breaking-within, all-within, both-within}
 use Rattle.link_rows.proofs.chains.linked_in.Goals as goal
 

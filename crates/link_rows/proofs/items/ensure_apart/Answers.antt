@@ -3,7 +3,7 @@ use Rattle.std.specs.Prelude.{◌==◌}
 use Rattle.std.specs.List.{flat_map}
 use Rattle.std.proofs.lemmas.Bool.{eqb-true}
 use Rattle.ix_base.specs.declared.breach.Found.{Found}
-use Rattle.id_table.specs.Held.{Held, doubled_at}
+use Rattle.id_table.specs.Model.{Held, doubled_at}
 use Rattle.link_rows.proofs.ApartRows.{apart_chosen}
 use Rattle.link_rows.proofs.items.ensure_apart.Goals as goal
 

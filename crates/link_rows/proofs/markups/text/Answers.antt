@@ -4,7 +4,7 @@ use Rattle.std.specs.Borrow.{Bor}
 use Rattle.ix_base.specs.declared.tree.Spot.{Spot}
 use Rattle.ix_base.specs.Elements.{place_of}
 use Rattle.ix_base.specs.Spots.{IsOnOnePage}
-use Rattle.scopes.specs.Kept.{Kept}
+use Rattle.scopes.specs.Model.{Kept}
 use Rattle.link_rows.proofs.markups.text.Goals as goal
 
 pub text_of-requires-clause-bases : goal.text_of-requires-clause-bases

@@ -1,6 +1,6 @@
 use Rattle.std.proofs.Common.{◌≡◌, ◌∙◌, true, subst, sym, rules}
 use Rattle.std.specs.List.{All}
-use Rattle.tuples.specs.Fits.{fits}
+use Rattle.tuples.specs.OrderNumbers.{fits}
 use Rattle.tuples.proofs.FitLaws.{all-fit}
 use Rattle.link_rows.proofs.members.of_first.Goals as goal
 

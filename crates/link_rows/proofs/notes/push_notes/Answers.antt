@@ -1,6 +1,6 @@
 use Rattle.std.proofs.Common.{◌≡◌, ◌∙◌, ◌<◌, true, subst, sym, rules}
 use Rattle.std.specs.List.{All}
-use Rattle.footnotes.specs.Kept.{AreOnPages}
+use Rattle.footnotes.specs.Model.{AreOnPages}
 use Rattle.footnotes.proofs.BelowLaws.{all-below}
 use Rattle.footnotes.proofs.ChainLaws.{chains-on}
 use Rattle.link_rows.proofs.notes.push_notes.Goals as goal

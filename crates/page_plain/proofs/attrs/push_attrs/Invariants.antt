@@ -1,6 +1,6 @@
 use Rattle.std.proofs.Common.{◌≡◌, ◌++◌, [], drop, map}
 use Rattle.ix_base.specs.Trees.{valued}
-use Rattle.ix_base.specs.Written.{attrs_text}
+use Rattle.ix_base.specs.WrittenMarkup.{attrs_text}
 use Rattle.page_plain.specs.Bare.{attr_in, kept_attrs, numbered}
 use Rattle.page_plain.proofs.attrs.push_attrs.Given as goal
 

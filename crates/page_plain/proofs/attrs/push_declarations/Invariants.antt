@@ -1,6 +1,6 @@
 use Rattle.std.proofs.Common.{◌≡◌, ◌++◌, ◌+◌, [], drop, map}
-use Rattle.ix_base.specs.Written.{attrs_text}
-use Rattle.page_tree.specs.Fine.{declaring}
+use Rattle.ix_base.specs.WrittenMarkup.{attrs_text}
+use Rattle.page_tree.specs.FineMarkup.{declaring}
 use Rattle.page_plain.specs.Bare.{numbered}
 use Rattle.page_plain.proofs.attrs.push_declarations.Given as goal
 

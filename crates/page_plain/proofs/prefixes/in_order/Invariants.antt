@@ -1,5 +1,5 @@
 use Rattle.std.proofs.Common.{◌≡◌, ◌++◌, map}
-use Rattle.page_plain.specs.Numbered.{space_met, spaces_met, texts_of}
+use Rattle.page_plain.specs.SpaceNumbers.{space_met, spaces_met, texts_of}
 use Rattle.page_plain.proofs.prefixes.in_order.Given as goal
 
 abbrev pub invariant-loop-space : goal.invariant-loop-space

@@ -1,9 +1,9 @@
 use Rattle.std.proofs.Common.{map, subst, sym}
 use Rattle.std.specs.List.Sorted.{IsStrictlySortedBy}
-use Rattle.ix_base.specs.Sorted.{text_cmp}
+use Rattle.ix_base.specs.SortedLists.{text_cmp}
 use Rattle.ix_base.proofs.OnceLemmas.{in_order-sorted}
 use Rattle.ix_base.proofs.OrderLemmas.{text_total}
-use Rattle.page_plain.specs.Numbered.{spaces_met, texts_of}
+use Rattle.page_plain.specs.SpaceNumbers.{spaces_met, texts_of}
 use Rattle.page_plain.proofs.ListedLaws.{next-numbered, next-there, there-put}
 use Rattle.page_plain.proofs.prefixes.numbers_of.Goals as goal
 

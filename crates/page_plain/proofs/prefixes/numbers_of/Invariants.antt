@@ -2,7 +2,7 @@ use Rattle.std.proofs.Common.{◌++◌, map}
 use Rattle.std.specs.BTreeMap.{values}
 use Rattle.std.specs.List.{All}
 use Rattle.ix_base.specs.Once.{SameMembers}
-use Rattle.page_plain.specs.Numbered.{IsThere, space_met, spaces_at, spaces_met}
+use Rattle.page_plain.specs.SpaceNumbers.{IsThere, space_met, spaces_at, spaces_met}
 use Rattle.page_plain.proofs.prefixes.numbers_of.Given as goal
 
 abbrev pub invariant-loop-number : goal.invariant-loop-number

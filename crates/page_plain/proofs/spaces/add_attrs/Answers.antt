@@ -1,5 +1,5 @@
 use Rattle.std.proofs.Common.{◌∙◌, ap, sym}
-use Rattle.page_plain.specs.Numbered.{spaces_met}
+use Rattle.page_plain.specs.SpaceNumbers.{spaces_met}
 use Rattle.page_plain.proofs.MetLaws.{attr-left, attr-put}
 use Rattle.page_plain.proofs.spaces.add_attrs.Goals as goal
 use Rattle.page_plain.proofs.spaces.add_attrs.Goals.{then-is_prefixed+in_ok-insert, else-is_prefixed}

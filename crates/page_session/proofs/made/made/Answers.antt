@@ -3,7 +3,7 @@ use Rattle.std.proofs.lemmas.Slice.Zip.{zip_turn, zip_end}
 use Rattle.std.proofs.lemmas.Result.{IfOk-weaker}
 use Rattle.ix_base.specs.Sound.{IsSoundRoot}
 use Rattle.ix_base.specs.Trees.{tree_of}
-use Rattle.targets.specs.Holding.{HeldSet}
+use Rattle.targets.specs.Model.{HeldSet}
 use Rattle.targets.specs.SetOutcomes.{ComesTo}
 use Rattle.targets.specs.PageSet.{PageSet}
 use Rattle.targets.specs.declared.outcome.Outcome.{Outcome}

@@ -11,4 +11,4 @@ returns-then-not-branch-clause-reads g c = c.in_ok-read_piece.ensures.reads c.ar
 
 pub returns-then-not-branch-clause-whole : goal.returns-then-not-branch-clause-whole
 returns-then-not-branch-clause-whole g c =
-    whole_at_end _ _ _ _ _ _ (c.in_ok-read_piece.ensures.reads c.args.taker.now _ _ c.loop-most.invariant.read) (c.in_ok-read_piece.ensures.end c.if-not-branch.true)
+    whole_at_end _ _ _ _ _ _ (c.in_ok-read_piece.ensures.reads c.args.taker.now _ _ c.loop-most.invariant.read) (c.in_ok-read_piece.ensures.more.0 c.if-not-branch.true)

@@ -1,6 +1,6 @@
 use Rattle.std.proofs.Common.{◌≡◌, ◌-◌, ◌+◌, ◌≤◌, ◌++◌, ◌∷◌, [], IfSome, length, IsTrue, option_map}
 use Rattle.ix_base.specs.Outside.{TellsAlso}
-use Rattle.page_session.specs.Reading.{HasFed}
+use Rattle.page_session.specs.PieceReads.{HasFed}
 use Rattle.page_session.proofs.reading.read_page.Given as goal
 
 abbrev pub invariant-loop-most : goal.invariant-loop-most

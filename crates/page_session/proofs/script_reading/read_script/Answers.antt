@@ -7,4 +7,4 @@ pub returns-in-Ok-parse-clause-says : goal.returns-in-Ok-parse-clause-says
 returns-in-Ok-parse-clause-says g c =
     let read = c.in_ok-read_page.ensures in
     let is : c.in-Ok-parse.script ≡ script_of c.read_page.new.taker.items = search rules in
-    script_told _ _ c.read_page.new.taker.items c.read_page.new.sums _ read.reads read.tags read.whole is
+    script_told _ _ c.read_page.new.taker.items c.read_page.new.sums _ read.reads read.sums.tags read.whole is

@@ -1,6 +1,6 @@
 use Rattle.std.proofs.Common.{[], false, length, ◌++◌, ◌∙◌, ap, sym}
 use Rattle.page_text.specs.Characters.{begun, scan}
-use Rattle.page_text.specs.Reading.{begin, reading_of}
+use Rattle.page_text.specs.Model.{begin, reading_of}
 use Rattle.page_text.specs.Cuts.{due_all}
 use Rattle.page_text.proofs.Readings.{stands-begin, stands-after_all, begun-due_all, begun-nil}
 use Rattle.page_text.proofs.laws.any_pieces.Goals as goal

@@ -1,5 +1,5 @@
 use Rattle.std.proofs.Common.{◌∙◌, sym, ap}
-use Rattle.page_tree.specs.Seeking.{found}
+use Rattle.page_constructs.specs.Searches.{found}
 use Rattle.page_tree.proofs.AtLaws.{at-end, at-found, at-nowhere}
 use Rattle.page_tree.proofs.construct.construct_at.Goals as goal
 

@@ -1,4 +1,4 @@
-use Rattle.page_tree.proofs.CutLaws.{size-append, kind_of-append}
+use Rattle.page_constructs.proofs.CutLaws.{size-append, kind_of-append}
 use Rattle.page_tree.proofs.laws.ended_stays.Goals as goal
 
 pub returns-clause-size : goal.returns-clause-size

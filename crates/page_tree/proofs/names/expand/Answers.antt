@@ -5,7 +5,7 @@ use Rattle.ix_base.specs.Spaces.{space_of, spaces_bound}
 use Rattle.ix_base.specs.Trees.{bindings_in}
 use Rattle.page_tree.specs.Expansions.{expansion, expansion_of}
 use Rattle.page_tree.specs.Spaces.{AreFrom, IsFrom, spaces_expanded}
-use Rattle.page_tree.specs.Views.{attribute_of}
+use Rattle.page_constructs.specs.Model.{attribute_of}
 use Rattle.page_tree.specs.declared.names.Expanded.{Expanded}
 use Rattle.page_tree.proofs.ExpandLaws.{expanded-next, expanded-past, from-more}
 use Rattle.page_tree.proofs.names.expand.Goals as goal

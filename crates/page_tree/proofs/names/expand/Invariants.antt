@@ -4,7 +4,7 @@ use Rattle.ix_base.specs.Spaces.{spaces_bound}
 use Rattle.ix_base.specs.Trees.{bindings_in}
 use Rattle.page_tree.specs.Expansions.{expansion, expansion_of}
 use Rattle.page_tree.specs.Spaces.{AreFrom, spaces_expanded}
-use Rattle.page_tree.specs.Views.{attribute_of}
+use Rattle.page_constructs.specs.Model.{attribute_of}
 use Rattle.page_tree.proofs.names.expand.Given as goal
 
 abbrev pub invariant-loop-attr : goal.invariant-loop-attr

@@ -1,6 +1,6 @@
 use Rattle.std.proofs.Common.{◌≡◌, drop, map}
 use Rattle.std.specs.List.{list_any, filter_map}
-use Rattle.page_tree.specs.Views.{attribute_of}
+use Rattle.page_constructs.specs.Model.{attribute_of}
 use Rattle.page_tree.specs.Tags.{is_bad, binding_of}
 use Rattle.page_tree.proofs.names.has_bad.Given as goal
 

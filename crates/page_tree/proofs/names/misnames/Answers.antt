@@ -3,7 +3,7 @@ use Rattle.std.specs.List.{list_any}
 use Rattle.ix_base.specs.Trees.{bindings_in}
 use Rattle.page_tree.specs.Expansions.{is_unknown}
 use Rattle.page_tree.specs.Tags.{declares, is_unbound}
-use Rattle.page_tree.specs.Views.{attribute_of}
+use Rattle.page_constructs.specs.Model.{attribute_of}
 use Rattle.page_tree.proofs.TwiceLaws.{unbound-is}
 use Rattle.page_tree.proofs.names.misnames.Goals as goal
 

@@ -2,7 +2,8 @@ use Rattle.std.proofs.Common.{◌∙◌, ◌+◌, [], sym, ap, map, option_map, 
 use Rattle.std.specs.List.{filter_map}
 use Rattle.page_tree.specs.Orders.{bound_under, entered}
 use Rattle.page_tree.specs.Tags.{binding_of}
-use Rattle.page_tree.specs.Views.{attribute_of, declared}
+use Rattle.page_constructs.specs.Model.{attribute_of}
+use Rattle.page_tree.specs.Expansions.{declared}
 use Rattle.page_tree.proofs.ScopeLaws.{declared-next, declared-past}
 use Rattle.page_tree.proofs.scope.declarations.Goals.{in-Some+in_ok-insert, in_default}
 use Rattle.page_tree.proofs.scope.declarations.Goals as goal

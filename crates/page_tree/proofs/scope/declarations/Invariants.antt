@@ -1,6 +1,6 @@
 use Rattle.std.proofs.Common.{◌≡◌, [], drop, map}
 use Rattle.std.specs.List.{filter_map}
-use Rattle.page_tree.specs.Views.{attribute_of}
+use Rattle.page_constructs.specs.Model.{attribute_of}
 use Rattle.page_tree.specs.Orders.{bound_under, entered}
 use Rattle.page_tree.specs.Tags.{binding_of}
 use Rattle.page_tree.proofs.scope.declarations.Given as goal

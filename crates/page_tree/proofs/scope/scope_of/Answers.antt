@@ -9,7 +9,7 @@ use Rattle.ix_base.specs.Trees.{bindings_in}
 use Rattle.ix_base.proofs.UnderLemmas.{ordered-scope}
 use Rattle.page_tree.specs.Spaces.{HasNumber, HaveNumbers}
 use Rattle.page_tree.specs.Tags.{binding_of}
-use Rattle.page_tree.specs.Views.{attribute_of}
+use Rattle.page_constructs.specs.Model.{attribute_of}
 use Rattle.page_tree.proofs.DeclaredLaws.{ordered-once, under-once, under-none}
 use Rattle.page_tree.proofs.scope.scope_of.Goals as goal
 

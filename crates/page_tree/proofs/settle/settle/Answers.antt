@@ -1,13 +1,13 @@
 use Rattle.std.proofs.Common.{◌≡◌, ◌+◌, ◌==◌, ◌&&◌, drop, length, Ok, refl, sym, ap, subst, arith}
 use Rattle.std.proofs.lemmas.Str.{IsCharBoundary-start}
-use Rattle.page_tree.specs.Acting.{Leads, Breaks}
+use Rattle.page_tree.specs.MachineSteps.{Leads, Breaks}
 use Rattle.page_tree.specs.Break.{fault}
 use Rattle.page_tree.specs.Buildings.{state_of}
-use Rattle.page_tree.specs.Seeking.{IsSought}
+use Rattle.page_constructs.specs.Searches.{IsSought}
 use Rattle.page_tree.proofs.ActingLaws.{leads-stay, leads-on, breaks-on}
 use Rattle.page_tree.proofs.LateLaws.{behind-step}
 use Rattle.page_tree.proofs.SettleLaws.{same-front, not-front, behind-whole}
-use Rattle.page_tree.proofs.SizeLaws.{sought-none}
+use Rattle.page_constructs.proofs.SizeLaws.{sought-none}
 use Rattle.page_tree.proofs.settle.settle.Goals as goal
 
 pub constructs-init : goal.constructs-init
@@ -37,11 +37,8 @@ returns-in-Waits-clause-leads c = λ q us h.
     subst (λ b. Leads c.args.ended c.args.setting.now.depth (state_of c.args.building.now) c.args.first us (state_of b) (c.args.first && (c.constructs.at == 0)) (drop c.constructs.at us))
     (sym (c.in_ok-sought.ensures.waits c.in-Waits.sought (ap Ok c.in-Waits.is)).1) (c.constructs.invariant.leads us h)
 
-pub returns-in-Waits-clause-whole : goal.returns-in-Waits-clause-whole
-returns-in-Waits-clause-whole c = λ q. (c.in_ok-sought.ensures.waits c.in-Waits.sought (ap Ok c.in-Waits.is)).0
-
-pub returns-in-Waits-clause-sought : goal.returns-in-Waits-clause-sought
-returns-in-Waits-clause-sought c = λ q. (c.in_ok-sought.ensures.waits c.in-Waits.sought (ap Ok c.in-Waits.is)).2
+pub returns-in-Waits-clause-waits : goal.returns-in-Waits-clause-waits
+returns-in-Waits-clause-waits c = λ q. let w = c.in_ok-sought.ensures.waits c.in-Waits.sought (ap Ok c.in-Waits.is) in (w.0, w.2)
 
 pub returns-in-Breaks-clause-breaks : goal.returns-in-Breaks-clause-breaks
 returns-in-Breaks-clause-breaks c = λ b q us h.
@@ -81,10 +78,9 @@ overflow_add-at c =
     let top = c.as_bytes-bytes.type_inv.0 in
     omega arith
 
-pub returns-clause-whole : goal.returns-clause-whole
-returns-clause-whole c = λ q.
-    let same : length c.as_bytes-bytes.result.now ≡ length c.args.text.now = ap length c.as_bytes-bytes.ensures.value in
-    behind-whole c.args.ended (c.args.first && (c.constructs.at == 0)) c.args.text.now c.constructs.at (let e = c.constructs-test.false in omega arith)
-
-pub returns-clause-sought : goal.returns-clause-sought
-returns-clause-sought c = λ q. sought-none (c.args.first && (c.constructs.at == 0)) (drop c.constructs.at c.args.text.now) c.unsought-2.result c.unsought-2.ensures
+pub returns-clause-waits : goal.returns-clause-waits
+returns-clause-waits c = λ q.
+    let same : length c.as_bytes-bytes.result.now ≡ length c.args.text.now = ap length c.as_bytes-bytes.ensures.value in (
+      behind-whole c.args.ended (c.args.first && (c.constructs.at == 0)) c.args.text.now c.constructs.at (let e = c.constructs-test.false in omega arith),
+      sought-none (c.args.first && (c.constructs.at == 0)) (drop c.constructs.at c.args.text.now) c.unsought-2.result c.unsought-2.ensures,
+    )

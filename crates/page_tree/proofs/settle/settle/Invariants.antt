@@ -1,10 +1,10 @@
 use Rattle.std.proofs.Common.{◌≢◌, ◌≤◌, ◌-◌, ◌==◌, ◌&&◌, List, length, drop}
 use Rattle.std.specs.Str.{IsCharBoundary}
-use Rattle.page_tree.specs.Acting.{Leads}
+use Rattle.page_tree.specs.MachineSteps.{Leads}
 use Rattle.page_tree.specs.Buildings.{state_of, IsOnPage}
-use Rattle.page_tree.specs.Constructs.{Byte}
-use Rattle.page_tree.specs.Placing.{IsPlaced}
-use Rattle.page_tree.specs.Seeking.{IsSought}
+use Rattle.page_constructs.specs.Constructs.{Byte}
+use Rattle.page_tree.specs.TextPlaces.{IsPlaced}
+use Rattle.page_constructs.specs.Searches.{IsSought}
 use Rattle.page_tree.proofs.settle.settle.Given as goal
 
 pub record Goes (l : goal.Live-constructs) : Type 0 where

@@ -1,10 +1,10 @@
 use Rattle.std.proofs.Common.{◌≡◌, Some, refl, sym, ap, ◌∙◌, subst, take}
-use Rattle.page_tree.specs.Constructs.{whole_size, kind_of}
-use Rattle.page_tree.specs.Ends.{HasEnds}
-use Rattle.page_tree.specs.Acting.{Breaks}
+use Rattle.page_constructs.specs.Constructs.{whole_size, kind_of}
+use Rattle.page_constructs.specs.Ends.{HasEnds}
+use Rattle.page_tree.specs.MachineSteps.{Breaks}
 use Rattle.page_tree.specs.Break.{fault}
 use Rattle.page_tree.specs.Buildings.{state_of}
-use Rattle.page_tree.specs.Seeking.{IsSought}
+use Rattle.page_constructs.specs.Searches.{IsSought}
 use Rattle.page_tree.proofs.CutPoints.{whole-boundary}
 use Rattle.page_tree.proofs.EndLaws.{whole-ends}
 use Rattle.page_tree.proofs.PieceLaws.{whole-takes}

@@ -1,11 +1,11 @@
 use Rattle.std.proofs.Common.{◌≡◌, ◌+◌, false, Some, None, drop, sym, ◌∙◌, subst}
 use Rattle.std.proofs.lemmas.Str.{IsCharBoundary-from_rest}
 use Rattle.std.specs.Str.{IsCharBoundary}
-use Rattle.page_tree.specs.Acting.{Leads, Breaks}
+use Rattle.page_tree.specs.MachineSteps.{Leads, Breaks}
 use Rattle.page_tree.specs.Break.{fault}
 use Rattle.page_tree.specs.Buildings.{state_of}
-use Rattle.page_tree.specs.Constructs.{whole_size}
-use Rattle.page_tree.specs.Seeking.{IsSought}
+use Rattle.page_constructs.specs.Constructs.{whole_size}
+use Rattle.page_constructs.specs.Searches.{IsSought}
 use Rattle.page_tree.proofs.PlacingLaws.{says-behind, offset-first, drop-behind}
 use Rattle.page_tree.proofs.settle.step_at.Goals as goal
 

@@ -3,7 +3,7 @@ use Rattle.std.proofs.lemmas.List.Elements.{All-append, All-cons, All-nil}
 use Rattle.ix_base.specs.Spaces.{space_of, spaces_bound, spaces_in, spaces_named}
 use Rattle.ix_base.specs.Trees.{none, nodes_of, bindings_in}
 use Rattle.page_tree.specs.Spaces.{HasNumber, HaveNumbers}
-use Rattle.page_tree.specs.Views.{attribute_of, tag_of}
+use Rattle.page_constructs.specs.Model.{attribute_of, tag_of}
 use Rattle.page_tree.proofs.StackLaws.{head-is}
 use Rattle.page_tree.proofs.TwiceLaws.{valued-is}
 use Rattle.page_tree.proofs.stack.open_element.Goals as goal

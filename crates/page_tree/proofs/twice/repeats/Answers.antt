@@ -3,7 +3,7 @@ use Rattle.std.specs.Prelude.{bytes_eq}
 use Rattle.std.specs.List.{filter_map}
 use Rattle.page_tree.specs.Expansions.{expansion, known_name, repeats_by}
 use Rattle.page_tree.specs.Tags.{same_name}
-use Rattle.page_tree.specs.Views.{attribute_of}
+use Rattle.page_constructs.specs.Model.{attribute_of}
 use Rattle.page_tree.proofs.TwiceLaws.{attributes-named, repeats-split, repeats-short}
 use Rattle.page_tree.proofs.twice.repeats.Goals as goal
 

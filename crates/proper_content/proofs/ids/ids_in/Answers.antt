@@ -4,8 +4,8 @@ use Rattle.ix_base.specs.declared.content.Context.{Context}
 use Rattle.ix_base.specs.declared.content.Footnote.{Footnote}
 use Rattle.ix_base.specs.declared.content.Unit.{Unit as UnitContent}
 use Rattle.ix_base.specs.Facts.{facts_of}
-use Rattle.ix_base.specs.Said.{said_of}
-use Rattle.instance_out.specs.Holds.{all_notes, fact_ids}
+use Rattle.ix_base.specs.PlainContents.{said_of}
+use Rattle.instance_out.specs.Holdings.{all_notes, fact_ids}
 use Rattle.instance_out.specs.Proper.{counted_once}
 use Rattle.instance_out.specs.Tables.{values_of}
 use Rattle.proper_content.proofs.IdLaws.{ids_joined, ids_moved}

@@ -1,9 +1,9 @@
 use Rattle.std.proofs.Common.{◌∙◌, ap}
 use Rattle.std.specs.List.{list_all}
 use Rattle.ix_base.specs.Facts.{facts_of}
-use Rattle.ix_base.specs.Said.{said_of}
-use Rattle.ix_base.specs.Sorted.{sorted, text_cmp}
-use Rattle.instance_out.specs.Holds.{fact_ids}
+use Rattle.ix_base.specs.PlainContents.{said_of}
+use Rattle.ix_base.specs.SortedLists.{sorted, text_cmp}
+use Rattle.instance_out.specs.Holdings.{fact_ids}
 use Rattle.instance_out.specs.Proper.{is_whole_link}
 use Rattle.instance_out.specs.Tables.{values_of}
 use Rattle.proper_content.proofs.ToldLaws.{links_told}

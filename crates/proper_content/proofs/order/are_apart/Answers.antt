@@ -1,5 +1,5 @@
 use Rattle.std.proofs.Common.{◌≡◌, ◌∙◌, rules}
-use Rattle.ix_base.specs.Sorted.{text_cmp}
+use Rattle.ix_base.specs.SortedLists.{text_cmp}
 use Rattle.instance_out.specs.Lists.{strictly}
 use Rattle.instance_out.specs.Tables.{values_of}
 use Rattle.proper_content.proofs.ListLaws.{apart_sorted}

@@ -1,5 +1,5 @@
 use Rattle.std.proofs.Common.{◌≡◌, ◌-◌, ◌≤◌, length, drop}
-use Rattle.scale_sign.specs.Written.{strip}
+use Rattle.scale_sign.specs.WrittenDigits.{strip}
 use Rattle.scale_sign.proofs.writer.stripped.Given as goal
 
 abbrev pub invariant-loop-start : goal.invariant-loop-start

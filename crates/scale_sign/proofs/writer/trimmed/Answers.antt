@@ -1,7 +1,7 @@
 use Rattle.std.proofs.Common.{◌≡◌, ◌≢◌, ◌+◌, ◌<◌, ◌≤◌, ◌++◌, [], ◌∷◌, length, take, ℕ, ◌-◌, List, get_or, arith, refl}
 use Rattle.std.proofs.lemmas.List.{take_more}
 use Rattle.std.proofs.lemmas.Grind.{common_steps}
-use Rattle.scale_sign.specs.Written.{cut}
+use Rattle.scale_sign.specs.WrittenDigits.{cut}
 use Rattle.scale_sign.proofs.Values.{cut_zero, cut_other}
 use Rattle.scale_sign.proofs.writer.trimmed.Goals as goal
 use Rattle.scale_sign.proofs.writer.trimmed.Goals.{then-loop-end-test+else-bytes-end-eq48, else-loop-end-test}

@@ -1,5 +1,5 @@
 use Rattle.std.proofs.Common.{◌≡◌, ◌≤◌, length, take}
-use Rattle.scale_sign.specs.Written.{cut}
+use Rattle.scale_sign.specs.WrittenDigits.{cut}
 use Rattle.scale_sign.proofs.writer.trimmed.Given as goal
 
 abbrev pub invariant-loop-end : goal.invariant-loop-end

@@ -2,7 +2,7 @@ use Rattle.std.proofs.Common.{◌∙◌, ◌<◌, ap, length, take}
 use Rattle.std.specs.List.{Contains}
 use Rattle.ix_base.specs.Asks.{asks}
 use Rattle.ix_base.specs.LinkRules.{found_at}
-use Rattle.ix_base.specs.Located.{Located, base_in, located}
+use Rattle.ix_base.specs.LocatedElements.{Located, base_in, located}
 use Rattle.ix_base.specs.Rows.{row}
 use Rattle.ix_base.specs.declared.rule.Rule.TheVariants.{L17}
 use Rattle.std.proofs.Common.{subst, ◌++◌, ◌+◌}

@@ -1,7 +1,7 @@
 use Rattle.std.proofs.Common.{◌≡◌, ◌++◌, take}
 use Rattle.std.specs.List.{flat_map}
-use Rattle.ix_base.specs.Located.{base_in}
-use Rattle.id_table.specs.Held.{asked}
+use Rattle.ix_base.specs.LocatedElements.{base_in}
+use Rattle.id_table.specs.Model.{asked}
 use Rattle.id_table.specs.Tables.{all_located}
 use Rattle.targets.specs.Faults.{redirected_at}
 use Rattle.targets.proofs.addresses.add_redirected.Given as goal

@@ -1,7 +1,7 @@
 use Rattle.std.proofs.Common.{◌∙◌, ap, sym}
 use Rattle.std.specs.Prelude.{◌||◌}
 use Rattle.ix_base.specs.declared.kind.Kind.TheVariants as kind
-use Rattle.ix_base.specs.Located.{located}
+use Rattle.ix_base.specs.LocatedElements.{located}
 use Rattle.targets.proofs.RedirectLaws.{both-seen, seen-two}
 use Rattle.targets.proofs.addresses.is_redirected.Goals as goal
 

@@ -1,7 +1,7 @@
 use Rattle.std.proofs.Common.{◌∙◌, ap, sym, map}
 use Rattle.std.specs.List.{filter}
 use Rattle.ix_base.specs.LinkRules.{address_of}
-use Rattle.ix_base.specs.Located.{Located, base_in, located}
+use Rattle.ix_base.specs.LocatedElements.{Located, base_in, located}
 use Rattle.id_table.specs.Tables.{all_located}
 use Rattle.std.proofs.Common.{◌∷◌, [], None, List, take}
 use Rattle.targets.specs.RoleAddresses.{refers_to, seen_from}

@@ -1,5 +1,5 @@
 use Rattle.std.proofs.Common.{take}
-use Rattle.ix_base.specs.Located.{base_in}
+use Rattle.ix_base.specs.LocatedElements.{base_in}
 use Rattle.id_table.specs.Tables.{all_located}
 use Rattle.targets.specs.RoleAddresses.{AreSeen}
 use Rattle.targets.proofs.addresses.roles_of.Given as goal

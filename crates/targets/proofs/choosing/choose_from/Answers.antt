@@ -1,7 +1,7 @@
 use Rattle.std.proofs.Common.{◌≡◌, ◌<◌, ◌≤◌, ◌∙◌, cond, subst, sym, ℕ, List, length, arith}
 use Rattle.ix_base.specs.Ids.{holds_id}
-use Rattle.ix_base.specs.Located.{Located, located}
-use Rattle.id_table.specs.Held.{chosen}
+use Rattle.ix_base.specs.LocatedElements.{Located, located}
+use Rattle.id_table.specs.Model.{chosen}
 use Rattle.targets.specs.Choices.{choice}
 use Rattle.targets.specs.LinkTables.{AreLinks}
 use Rattle.targets.proofs.ChoosingLaws.{chosen-all, chosen-next, spot-at}

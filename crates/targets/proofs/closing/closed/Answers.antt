@@ -4,7 +4,7 @@ use Rattle.std.proofs.lemmas.List.Elements.{All-same}
 use Rattle.std.proofs.lemmas.Result.{IfOk-weaker}
 use Rattle.ix_base.specs.declared.breach.Found.{Found}
 use Rattle.targets.specs.Faults.{element_faults, link_faults}
-use Rattle.targets.specs.Holding.{set_of}
+use Rattle.targets.specs.Model.{set_of}
 use Rattle.targets.specs.SetOutcomes.{ComesOfValues, FirstOf, IsReport}
 use Rattle.targets.specs.PageSet.{names}
 use Rattle.targets.proofs.BelowLaws.{faults-below}

@@ -1,25 +1,41 @@
-use Rattle.std.proofs.Common.{◌<◌, length}
+use Rattle.std.proofs.Common.{◌∙◌, ◌<◌, All, List, ap, length, subst, sym}
 use Rattle.std.specs.List.{filter}
 use Rattle.std.proofs.lemmas.List.Elements.{All-filter}
+use Rattle.std.proofs.lemmas.Result.{IfOk-weaker}
 use Rattle.ix_base.specs.Asks.{asks}
-use Rattle.ix_base.specs.Located.{Located, base_in, is_item}
+use Rattle.ix_base.specs.LocatedElements.{Located, base_in, is_item}
 use Rattle.facts.specs.ItemValue.{IsItem}
-use Rattle.targets.specs.Holding.{set_of}
-use Rattle.targets.specs.Linked.{all_of, bases_of}
+use Rattle.scopes.specs.Model.{Kept}
+use Rattle.targets.specs.Model.{set_of}
+use Rattle.targets.specs.Groups.{AreGroups}
+use Rattle.targets.specs.LinkedSets.{BasedElements}
 use Rattle.targets.proofs.BelowLaws.{values-below}
-use Rattle.targets.proofs.ComesLaws.{no-faults, none-is, on-names}
+use Rattle.targets.proofs.ComesLaws.{keeps-on, no-faults, none-is, on-names}
+use Rattle.targets.proofs.ValuesCome.{values-come}
 use Rattle.targets.proofs.closing.comes_of_values.Goals as goal
 
-pub whole-requires-clause-valued : goal.whole-requires-clause-valued
-whole-requires-clause-valued c =
-    no-faults (base_in (bases_of c.args.linked.now)) (all_of c.args.linked.now) c.in_ok-found.found c.in_ok-found.ensures
-    (none-is c.in_ok-found.found c.is_empty.result c.is_empty.ensures c.if-is_empty.true)
+pub invariant_of-valued : goal.invariant_of-valued
+invariant_of-valued c = (
+  no-faults (base_in c.args.set.bases) c.args.set.elements c.in_ok-found.found c.in_ok-found.ensures
+      (none-is c.in_ok-found.found c.is_empty.result c.is_empty.ensures c.if-is_empty.true),
+  subst (λ (b : BasedElements). AreGroups c.in_ok-groups.groups b.elements) c.set.view_is c.in_ok-groups.ensures,
+)
 
 pub broken-requires : goal.broken-requires
 broken-requires c =
-    let es = all_of c.args.linked.now in
+    let s = set_of c.args.pages.now in
+    let es = c.args.set.elements in
     let m = length c.args.names.now in
-    values-below m (IsItem (base_in (bases_of c.args.linked.now)) (asks es)) (filter is_item es) c.in_ok-found.found
-    (All-filter is_item (λ (e : Located). e.page < m) es
-    (on-names (set_of c.args.pages.now) es c.args.names.now (bases_of c.args.linked.now) c.requires.names c.requires.bases c.requires.linked.pages))
-    c.in_ok-found.ensures
+    let below = λ (e : Located). e.page < m in
+    let on : All below es =
+    subst (All below) (c.requires.keeps.spots ∙ sym c.requires.elements)
+    (on-names s c.args.pages.now.index.now.spots c.args.names.now c.args.pages.now.bases.now.pages c.requires.names
+    (ap (λ (k : Kept). k.pages) c.requires.keeps.bases) (keeps-on _ _ _ _ c.requires.keeps)) in
+    values-below m (IsItem (base_in c.args.set.bases) (asks es)) (filter is_item es) c.in_ok-found.found (All-filter is_item below es on) c.in_ok-found.ensures
+
+pub returns-then-is_empty-clause-comes : goal.returns-then-is_empty-clause-comes
+returns-then-is_empty-clause-comes c =
+    let none = none-is c.in_ok-found.found c.is_empty.result c.is_empty.ensures c.if-is_empty.true in
+    IfOk-weaker c.whole.result _ _
+    (λ o h. values-come (set_of c.args.pages.now) c.args.set c.in_ok-found.found o c.requires.elements c.requires.bases c.in_ok-found.ensures none h)
+    c.whole.ensures.whole

@@ -2,7 +2,7 @@ use Rattle.std.proofs.Common.{◌≡◌, take}
 use Rattle.std.specs.List.{flat_map}
 use Rattle.id_table.specs.Tables.{all_located}
 use Rattle.targets.specs.Contents.{targets_at}
-use Rattle.targets.specs.Seen.{values_of}
+use Rattle.targets.specs.Visits.{values_of}
 use Rattle.targets.proofs.contents.each_target.Given as goal
 
 -- the targets of those before here

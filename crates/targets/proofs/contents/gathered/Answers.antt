@@ -1,22 +1,32 @@
-use Rattle.std.proofs.Common.{◌∙◌, ap}
+use Rattle.std.proofs.Common.{◌≡◌, ◌∙◌, ap, subst}
 use Rattle.ix_base.specs.declared.kind.Kind.TheVariants as kind
-use Rattle.ix_base.specs.Located.{base_in}
+use Rattle.ix_base.specs.LocatedElements.{base_in}
+use Rattle.footnotes.specs.FootnoteLinks.{notes}
 use Rattle.targets.specs.Contents.{arcroles_in, roles_for, roles_in, uris_in}
-use Rattle.targets.specs.Linked.{all_of, bases_of}
+use Rattle.targets.specs.LinkedSets.{BasedElements}
+use Rattle.targets.proofs.ContentLaws.{gathered-writable}
 use Rattle.targets.proofs.contents.gathered.Goals as goal
 
 pub returns : goal.returns
 returns c =
-    let l = c.args.linked.now in
-    let bases = base_in (bases_of l) in
-    let es = all_of l in record {
-      schemas = c.in_ok-schemas.ensures;
-      linkbases = c.in_ok-linkbases.ensures;
-      contexts = c.in_ok-contexts.ensures;
-      units = c.in_ok-units.ensures;
-      facts = c.in_ok-facts.ensures;
-      roles = c.in_ok-roles.ensures ∙ ap (λ links. roles_for bases es kind.RoleRef (uris_in roles_in links)) (c.as_slice.ensures ∙ c.in_ok-notes.ensures);
-      arcroles = c.in_ok-arcroles.ensures
-          ∙ ap (λ links. roles_for bases es kind.ArcroleRef (uris_in arcroles_in links)) (c.as_slice-2.ensures ∙ c.in_ok-notes.ensures);
-      notes = c.in_ok-notes.ensures;
+    let v = c.args.valued.now in
+    let bases = base_in v.bases in
+    let es = v.elements in
+    let links = subst (λ (b : BasedElements). c.in_ok-notes.notes ≡ notes (base_in b.bases) b.elements c.args.target.now) c.valued.view_is c.in_ok-notes.ensures in
+    let roles = subst (λ (b : BasedElements). c.in_ok-roles.roles ≡ roles_for (base_in b.bases) b.elements kind.RoleRef (uris_in roles_in c.as_slice.result.now))
+    c.valued.view_is c.in_ok-roles.ensures in
+    let arcroles = subst (λ (b : BasedElements). c.in_ok-arcroles.arcroles
+    ≡ roles_for (base_in b.bases) b.elements kind.ArcroleRef (uris_in arcroles_in c.as_slice-2.result.now))
+    c.valued.view_is c.in_ok-arcroles.ensures in record {
+      gathered = record {
+        schemas = c.in_ok-schemas.ensures;
+        linkbases = c.in_ok-linkbases.ensures;
+        contexts = c.in_ok-contexts.ensures;
+        units = c.in_ok-units.ensures;
+        facts = c.in_ok-facts.ensures.facts;
+        roles = roles ∙ ap (λ used. roles_for bases es kind.RoleRef (uris_in roles_in used)) (c.as_slice.ensures ∙ links);
+        arcroles = arcroles ∙ ap (λ used. roles_for bases es kind.ArcroleRef (uris_in arcroles_in used)) (c.as_slice-2.ensures ∙ links);
+        notes = links;
+      };
+      writable = gathered-writable es c.args.target.now _ c.in_ok-contexts.ensures c.in_ok-facts.ensures.shallow;
     }

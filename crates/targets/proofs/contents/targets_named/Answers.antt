@@ -2,12 +2,11 @@ use Rattle.std.proofs.Common.{◌∙◌, ◌∷◌, [], ◌++◌, ℕ, List, ap,
 use Rattle.std.proofs.lemmas.List.{map-append, take_all}
 use Rattle.std.proofs.lemmas.List.Elements.{All-push, All-same}
 use Rattle.std.specs.Borrow.{Bor}
-use Rattle.ix_base.specs.Located.{base_in}
+use Rattle.ix_base.specs.LocatedElements.{base_in}
 use Rattle.instance_out.specs.Writable.{IsWritable}
 use Rattle.targets.specs.declared.outcome.Target.{Target}
 use Rattle.targets.specs.Contents.{IsContent}
-use Rattle.targets.specs.Linked.{all_of, bases_of}
-use Rattle.targets.specs.Seen.{values_of}
+use Rattle.targets.specs.Visits.{values_of}
 use Rattle.targets.proofs.AmongLaws.{map-more-at}
 use Rattle.targets.proofs.contents.targets_named.Goals as goal
 
@@ -18,7 +17,7 @@ loop-name-preserved c =
     let d : Bor (List ℕ) = record { ref_ptr = (0, 0); now = [] } in
     let before = c.loop-name.targets in
     let t = c.in_ok-target.target in
-    let Is = λ (x : Target). IsContent (base_in (bases_of c.args.linked.now)) (all_of c.args.linked.now) x.name x.content in
+    let Is = λ (x : Target). IsContent (base_in c.args.valued.now.bases) c.args.valued.now.elements x.name x.content in
     let Fits = λ (x : Target). IsWritable x.content in record {
       names = ap (map (λ (x : Target). x.name)) c.in_ok-push.ensures.ok ∙ map-append (λ (x : Target). x.name) before (t ∷ [])
           ∙ ap (λ xs. xs ++ t.name ∷ []) c.loop-name.invariant.names

@@ -1,6 +1,6 @@
 use Rattle.std.proofs.Common.{◌+◌, take}
 use Rattle.id_table.specs.Tables.{all_located}
-use Rattle.targets.specs.Linked.{SaysIn, all_of}
+use Rattle.targets.specs.LinkedSets.{SaysIn}
 use Rattle.targets.specs.TargetFacts.{IsFactOf}
 use Rattle.targets.proofs.FactsLaws.{Each}
 use Rattle.targets.proofs.facts_in.+facts.Given as goal
@@ -14,4 +14,4 @@ decreases-members_in l = l.depth + l.depth
 
 -- the facts before here are made
 abbrev pub invariant-facts_at-loop-spot : goal.invariant-facts_at-loop-spot
-invariant-facts_at-loop-spot l = Each (IsFactOf (SaysIn l.linked) (all_of l.linked) l.depth) (all_located (take l.spot-index l.spots)) l.facts
+invariant-facts_at-loop-spot l = Each (IsFactOf (SaysIn l.valued) l.valued.elements l.depth) (all_located (take l.spot-index l.spots)) l.facts

@@ -1,5 +1,5 @@
 use Rattle.std.proofs.lemmas.List.Concat.{flat_map-append}
-use Rattle.targets.specs.LinkStates.{links_of}
+use Rattle.link_ids.specs.Links.{links_of}
 use Rattle.targets.proofs.LinkStandLaws.{go-on}
 use Rattle.targets.proofs.laws.links_go_on.Goals as goal
 

@@ -2,7 +2,7 @@ use Rattle.std.proofs.Common.{◌≡◌, ◌++◌, take}
 use Rattle.std.specs.List.{flat_map}
 use Rattle.ix_base.specs.declared.rule.Rule.TheVariants.{L14}
 use Rattle.ix_base.specs.LinkRules.{broken_at}
-use Rattle.id_table.specs.Held.{asked}
+use Rattle.id_table.specs.Model.{asked}
 use Rattle.id_table.specs.Tables.{all_located}
 use Rattle.targets.proofs.links.add_lacking_schema.Given as goal
 

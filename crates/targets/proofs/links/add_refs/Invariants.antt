@@ -1,6 +1,6 @@
 use Rattle.std.proofs.Common.{◌≡◌, ◌++◌, take}
 use Rattle.std.specs.List.{flat_map}
-use Rattle.id_table.specs.Held.{asked}
+use Rattle.id_table.specs.Model.{asked}
 use Rattle.id_table.specs.Tables.{all_located}
 use Rattle.targets.specs.Faults.{refs_at}
 use Rattle.targets.proofs.links.add_refs.Given as goal

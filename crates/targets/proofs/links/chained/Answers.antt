@@ -7,7 +7,7 @@ use Rattle.ix_base.specs.declared.rule.Rule.{Rule}
 use Rattle.ix_base.specs.declared.rule.Rule.TheVariants as rule
 use Rattle.ix_base.specs.Asks.{asks}
 use Rattle.ix_base.specs.LinkRules.{breaking}
-use Rattle.continuations.specs.Kept.{AreChainsOf}
+use Rattle.continuations.specs.Model.{AreChainsOf}
 use Rattle.targets.specs.Faults.{refs_at}
 use Rattle.targets.proofs.FitLaws.{both-none}
 use Rattle.targets.proofs.links.chained.Goals as goal

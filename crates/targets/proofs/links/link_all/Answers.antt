@@ -5,7 +5,7 @@ use Rattle.ix_base.specs.declared.rule.Rule.{Rule}
 use Rattle.ix_base.specs.declared.rule.Rule.TheVariants as rule
 use Rattle.ix_base.specs.Asks.{asks}
 use Rattle.ix_base.specs.LinkRules.{breaking, broken}
-use Rattle.ix_base.specs.Located.{base_in}
+use Rattle.ix_base.specs.LocatedElements.{base_in}
 use Rattle.ix_base.specs.Once.{SameMembers}
 use Rattle.targets.specs.Faults.{redirected_at, refs_at}
 use Rattle.targets.proofs.FitLaws.{both-none}

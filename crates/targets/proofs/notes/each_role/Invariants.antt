@@ -1,7 +1,7 @@
 use Rattle.std.proofs.Common.{◌≡◌, take}
 use Rattle.std.specs.List.{flat_map}
 use Rattle.targets.specs.Contents.{roles_in}
-use Rattle.targets.specs.Seen.{values_of}
+use Rattle.targets.specs.Visits.{values_of}
 use Rattle.targets.proofs.notes.each_role.Given as goal
 
 -- the roles of the links before here

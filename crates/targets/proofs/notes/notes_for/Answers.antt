@@ -1,14 +1,19 @@
-use Rattle.std.proofs.Common.{length}
-use Rattle.targets.specs.Linked.{all_of, bases_of}
+use Rattle.std.proofs.Common.{◌≡◌, length, subst}
+use Rattle.std.specs.Prelude.{IfOk}
+use Rattle.ix_base.specs.LocatedElements.{base_in}
+use Rattle.footnotes.specs.FootnoteLinks.{notes}
+use Rattle.targets.specs.LinkedSets.{BasedElements, all_of, bases_of}
 use Rattle.targets.proofs.ChainLaws.{starts-alone}
 use Rattle.targets.proofs.notes.notes_for.Goals as goal
 
 pub notes-requires : goal.notes-requires
 notes-requires c =
-    let l = c.args.linked.now in
-    c.chains_on_pages.ensures l.chains (all_of l) (length (bases_of l)) c.requires.chains c.requires.pages
+    let l = c.set.inside.linked in
+    c.chains_on_pages.ensures l.chains (all_of l) (length (bases_of l)) c.set.invariant.0.chains c.set.invariant.0.pages
 
 pub returns : goal.returns
 returns c =
-    let es = all_of c.args.linked.now in
-    c.notes.ensures es c.requires.relations c.requires.chains (λ e at start. starts-alone es c.requires.apart e at)
+    let es = all_of c.set.inside.linked in
+    let is = c.set.invariant.0 in
+    subst (λ (b : BasedElements). IfOk c.notes.result (λ l. l ≡ notes (base_in b.bases) b.elements c.args.target.now)) c.set.view_is
+    (c.notes.ensures es is.relations is.chains (λ e at start. starts-alone es is.apart e at))

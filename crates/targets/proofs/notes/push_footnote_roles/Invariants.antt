@@ -1,5 +1,5 @@
 use Rattle.std.proofs.Common.{◌≡◌, ◌++◌, map, take}
-use Rattle.targets.specs.Seen.{values_of}
+use Rattle.targets.specs.Visits.{values_of}
 use Rattle.targets.proofs.notes.push_footnote_roles.Given as goal
 
 -- the roles of the footnotes before here are added

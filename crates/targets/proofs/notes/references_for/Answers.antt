@@ -1,7 +1,7 @@
 use Rattle.std.proofs.Common.{◌∷◌, [], ℕ, List, get_or, take}
 use Rattle.std.specs.Borrow.{Bor}
 use Rattle.targets.specs.RoleAddresses.{role_seen}
-use Rattle.targets.specs.Seen.{values_of}
+use Rattle.targets.specs.Visits.{values_of}
 use Rattle.targets.proofs.AmongLaws.{looked-more, map-more-at}
 use Rattle.targets.proofs.notes.references_for.Goals as goal
 

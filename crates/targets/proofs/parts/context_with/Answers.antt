@@ -1,7 +1,7 @@
 use Rattle.std.proofs.Common.{◌≡◌, ◌∙◌, ap, sym, subst, rules, true, false, IfOk, option_map}
 use Rattle.ix_base.specs.declared.kind.Kind.TheVariants as kind
 use Rattle.ix_base.specs.ContextForm.{context}
-use Rattle.ix_base.specs.Located.{Located, is_kind, located}
+use Rattle.ix_base.specs.LocatedElements.{Located, is_kind, located}
 use Rattle.id_table.specs.declared.entries.Entry.{Entry}
 use Rattle.targets.proofs.SaidLaws.{context_given, found-said, said, tree-at}
 use Rattle.targets.proofs.parts.context_with.Goals as goal

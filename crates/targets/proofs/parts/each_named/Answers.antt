@@ -1,7 +1,7 @@
 use Rattle.std.proofs.Common.{◌∙◌, ◌∷◌, [], ap, take}
 use Rattle.std.specs.List.{filter}
 use Rattle.std.proofs.lemmas.List.Elements.{filter-append}
-use Rattle.ix_base.specs.Located.{is_item, located}
+use Rattle.ix_base.specs.LocatedElements.{is_item, located}
 use Rattle.id_table.specs.Tables.{all_located}
 use Rattle.targets.specs.Groups.{ref_by}
 use Rattle.targets.proofs.AmongLaws.{located-more, looked-more}

@@ -1,9 +1,9 @@
 use Rattle.std.proofs.Common.{◌≡◌, take}
 use Rattle.std.specs.List.{filter, filter_map}
-use Rattle.ix_base.specs.Located.{is_item}
+use Rattle.ix_base.specs.LocatedElements.{is_item}
 use Rattle.id_table.specs.Tables.{all_located}
 use Rattle.targets.specs.Groups.{ref_by}
-use Rattle.targets.specs.Seen.{values_of}
+use Rattle.targets.specs.Visits.{values_of}
 use Rattle.targets.proofs.parts.each_named.Given as goal
 
 -- the ids that those before here name

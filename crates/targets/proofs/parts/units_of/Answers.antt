@@ -3,7 +3,7 @@ use Rattle.std.specs.List.{filter_map}
 use Rattle.std.proofs.lemmas.List.Elements.{filter_map-append}
 use Rattle.std.specs.Borrow.{Bor}
 use Rattle.ix_base.specs.Ids.{unit_for}
-use Rattle.targets.specs.Seen.{values_of}
+use Rattle.targets.specs.Visits.{values_of}
 use Rattle.targets.proofs.AmongLaws.{map-more-at}
 use Rattle.targets.proofs.parts.units_of.Goals as goal
 

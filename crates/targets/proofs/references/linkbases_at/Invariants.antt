@@ -1,5 +1,5 @@
 use Rattle.std.proofs.Common.{◌≡◌, map, take}
-use Rattle.ix_base.specs.Located.{base_in}
+use Rattle.ix_base.specs.LocatedElements.{base_in}
 use Rattle.id_table.specs.Tables.{all_located}
 use Rattle.targets.specs.Contents.{linkbase_at}
 use Rattle.targets.proofs.references.linkbases_at.Given as goal

@@ -2,24 +2,23 @@ use Rattle.std.proofs.Common.{◌++◌, ◌∷◌, [], List, subst, sym, take}
 use Rattle.std.specs.List.{Contains, filter}
 use Rattle.std.proofs.lemmas.List.Elements.{filter-append}
 use Rattle.ix_base.specs.Asks.{asks}
-use Rattle.ix_base.specs.Located.{Located, base_in, is_item, located}
+use Rattle.ix_base.specs.LocatedElements.{Located, base_in, is_item, located}
 use Rattle.ix_base.specs.declared.breach.Found.{Found}
 use Rattle.facts.specs.ItemValue.{IsItem}
 use Rattle.id_table.specs.Tables.{all_located}
 use Rattle.targets.specs.Faults.{AreOfItems}
-use Rattle.targets.specs.Linked.{all_of, bases_of}
 use Rattle.targets.proofs.AmongLaws.{located-more, spot-at}
 use Rattle.targets.proofs.ValueLaws.{value-append}
 use Rattle.targets.proofs.values.faults_among.Goals as goal
 
-pub add_if_item-requires-clause-among : goal.add_if_item-requires-clause-among
-add_if_item-requires-clause-among c =
-    spot-at (λ s. Contains (all_of c.args.linked.now) (located s.now)) c.args.spots.now c.loop-spot.spot-index c.spot-item.result c.requires.among
+pub add_if_item-requires : goal.add_if_item-requires
+add_if_item-requires c =
+    spot-at (λ s. Contains c.args.set.now.elements (located s.now)) c.args.spots.now c.loop-spot.spot-index c.spot-item.result c.requires
     c.loop-spot-test.true c.spot-item.is
 
 pub loop-spot-preserved : goal.loop-spot-preserved
 loop-spot-preserved c =
-    let Says = IsItem (base_in (bases_of c.args.linked.now)) (asks (all_of c.args.linked.now)) in
+    let Says = IsItem (base_in c.args.set.now.bases) (asks c.args.set.now.elements) in
     let spots = c.args.spots.now in
     let i = c.loop-spot.spot-index in
     let before = all_located (take i spots) in

@@ -1,5 +1,5 @@
 use Rattle.std.proofs.Common.{◌≡◌, ◌≤◌, ◌+◌, ◌-◌, length, drop}
-use Rattle.tr4_dates.specs.Reading.{name_at}
+use Rattle.tr4_dates.specs.Readers.{name_at}
 use Rattle.tr4_dates.proofs.read.name_len.Given as goal
 
 abbrev pub invariant-loop-len : goal.invariant-loop-len

@@ -1,9 +1,9 @@
 use Rattle.std.proofs.Common.{◌≡◌, take}
 use Rattle.std.specs.List.{All, filter}
-use Rattle.ix_base.specs.Located.{is_fact}
-use Rattle.id_table.specs.Held.{asked}
+use Rattle.ix_base.specs.LocatedElements.{is_fact}
+use Rattle.id_table.specs.Model.{asked}
 use Rattle.id_table.specs.Tables.{all_located}
-use Rattle.tuples.specs.Known.{all_seen, IsKnown}
+use Rattle.tuples.specs.OwnedFacts.{all_seen, IsKnown}
 use Rattle.tuples.proofs.facts.facts_of.Given as goal
 
 -- the facts before here are added

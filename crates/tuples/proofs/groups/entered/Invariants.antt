@@ -1,7 +1,7 @@
 use Rattle.std.proofs.Common.{◌≡◌, ℕ, take}
 use Rattle.std.specs.List.{filter}
-use Rattle.tuples.specs.Grouped.{group_at}
-use Rattle.tuples.specs.Known.{is_owned_at}
+use Rattle.tuples.specs.FactGroups.{group_at}
+use Rattle.tuples.specs.OwnedFacts.{is_owned_at}
 use Rattle.tuples.proofs.groups.entered.Given as goal
 
 -- the facts before here are entered

@@ -1,8 +1,8 @@
 use Rattle.std.proofs.Common.{◌∙◌, subst, sym}
 use Rattle.std.specs.List.Sorted.{IsSortedBy, IsStableBy}
 use Rattle.std.proofs.lemmas.Result.{IfOk-weaker}
-use Rattle.tuples.specs.Grouped.{is_earlier}
-use Rattle.tuples.specs.Known.{is_owned_at}
+use Rattle.tuples.specs.FactGroups.{is_earlier}
+use Rattle.tuples.specs.OwnedFacts.{is_owned_at}
 use Rattle.tuples.proofs.RankLaws.{kept_rising, kept_sorted}
 use Rattle.tuples.proofs.groups.groups_of.Goals as goal
 

@@ -1,6 +1,6 @@
 use Rattle.std.proofs.Common.{◌∙◌, ap}
 use Rattle.std.proofs.lemmas.Result.{IfOk-weaker}
-use Rattle.tuples.specs.Known.{all_seen}
+use Rattle.tuples.specs.OwnedFacts.{all_seen}
 use Rattle.tuples.proofs.MemberLaws.{members-are}
 use Rattle.tuples.proofs.groups.members_of.Goals as goal
 

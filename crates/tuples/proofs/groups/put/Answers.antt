@@ -3,7 +3,7 @@ use Rattle.std.specs.Global.{Global}
 use Rattle.std.specs.Prelude.{◌&&◌, ◌==◌}
 use Rattle.indexmap.specs.IndexMap.{get_by}
 use Rattle.tuples.specs.declared.fact.Fact.{Fact}
-use Rattle.tuples.specs.Grouped.{is_key}
+use Rattle.id_table.specs.Slices.{is_key}
 use Rattle.tuples.proofs.GroupLaws.{put-in}
 use Rattle.tuples.proofs.groups.put.Goals as goal
 

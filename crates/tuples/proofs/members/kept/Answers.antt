@@ -1,9 +1,9 @@
 use Rattle.std.proofs.Common.{◌∙◌}
-use Rattle.ix_base.specs.Located.{offset_of}
+use Rattle.ix_base.specs.LocatedElements.{offset_of}
 use Rattle.ix_base.specs.Membership.{tuple_ref_of}
-use Rattle.id_table.specs.Held.{asked}
-use Rattle.tuples.specs.Kept.{tuples_in}
-use Rattle.tuples.specs.Slices.{lists_in}
+use Rattle.id_table.specs.Model.{asked}
+use Rattle.tuples.specs.Model.{tuples_in}
+use Rattle.id_table.specs.Slices.{lists_in}
 use Rattle.tuples.proofs.KeptLaws.{listed-is, owner-same, tuple-is}
 use Rattle.tuples.proofs.members.kept.Goals as goal
 

@@ -5,7 +5,7 @@ use Rattle.std.specs.List.{filter}
 use Rattle.ix_base.specs.declared.tree.Spot.{Spot}
 use Rattle.ix_base.specs.Asks.{asks, only}
 use Rattle.ix_base.specs.Ids.{holds_tuple_id}
-use Rattle.ix_base.specs.Located.{Located, located}
+use Rattle.ix_base.specs.LocatedElements.{Located, located}
 use Rattle.std.proofs.lemmas.List.Elements.{All-filter, All-take}
 use Rattle.ix_base.specs.Spots.{IsOnOnePage}
 use Rattle.id_table.specs.Tables.{AreOnOwnPages}

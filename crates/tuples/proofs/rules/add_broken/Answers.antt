@@ -1,5 +1,5 @@
 use Rattle.ix_base.proofs.FrontLemmas.{grows-start, on-err}
-use Rattle.id_table.specs.Held.{asked}
+use Rattle.id_table.specs.Model.{asked}
 use Rattle.tuples.proofs.Adding.{all-left, no-more, one-more}
 use Rattle.tuples.proofs.rules.add_broken.Goals as goal
 

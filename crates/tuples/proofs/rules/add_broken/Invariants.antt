@@ -1,6 +1,6 @@
 use Rattle.ix_base.proofs.FrontLemmas.{Grows}
 use Rattle.ix_base.specs.LinkRules.{breaking}
-use Rattle.id_table.specs.Held.{asked}
+use Rattle.id_table.specs.Model.{asked}
 use Rattle.tuples.specs.Tests.{tuple_rule}
 use Rattle.tuples.proofs.Adding.{from_on}
 use Rattle.tuples.proofs.rules.add_broken.Given as goal

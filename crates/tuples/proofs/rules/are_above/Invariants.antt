@@ -1,6 +1,6 @@
 use Rattle.std.proofs.Common.{◌≡◌, ◌-◌, option_map}
-use Rattle.id_table.specs.Held.{asked}
-use Rattle.tuples.specs.Known.{owner_seen}
+use Rattle.id_table.specs.Model.{asked}
+use Rattle.tuples.specs.OwnedFacts.{owner_seen}
 use Rattle.tuples.specs.Owners.{are_above}
 use Rattle.tuples.proofs.rules.are_above.Given as goal
 

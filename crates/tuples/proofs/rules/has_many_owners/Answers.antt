@@ -1,7 +1,7 @@
 use Rattle.std.proofs.Common.{◌∙◌, sym, ap}
 use Rattle.ix_base.specs.Membership.{deepest}
-use Rattle.id_table.specs.Held.{asked}
-use Rattle.tuples.specs.Known.{seen}
+use Rattle.id_table.specs.Model.{asked}
+use Rattle.tuples.specs.OwnedFacts.{seen}
 use Rattle.tuples.specs.Owners.{are_above}
 use Rattle.tuples.proofs.DeepLaws.{above-is}
 use Rattle.tuples.proofs.rules.has_many_owners.Goals as goal

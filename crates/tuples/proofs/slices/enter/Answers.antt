@@ -3,9 +3,9 @@ use Rattle.std.specs.Prelude.{◌&&◌, ◌==◌}
 use Rattle.std.specs.Option.{option_map_or}
 use Rattle.std.proofs.lemmas.Result.{on_ok_weaker}
 use Rattle.ix_base.specs.LinkRules.{is_at}
-use Rattle.tuples.specs.Grouping.{members_at}
-use Rattle.tuples.specs.Known.{owner_seen}
-use Rattle.tuples.specs.Slices.{slice_at, put_first}
+use Rattle.tuples.specs.MemberTables.{members_at}
+use Rattle.tuples.specs.OwnedFacts.{owner_seen}
+use Rattle.id_table.specs.Slices.{slice_at, put_first}
 use Rattle.tuples.proofs.SliceLaws.{put-none, put-owned}
 use Rattle.tuples.proofs.slices.enter.Goals as goal
 

@@ -1,12 +1,12 @@
-use Rattle.std.proofs.Common.{◌≡◌, ◌∙◌, ◌+◌, ◌++◌, ◌∷◌, [], ap, append_assoc, map, subst, sym, take}
+use Rattle.std.proofs.Common.{◌≡◌, ◌∙◌, ◌+◌, ◌++◌, ◌∷◌, [], ap, append_assoc, subst, sym, take}
 use Rattle.std.proofs.lemmas.List.{map-append, take_more}
 use Rattle.std.proofs.lemmas.List.Elements.{All-push}
 use Rattle.std.specs.Borrow.{Bor}
 use Rattle.ix_base.specs.declared.tree.Spot.{Spot}
-use Rattle.ix_base.specs.Located.{located}
+use Rattle.ix_base.specs.LocatedElements.{located}
 use Rattle.ix_base.specs.Spots.{IsOnOnePage}
 use Rattle.id_table.specs.Tables.{AreOnOwnPages, all_located}
-use Rattle.tuples.specs.Known.{all_seen, seen}
+use Rattle.tuples.specs.OwnedFacts.{all_seen, seen}
 use Rattle.tuples.proofs.slices.push_spots.Goals as goal
 
 pub loop-fact-preserved : goal.loop-fact-preserved

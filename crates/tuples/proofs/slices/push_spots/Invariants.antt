@@ -1,6 +1,6 @@
 use Rattle.std.proofs.Common.{◌≡◌, ◌++◌, take}
 use Rattle.id_table.specs.Tables.{all_located, AreOnOwnPages}
-use Rattle.tuples.specs.Known.{all_seen}
+use Rattle.tuples.specs.OwnedFacts.{all_seen}
 use Rattle.tuples.proofs.slices.push_spots.Given as goal
 
 -- those before here are added

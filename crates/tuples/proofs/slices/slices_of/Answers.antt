@@ -2,9 +2,9 @@ use Rattle.std.proofs.Common.{◌∙◌, ap, sym, refl, []}
 use Rattle.std.proofs.lemmas.List.{take_all}
 use Rattle.std.specs.List.{list_any}
 use Rattle.std.specs.Option.{option_map_or}
-use Rattle.tuples.specs.Grouping.{members_at}
-use Rattle.tuples.specs.Known.{is_owned_at}
-use Rattle.tuples.specs.Slices.{put_first}
+use Rattle.tuples.specs.MemberTables.{members_at}
+use Rattle.tuples.specs.OwnedFacts.{is_owned_at}
+use Rattle.id_table.specs.Slices.{put_first}
 use Rattle.tuples.proofs.SliceLaws.{kept_if, kept-more, any-more, listed-is}
 use Rattle.tuples.proofs.slices.slices_of.Goals as goal
 

@@ -1,8 +1,8 @@
 use Rattle.std.proofs.Common.{◌≡◌, ℕ, take}
 use Rattle.std.specs.List.{list_any}
-use Rattle.tuples.specs.Grouping.{members_at}
-use Rattle.tuples.specs.Known.{is_owned_at}
-use Rattle.tuples.specs.Slices.{slice_at}
+use Rattle.tuples.specs.MemberTables.{members_at}
+use Rattle.tuples.specs.OwnedFacts.{is_owned_at}
+use Rattle.id_table.specs.Slices.{slice_at}
 use Rattle.tuples.proofs.SliceLaws.{kept_if}
 use Rattle.tuples.proofs.slices.slices_of.Given as goal
 

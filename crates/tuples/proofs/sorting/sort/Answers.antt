@@ -1,7 +1,7 @@
 use Rattle.std.proofs.Common.{rules}
 use Rattle.std.proofs.lemmas.List.Sorted.{answers_always}
 use Rattle.tuples.proofs.RankLaws.{strict}
-use Rattle.tuples.specs.Grouped.{is_earlier}
+use Rattle.tuples.specs.FactGroups.{is_earlier}
 use Rattle.tuples.proofs.sorting.sort.Goals as goal
 
 pub returns-in-Ok-clause-sorted : goal.returns-in-Ok-clause-sorted

@@ -1,7 +1,7 @@
 use Rattle.std.proofs.Common.{◌≡◌, ◌∙◌, ◌∷◌, [], ◌++◌, All, List, ap, length, map, subst, sym}
 use Rattle.std.specs.List.{Contains}
 use Rattle.ix_base.specs.Elements.{pages_of}
-use Rattle.fact_trace.specs.Held.{Held, sources_of}
+use Rattle.fact_trace.specs.Model.{Held, sources_of}
 use Rattle.fact_trace.specs.Spans.{Source}
 use Rattle.fact_trace.specs.declared.page.Page.{Page}
 use Rattle.fact_trace.proofs.TracerLaws.{keeps-more}

@@ -2,15 +2,15 @@ use Rattle.std.proofs.Common.{◌≡◌, ◌∙◌, ◌++◌, [], List, ap, subs
 use Rattle.std.specs.List.Sorted.{IsPermutation}
 use Rattle.std.proofs.lemmas.Result.{IfOk-weaker}
 use Rattle.ix_base.specs.LinkRules.{breaking}
-use Rattle.ix_base.specs.Located.{Located}
+use Rattle.ix_base.specs.LocatedElements.{Located}
 use Rattle.ix_base.specs.declared.rule.Rule.TheVariants.{L4, L5, L6, L7}
-use Rattle.targets.specs.Linked.{AreApart}
+use Rattle.targets.specs.LinkedSets.{AreApart}
 use Rattle.targets.proofs.UnbrokenLaws.{elements-apart}
-use Rattle.fact_trace.specs.Held.{Held, sources_of}
+use Rattle.fact_trace.specs.Model.{Held, sources_of}
 use Rattle.fact_trace.specs.Spans.{Source, traces}
 use Rattle.fact_trace.specs.declared.page.Page.{Page}
 use Rattle.fact_trace.proofs.RearrangedLaws.{rearranged}
-use Rattle.fact_trace.specs.Unbroken.{BreakNoRule}
+use Rattle.fact_trace.specs.ValidPages.{BreakNoRule}
 use Rattle.fact_trace.proofs.TracerLaws.{are-apart, as_set, clean-of, of-trees, unbroken-links}
 use Rattle.fact_trace.proofs.tracer.Tracer.finish.Goals as goal
 

@@ -1,6 +1,6 @@
 use Rattle.std.proofs.Common.{◌≡◌, ◌∙◌, sym, false, Result, Ok, Err}
 use Rattle.std.specs.Result.{OnOk, is_err}
-use Rattle.ix_base.specs.Located.{page_marked}
+use Rattle.ix_base.specs.LocatedElements.{page_marked}
 use Rattle.ix_base.specs.Trees.{tree_of}
 use Rattle.id_table.specs.Tables.{all_located}
 use Rattle.id_table.proofs.HeldLaws.{holders-more}

@@ -4,8 +4,8 @@ use Rattle.std.specs.Borrow.{Bor}
 use Rattle.std.specs.Option.{IfSome}
 use Rattle.ix_base.specs.declared.tree.Spot.{Spot}
 use Rattle.ix_base.specs.Ids.{holds_id}
-use Rattle.ix_base.specs.Located.{located}
-use Rattle.id_table.specs.Held.{Held, IsHolder, chosen}
+use Rattle.ix_base.specs.LocatedElements.{located}
+use Rattle.id_table.specs.Model.{Held, IsHolder, chosen}
 use Rattle.id_table.specs.Tables.{all_located}
 use Rattle.id_table.proofs.HeldLaws.{chosen-set, holders-set, pages-set}
 use Rattle.id_table.proofs.index.Index.choose.Goals as goal

@@ -3,8 +3,8 @@ use Rattle.std.specs.Borrow.{Bor}
 use Rattle.std.specs.List.{flat_map}
 use Rattle.ix_base.proofs.FrontLemmas.{grows-more, grows-front, front-none, on-err}
 use Rattle.ix_base.specs.declared.tree.Spot.{Spot}
-use Rattle.ix_base.specs.Located.{located}
-use Rattle.id_table.specs.Held.{doubled_at}
+use Rattle.ix_base.specs.LocatedElements.{located}
+use Rattle.id_table.specs.Model.{doubled_at}
 use Rattle.id_table.specs.Tables.{all_located}
 use Rattle.id_table.proofs.RowLemmas.{flat_map-next}
 use Rattle.id_table.proofs.index.Index.doubled.Goals as goal

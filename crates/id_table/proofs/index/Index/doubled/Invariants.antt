@@ -1,7 +1,7 @@
 use Rattle.std.proofs.Common.{drop}
 use Rattle.std.specs.List.{flat_map}
 use Rattle.ix_base.proofs.FrontLemmas.{Grows}
-use Rattle.id_table.specs.Held.{doubled_at}
+use Rattle.id_table.specs.Model.{doubled_at}
 use Rattle.id_table.specs.Tables.{all_located}
 use Rattle.id_table.proofs.index.Index.doubled.Given as goal
 

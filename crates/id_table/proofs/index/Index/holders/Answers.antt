@@ -2,9 +2,9 @@ use Rattle.std.proofs.Common.{◌≡◌, ◌∙◌, All, ap, map, sym, subst}
 use Rattle.ix_base.specs.Elements.{placed}
 use Rattle.ix_base.specs.Ids.{holders}
 use Rattle.ix_base.specs.Kinds.{kind_of}
-use Rattle.ix_base.specs.Located.{located}
+use Rattle.ix_base.specs.LocatedElements.{located}
 use Rattle.ix_base.specs.Spots.{IsOnOnePage}
-use Rattle.id_table.specs.Held.{Held}
+use Rattle.id_table.specs.Model.{Held}
 use Rattle.id_table.specs.declared.entries.Entry.{Entry}
 use Rattle.id_table.proofs.HeldLaws.{held-holders, held-kinds, held-pages}
 use Rattle.id_table.proofs.index.Index.holders.Goals as goal

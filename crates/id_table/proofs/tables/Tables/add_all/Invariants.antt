@@ -1,6 +1,6 @@
 use Rattle.std.proofs.Common.{◌≡◌, ◌++◌, take}
 use Rattle.std.specs.List.{filter}
-use Rattle.ix_base.specs.Located.{is_marked}
+use Rattle.ix_base.specs.LocatedElements.{is_marked}
 use Rattle.id_table.specs.Tables.{AreWhole, all_located}
 use Rattle.id_table.proofs.tables.Tables.add_all.Given as goal
 

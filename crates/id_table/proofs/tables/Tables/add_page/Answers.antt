@@ -2,7 +2,7 @@ use Rattle.std.proofs.Common.{◌≡◌, ◌∙◌, ◌++◌, ap, subst}
 use Rattle.std.specs.List.{filter}
 use Rattle.std.specs.Result.{OnOk}
 use Rattle.ix_base.specs.Elements.{pages_of}
-use Rattle.ix_base.specs.Located.{is_marked}
+use Rattle.ix_base.specs.LocatedElements.{is_marked}
 use Rattle.ix_base.specs.Trees.{tree_of}
 use Rattle.id_table.specs.Tables.{all_located}
 use Rattle.id_table.proofs.Placing.{placing}

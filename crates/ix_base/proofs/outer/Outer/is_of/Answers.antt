@@ -1,4 +1,4 @@
-use Rattle.std.proofs.Common.{◌≡◌, ◌==◌, ◌∙◌, ◌∷◌, [], ap, subst, sym, bytes_eq, Option, Some}
+use Rattle.std.proofs.Common.{◌∷◌, [], subst}
 use Rattle.std.specs.Prelude.{IfSome}
 use Rattle.ix_base.specs.Spaces.{AreNumbered, Space, space_of}
 use Rattle.ix_base.proofs.OnceLemmas.{Contains-first, Contains-later}

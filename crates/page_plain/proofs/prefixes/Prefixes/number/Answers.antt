@@ -1,7 +1,7 @@
 use Rattle.std.proofs.Common.{◌∙◌, ◌∷◌, ap, map, subst, sym}
 use Rattle.ix_base.specs.Spaces.{AreNumbered, space_of}
 use Rattle.page_plain.specs.Bare.{numbered, prefix_in}
-use Rattle.page_plain.specs.Numbered.{Prefixed}
+use Rattle.page_plain.specs.SpaceNumbers.{Prefixed}
 use Rattle.page_plain.proofs.PrefixedLaws.{number-some, prefix-number}
 use Rattle.page_plain.proofs.prefixes.Prefixes.number.Goals as goal
 

@@ -3,7 +3,7 @@ use Rattle.std.specs.BTreeMap.{values}
 use Rattle.std.specs.Borrow.{Bor}
 use Rattle.std.specs.List.{All}
 use Rattle.ix_base.specs.Once.{SameMembers}
-use Rattle.page_plain.specs.Numbered.{IsThere, spaces_at, spaces_met}
+use Rattle.page_plain.specs.SpaceNumbers.{IsThere, spaces_at, spaces_met}
 use Rattle.page_plain.proofs.ListedLaws.{listed}
 use Rattle.page_plain.proofs.prefixes.Prefixes.of.Goals as goal
 

@@ -1,5 +1,5 @@
 use Rattle.std.proofs.Common.{◌≡◌, ◌≤◌, refl, length, rules}
-use Rattle.page_session.specs.Handed.{place_of}
+use Rattle.page_session.specs.HandedPages.{place_of}
 use Rattle.page_session.specs.Sessions.{names_in}
 use Rattle.page_session.proofs.SessionLaws.{of_page, put_session}
 use Rattle.page_session.proofs.session.Session.put.Goals as goal

@@ -1,5 +1,5 @@
 use Rattle.std.proofs.Common.{sym, ap, ◌≡◌, ◌∙◌, subst, take, length, length-take, arith, []}
-use Rattle.page_text.specs.Reading.{Stands}
+use Rattle.page_text.specs.Model.{Stands}
 use Rattle.page_text.proofs.Readings.{end-fault, end-whole, end-part, gains-none}
 use Rattle.page_text.proofs.feed.Feed.end.Goals as goal
 

@@ -1,6 +1,6 @@
 use Rattle.std.proofs.Common.{refl, is_some, option_to_list, ◌≡◌, ◌+◌, ◌++◌, ◌∷◌, [], true, take, length, length-take, get_or, sym, ap, subst, ◌∙◌, arith, rules, append_assoc, append-nil}
 use Rattle.std.proofs.lemmas.List.{take_all}
-use Rattle.page_text.specs.Reading.{answer, after, due}
+use Rattle.page_text.specs.Model.{answer, after, due}
 use Rattle.page_text.proofs.Readings.{IsSound, held-sound, after-stuck, due-stuck, after-nil, due-nil, after-next, due-next, pushed-after, stands-after, stops, gains, gains-front, appended}
 use Rattle.page_text.proofs.feed.Feed.push.Goals as goal
 

@@ -1,5 +1,5 @@
 use Rattle.std.proofs.Common.{◌≡◌, ◌++◌, take}
-use Rattle.page_text.specs.Reading.{after, due}
+use Rattle.page_text.specs.Model.{after, due}
 use Rattle.page_text.proofs.Readings.{IsSound}
 use Rattle.page_text.proofs.feed.Feed.push.Given as goal
 

@@ -1,9 +1,9 @@
 use Rattle.std.proofs.Common.{Err, sym, ap, ◌∙◌}
 use Rattle.page_text.specs.Characters.{stop}
-use Rattle.page_tree.specs.Acting.{end_of}
+use Rattle.page_tree.specs.MachineSteps.{end_of}
 use Rattle.page_tree.specs.Buildings.{state_of}
-use Rattle.page_tree.specs.Standing.{verdict_of}
-use Rattle.page_tree.specs.Waiting.{fault_at}
+use Rattle.page_tree.specs.Model.{verdict_of}
+use Rattle.page_tree.specs.PendingText.{fault_at}
 use Rattle.ix_base.specs.Trees.{tree_of}
 use Rattle.page_tree.proofs.FinishLaws.{w-end, w-breaks, page-end}
 use Rattle.page_tree.proofs.StandingLaws.{if-ok}

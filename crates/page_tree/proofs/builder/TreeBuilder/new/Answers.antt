@@ -1,8 +1,8 @@
 use Rattle.std.proofs.Common.{◌≡◌, [], false, true, None, refl, sym, subst}
 use Rattle.page_text.specs.Characters.{begun}
-use Rattle.page_tree.specs.Acting.{Leads}
+use Rattle.page_tree.specs.MachineSteps.{Leads}
 use Rattle.page_tree.specs.Buildings.{state_of}
-use Rattle.page_tree.specs.Constructs.{spread, whole_size}
+use Rattle.page_constructs.specs.Constructs.{spread, whole_size}
 use Rattle.page_tree.specs.Machine.{begin}
 use Rattle.page_tree.proofs.SettleLaws.{none-whole}
 use Rattle.page_tree.proofs.StandingLaws.{leads-new}

@@ -3,8 +3,8 @@ use Rattle.std.specs.Str.{chars}
 use Rattle.std.proofs.lemmas.Str.{chars_from_encodes}
 use Rattle.page_text.proofs.Readings.{stops}
 use Rattle.page_tree.specs.Buildings.{state_of}
-use Rattle.page_tree.specs.Constructs.{whole_size}
-use Rattle.page_tree.specs.Waiting.{fault_at}
+use Rattle.page_constructs.specs.Constructs.{whole_size}
+use Rattle.page_tree.specs.PendingText.{fault_at}
 use Rattle.page_tree.proofs.WaitingLaws.{is-some, is-none, pending-broken, pending-stopped, pending-left}
 use Rattle.page_tree.proofs.builder.TreeBuilder.pending.Goals.{then-is_some-via-then-is_some, then-is_some-via-else-is_some+then-is_broken}
 use Rattle.page_tree.proofs.builder.TreeBuilder.pending.Goals as goal

@@ -1,6 +1,6 @@
 use Rattle.std.proofs.Common.{◌++◌, ◌∷◌, [], option_to_list, encode_utf8, sym, ap, ◌∙◌, append-nil}
 use Rattle.page_text.specs.Characters.{begun}
-use Rattle.page_tree.specs.Constructs.{counted, spread}
+use Rattle.page_constructs.specs.Constructs.{counted, spread}
 use Rattle.page_tree.proofs.LedLaws.{led-same}
 use Rattle.page_tree.proofs.PlacingLaws.{spread-append}
 use Rattle.page_tree.proofs.StandingLaws.{on-ok}

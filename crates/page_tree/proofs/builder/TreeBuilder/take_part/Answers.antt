@@ -1,6 +1,6 @@
 use Rattle.std.proofs.Common.{◌≡◌, ◌++◌, [], sym, ap, ◌∙◌, subst, option_to_list, length, take}
-use Rattle.page_text.specs.Reading.{Stands}
-use Rattle.page_tree.specs.Constructs.{counted, spread}
+use Rattle.page_text.specs.Model.{Stands}
+use Rattle.page_constructs.specs.Constructs.{counted, spread}
 use Rattle.page_text.specs.Characters.{begun}
 use Rattle.page_tree.proofs.FeedLaws.{run-stands, run-begun, byte-stands, byte-begun, one-taken}
 use Rattle.page_tree.proofs.SettleLaws.{no-bytes}

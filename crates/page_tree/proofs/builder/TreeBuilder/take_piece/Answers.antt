@@ -1,7 +1,7 @@
 use Rattle.std.proofs.Common.{◌≡◌, ◌≤◌, ◌+◌, ◌++◌, is_some, sym, ap, ◌∙◌, subst, arith, take, drop, length, length-drop}
 use Rattle.std.proofs.Math.Seq.{take-length}
-use Rattle.page_text.specs.Reading.{Stands}
-use Rattle.page_tree.specs.Standing.{HasRead, HasLedTo}
+use Rattle.page_text.specs.Model.{Stands}
+use Rattle.page_tree.specs.Model.{HasRead, HasLedTo}
 use Rattle.page_tree.proofs.FeedLaws.{taken-slice, slice-rest, taken-all, on-both}
 use Rattle.page_tree.proofs.LedLaws.{led-behind}
 use Rattle.page_tree.proofs.WaitingLaws.{is-none}

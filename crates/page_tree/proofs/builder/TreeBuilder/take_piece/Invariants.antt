@@ -1,5 +1,5 @@
 use Rattle.std.proofs.Common.{◌≡◌, ◌≤◌, ◌+◌, ◌-◌, ◌++◌, ℕ, List, None, length, take}
-use Rattle.page_tree.specs.Standing.{HasRead, IsSameBut}
+use Rattle.page_tree.specs.Model.{HasRead, IsSameBut}
 use Rattle.page_tree.proofs.builder.TreeBuilder.take_piece.Given as goal
 
 pub record Goes (l : goal.Live-parts) : Type 0 where

@@ -1,5 +1,5 @@
 use Rattle.std.proofs.Common.{sym, ◌∙◌}
-use Rattle.page_tree.specs.Constructs.{counted}
+use Rattle.page_constructs.specs.Constructs.{counted}
 use Rattle.page_tree.proofs.LedLaws.{led-broken, led-text}
 use Rattle.page_tree.proofs.StandingLaws.{on-ok}
 use Rattle.page_tree.proofs.WaitingLaws.{is-none}

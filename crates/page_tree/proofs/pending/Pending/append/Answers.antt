@@ -1,6 +1,6 @@
 use Rattle.std.proofs.Common.{◌≡◌, ◌++◌, rules, sym, subst, string_bytes}
-use Rattle.page_tree.specs.Constructs.{counted}
-use Rattle.page_tree.specs.Placing.{IsPlaced}
+use Rattle.page_constructs.specs.Constructs.{counted}
+use Rattle.page_tree.specs.TextPlaces.{IsPlaced}
 use Rattle.page_tree.proofs.PlacingLaws.{placed-append}
 use Rattle.page_tree.proofs.pending.Pending.append.Goals as goal
 

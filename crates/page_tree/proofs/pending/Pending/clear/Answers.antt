@@ -1,5 +1,5 @@
 use Rattle.page_tree.proofs.LateLaws.{none-size}
-use Rattle.page_tree.proofs.SizeLaws.{sought-none}
+use Rattle.page_constructs.proofs.SizeLaws.{sought-none}
 use Rattle.page_tree.proofs.pending.Pending.clear.Goals as goal
 
 pub invariant_of-self-clause-unsettled : goal.invariant_of-self-clause-unsettled

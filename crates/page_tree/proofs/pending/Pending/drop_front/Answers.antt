@@ -1,10 +1,10 @@
 use Rattle.std.proofs.Common.{◌≡◌, ℕ, Bool, ◌+◌, ◌-◌, if◌then◌else◌, ◌&&◌, ◌==◌, true, false, sym, ap, ◌∙◌, subst, drop, string_bytes, refl}
-use Rattle.page_tree.specs.Placing.{IsPlaced}
-use Rattle.page_tree.specs.Seeking.{IsSought}
+use Rattle.page_tree.specs.TextPlaces.{IsPlaced}
+use Rattle.page_constructs.specs.Searches.{IsSought}
 use Rattle.page_tree.specs.declared.pending.Places.{Places}
 use Rattle.page_tree.proofs.LateLaws.{none-size}
 use Rattle.page_tree.proofs.PlacingLaws.{placed-drop}
-use Rattle.page_tree.proofs.SizeLaws.{other-number}
+use Rattle.page_constructs.proofs.SizeLaws.{other-number}
 use Rattle.page_tree.proofs.SettleLaws.{same-front}
 use Rattle.page_tree.proofs.pending.Pending.drop_front.Goals as goal
 

@@ -1,6 +1,6 @@
 use Rattle.std.proofs.Common.{true}
 use Rattle.page_tree.proofs.LateLaws.{none-size}
-use Rattle.page_tree.proofs.SizeLaws.{sought-none}
+use Rattle.page_constructs.proofs.SizeLaws.{sought-none}
 use Rattle.page_tree.proofs.pending.Pending.new.Goals as goal
 
 pub invariant_of-result-clause-unsettled : goal.invariant_of-result-clause-unsettled

@@ -2,7 +2,7 @@ use Rattle.std.proofs.Common.{sym, ◌∙◌, arith}
 use Rattle.std.proofs.lemmas.Result.{err_from_is_err_and}
 use Rattle.ix_base.specs.Trees.{bindings_in}
 use Rattle.page_tree.specs.Buildings.{state_of}
-use Rattle.page_tree.specs.Views.{tag_of}
+use Rattle.page_constructs.specs.Model.{tag_of}
 use Rattle.page_tree.proofs.StackLaws.{length-frames}
 use Rattle.page_tree.proofs.StateLaws.{state-broken, state-deep, state-fine}
 use Rattle.page_tree.proofs.TakingLaws.{refuses-on}

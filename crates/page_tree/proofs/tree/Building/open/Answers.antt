@@ -8,7 +8,7 @@ use Rattle.ix_base.specs.Spaces.{spaces_of}
 use Rattle.page_tree.specs.Spaces.{HasNumber, HaveNumbers}
 use Rattle.page_tree.specs.Stacks.{frames_of, pages_built, pages_open, spaces_built, spaces_open, AreAll}
 use Rattle.page_tree.specs.declared.spaces.Spaces.{Spaces}
-use Rattle.page_tree.specs.Views.{tag_of}
+use Rattle.page_constructs.specs.Model.{tag_of}
 use Rattle.page_tree.proofs.BuiltLaws.{open-built}
 use Rattle.page_tree.proofs.PageNumbers.{all-one}
 use Rattle.page_tree.proofs.Spelled.{st}
@@ -27,7 +27,7 @@ returns c =
     let rest = c.in_ok-element.ensures.rest in
     record {
       state = (λ i. st (frames_of more) (string_bytes c.begin.new.self.text) (option_map (λ (e : Bor Element). tree_of e.now) (rest.0 i)) (rest.1 i))
-          ∙ opening-is s (tag_of c.args.tag.now) mid more o _ pushed c.in_ok-element.ensures.frames c.in_ok-element.ensures.frame c.in_ok-element.ensures.text;
+          ∙ opening-is s (tag_of c.args.tag.now) mid more o _ pushed c.in_ok-element.ensures.flushed.0 c.in_ok-element.ensures.frame c.in_ok-element.ensures.flushed.1;
       on_page = λ all. record {
         pages = subst (λ r. AreAll page (pages_built more r)) (sym rest.0)
             (open-built pages_of pages_open (λ p. p ≡ page) b.elements.items mid more o b.root c.in_ok-element.ensures.on_page pushed (all-one page (pages_open o) c.in_ok-element.ensures.pages) all.pages);

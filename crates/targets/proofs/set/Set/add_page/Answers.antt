@@ -1,13 +1,13 @@
 use Rattle.std.proofs.Common.{◌≡◌, ◌∙◌, ◌∷◌, [], ◌++◌, ap, length, map, subst, sym, take, false, List}
 use Rattle.ix_base.specs.Address.{page_base}
-use Rattle.ix_base.specs.Located.{Located, marked, page_marked}
+use Rattle.ix_base.specs.LocatedElements.{Located, marked, page_marked}
 use Rattle.ix_base.specs.Sound.{IsSoundRoot}
 use Rattle.ix_base.specs.Trees.{tree_of}
-use Rattle.id_table.specs.Held.{Held}
+use Rattle.id_table.specs.Model.{Held}
 use Rattle.id_table.specs.Tables.{all_located}
 use Rattle.targets.specs.declared.closing.Page.{Page}
 use Rattle.targets.specs.Choices.{HasChoices}
-use Rattle.targets.specs.Holding.{HeldSet, as_paged, names_with}
+use Rattle.targets.specs.Model.{HeldSet, as_paged, names_with}
 use Rattle.targets.specs.LinkTables.{AreLinks}
 use Rattle.targets.proofs.ChoiceLaws.{index-chosen}
 use Rattle.targets.proofs.ClosingLaws.{behind, keeps-more, marked-more}

@@ -1,9 +1,9 @@
 use Rattle.std.proofs.Common.{◌∙◌, ℕ, All, List, ap, map, subst, sym}
 use Rattle.std.proofs.lemmas.Result.{IfOk-weaker}
-use Rattle.ix_base.specs.Located.{Paged}
+use Rattle.ix_base.specs.LocatedElements.{Paged}
 use Rattle.ix_base.specs.Sound.{IsSoundTree}
 use Rattle.targets.specs.declared.closing.Page.{Page}
-use Rattle.targets.specs.Holding.{HeldSet, as_paged}
+use Rattle.targets.specs.Model.{HeldSet, as_paged}
 use Rattle.targets.specs.SetOutcomes.{ComesTo, ComesToAlways}
 use Rattle.targets.specs.PageSet.{PageSet}
 use Rattle.targets.proofs.ClosingLaws.{sound-trees}

@@ -1,6 +1,6 @@
 use Rattle.std.proofs.Common.{◌∙◌, [], ap, length, map}
-use Rattle.ix_base.specs.Located.{marked}
-use Rattle.targets.specs.Holding.{HeldSet, as_paged, names_with}
+use Rattle.ix_base.specs.LocatedElements.{marked}
+use Rattle.targets.specs.Model.{HeldSet, as_paged, names_with}
 use Rattle.targets.specs.PageSet.{elements}
 use Rattle.targets.specs.LinkStates.{pending_links}
 use Rattle.targets.proofs.LinkStandLaws.{pending-count}

@@ -1,17 +1,17 @@
 use Rattle.std.proofs.Common.{◌≡◌, ◌∙◌, ap, sym, subst, List, [], ◌∷◌, ◌++◌, append-nil}
 use Rattle.std.proofs.lemmas.List.Concat.{flat_map-append}
 use Rattle.std.proofs.lemmas.Result.{on_ok_weaker}
-use Rattle.ix_base.specs.Located.{Located, located}
-use Rattle.targets.specs.Holding.{names_of}
+use Rattle.ix_base.specs.LocatedElements.{Located, located}
+use Rattle.targets.specs.Model.{names_of}
 use Rattle.targets.specs.LinkTables.{AreLinked}
-use Rattle.targets.specs.LinkStates.{Link, links, links_of}
+use Rattle.link_ids.specs.Links.{Link, links, links_of}
 use Rattle.targets.proofs.standing.Links.add.Goals as goal
 
 pub hold-requires-clause-some : goal.hold-requires-clause-some
 hold-requires-clause-some c = (names_of c.args.names.now, c.requires.some.0, c.requires.some.0, links c.requires.some.0, c.requires.some.1)
 
-pub hold_tuple-requires-clause-some : goal.hold_tuple-requires-clause-some
-hold_tuple-requires-clause-some c =
+pub hold_tuple-requires : goal.hold_tuple-requires
+hold_tuple-requires c =
     let es = c.requires.some.0 in
     (names_of c.args.names.now, es ++ located c.args.spot.now ∷ [], es, links es, c.in_ok-hold.ensures es es (links es) c.requires.some.1)
 

@@ -2,10 +2,10 @@ use Rattle.std.proofs.Common.{◌≡◌, ◌∙◌, ◌<◌, ap, sym, subst, Lis
 use Rattle.std.specs.Borrow.{Bor}
 use Rattle.std.proofs.lemmas.List.{map_more, take_all}
 use Rattle.ix_base.specs.declared.tree.Spot.{Spot}
-use Rattle.ix_base.specs.Located.{Located, located}
+use Rattle.ix_base.specs.LocatedElements.{Located, located}
 use Rattle.id_table.specs.Tables.{all_located}
 use Rattle.id_table.proofs.OnPages.{on_page-at}
-use Rattle.targets.specs.Holding.{names_of}
+use Rattle.targets.specs.Model.{names_of}
 use Rattle.targets.specs.LinkTables.{AreLinks}
 use Rattle.targets.proofs.standing.Links.add_all.Goals as goal
 

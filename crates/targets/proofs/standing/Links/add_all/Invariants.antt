@@ -1,7 +1,7 @@
 use Rattle.std.proofs.Common.{◌++◌, List, take}
-use Rattle.ix_base.specs.Located.{Located}
+use Rattle.ix_base.specs.LocatedElements.{Located}
 use Rattle.id_table.specs.Tables.{all_located}
-use Rattle.targets.specs.Holding.{names_of}
+use Rattle.targets.specs.Model.{names_of}
 use Rattle.targets.specs.LinkTables.{AreLinks}
 use Rattle.targets.proofs.standing.Links.add_all.Given as goal
 

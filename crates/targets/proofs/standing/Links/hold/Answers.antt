@@ -3,9 +3,9 @@ use Rattle.std.specs.Prelude.{bytes_eq, if◌then◌else◌}
 use Rattle.std.proofs.lemmas.Result.{on_ok_weaker}
 use Rattle.ix_base.specs.Alike.{alike}
 use Rattle.ix_base.specs.Ids.{id_of}
-use Rattle.ix_base.specs.Located.{Located, located}
+use Rattle.ix_base.specs.LocatedElements.{Located, located}
 use Rattle.targets.specs.declared.met_ids.Named.{Named}
-use Rattle.targets.specs.Holding.{names_of}
+use Rattle.targets.specs.Model.{names_of}
 use Rattle.targets.specs.LinkTables.{Known, found_in, is_none, kept_in, kept_with, named_in, named_of, with_holder, counts_of}
 use Rattle.targets.proofs.StandingLaws.{id-kept, id-none, id-waits}
 use Rattle.targets.proofs.standing.Links.hold.Goals as goal

@@ -2,7 +2,7 @@ use Rattle.std.proofs.Common.{◌≡◌, ◌∙◌, ap, sym, subst, ℕ, List, �
 use Rattle.std.specs.Prelude.{bytes_eq, if◌then◌else◌}
 use Rattle.std.proofs.lemmas.Result.{on_ok_weaker}
 use Rattle.ix_base.specs.Ids.{tuple_id_of}
-use Rattle.ix_base.specs.Located.{Located, located}
+use Rattle.ix_base.specs.LocatedElements.{Located, located}
 use Rattle.targets.specs.declared.met_ids.Named.{Named}
 use Rattle.targets.specs.LinkTables.{Known, found_in, is_none, kept_in, kept_with, named_in, named_of, never, with_holder, counts_of}
 use Rattle.targets.proofs.StandingLaws.{tuple-kept, tuple-none, tuple-waits}
@@ -14,7 +14,7 @@ returns-in_default c names es ts ls are =
 
 pub count_holder-requires : goal.count_holder-requires
 count_holder-requires c p =
-    let r = c.requires.some in
+    let r = c.requires in
     let kept = c.args.self.now in
     let id = c.in-Some.id.now in
     let same : named_of c.known-before.result ≡ named_in kept.tuple_ids id = c.known-before.ensures.named in

@@ -1,9 +1,10 @@
 use Rattle.std.proofs.Common.{◌≡◌, ◌∙◌, ap, refl, subst, sym, false}
 use Rattle.std.proofs.lemmas.Result.{on_ok_weaker}
-use Rattle.targets.specs.declared.link_ids.LinkAttribute.{LinkAttribute}
-use Rattle.targets.specs.declared.link_ids.LinkAttribute.TheVariants as attribute
+use Rattle.link_ids.specs.declared.attributes.LinkAttribute.{LinkAttribute}
+use Rattle.link_ids.specs.declared.attributes.LinkAttribute.TheVariants as attribute
 use Rattle.targets.specs.declared.standing.Links.{Links}
-use Rattle.targets.specs.LinkStates.{Link, is_tuple_ref}
+use Rattle.targets.specs.LinkStates.{is_tuple_ref}
+use Rattle.link_ids.specs.Links.{Link}
 use Rattle.targets.specs.LinkTables.{AreFirstOnPages, named_in, named_of, with_link, counts_of}
 use Rattle.targets.proofs.StandingLaws.{id-linked, tuple-linked}
 use Rattle.targets.proofs.standing.Links.link.Goals as goal

@@ -1,12 +1,12 @@
 use Rattle.std.proofs.Common.{◌≡◌, ◌∙◌, ◌<◌, ap, sym, subst, List, ◌++◌, length, take, get_or, append-nil, arith}
 use Rattle.std.specs.List.{flat_map}
 use Rattle.std.proofs.lemmas.List.{flat_map_more, take_all, take_more}
-use Rattle.ix_base.specs.Located.{Located, located}
-use Rattle.targets.specs.declared.link_ids.LinkAttribute.{LinkAttribute}
-use Rattle.targets.specs.declared.link_ids.LinkAttribute.TheVariants as attribute
-use Rattle.targets.specs.LinkAttributes.{links_in}
+use Rattle.ix_base.specs.LocatedElements.{Located, located}
+use Rattle.link_ids.specs.declared.attributes.LinkAttribute.{LinkAttribute}
+use Rattle.link_ids.specs.declared.attributes.LinkAttribute.TheVariants as attribute
+use Rattle.link_ids.specs.LinkAttributes.{links_in}
 use Rattle.targets.specs.LinkTables.{AreLinked}
-use Rattle.targets.specs.LinkStates.{Link}
+use Rattle.link_ids.specs.Links.{Link}
 use Rattle.targets.proofs.standing.Links.link_all.Goals as goal
 
 pub loop-attribute-init : goal.loop-attribute-init

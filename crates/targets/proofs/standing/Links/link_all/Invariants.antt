@@ -1,9 +1,9 @@
 use Rattle.std.proofs.Common.{◌++◌, ℕ, List, take}
 use Rattle.std.specs.List.{flat_map}
-use Rattle.ix_base.specs.Located.{Located, located}
-use Rattle.targets.specs.LinkAttributes.{links_in}
+use Rattle.ix_base.specs.LocatedElements.{Located, located}
+use Rattle.link_ids.specs.LinkAttributes.{links_in}
 use Rattle.targets.specs.LinkTables.{AreLinked}
-use Rattle.targets.specs.LinkStates.{Link}
+use Rattle.link_ids.specs.Links.{Link}
 use Rattle.targets.proofs.standing.Links.link_all.Given as goal
 
 -- the links of the attributes so far have come

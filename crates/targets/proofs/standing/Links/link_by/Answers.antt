@@ -1,10 +1,10 @@
 use Rattle.std.proofs.Common.{◌≡◌, ◌∙◌, ap, sym, subst, List, Some, ◌++◌, append-nil, option_map}
 use Rattle.std.specs.Prelude.{OnOk}
-use Rattle.ix_base.specs.Located.{Located, located}
-use Rattle.targets.specs.LinkAttributes.{list_in, single_in}
+use Rattle.ix_base.specs.LocatedElements.{Located, located}
+use Rattle.link_ids.specs.LinkAttributes.{list_in, single_in}
 use Rattle.targets.specs.LinkTables.{AreLinked}
-use Rattle.targets.specs.LinkStates.{Link}
-use Rattle.targets.proofs.KindLinks.{none-links, single-links}
+use Rattle.link_ids.specs.Links.{Link}
+use Rattle.link_ids.proofs.KindLinks.{none-links, single-links}
 use Rattle.targets.proofs.SaidLaws.{tree-at}
 use Rattle.targets.proofs.standing.Links.link_by.Goals as goal
 

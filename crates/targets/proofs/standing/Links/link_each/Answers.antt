@@ -3,7 +3,7 @@ use Rattle.std.specs.Borrow.{Bor}
 use Rattle.std.proofs.lemmas.List.{map_more, take_all}
 use Rattle.id_table.proofs.Renumbered.{map-twice}
 use Rattle.targets.specs.LinkTables.{AreLinked}
-use Rattle.targets.specs.LinkStates.{Link}
+use Rattle.link_ids.specs.Links.{Link}
 use Rattle.targets.proofs.standing.Links.link_each.Goals as goal
 
 pub loop-id-init : goal.loop-id-init

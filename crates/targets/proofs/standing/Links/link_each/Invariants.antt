@@ -1,7 +1,7 @@
 use Rattle.std.proofs.Common.{◌++◌, ℕ, List, map, take}
-use Rattle.ix_base.specs.Located.{Located}
+use Rattle.ix_base.specs.LocatedElements.{Located}
 use Rattle.targets.specs.LinkTables.{AreLinked}
-use Rattle.targets.specs.LinkStates.{Link}
+use Rattle.link_ids.specs.Links.{Link}
 use Rattle.targets.proofs.standing.Links.link_each.Given as goal
 
 -- the links of the ids so far have come

@@ -1,8 +1,8 @@
 use Rattle.std.proofs.Common.{◌∙◌, ap, sym, []}
 use Rattle.std.specs.Option.{option_map_or}
-use Rattle.ix_base.specs.Located.{located, offset_of}
-use Rattle.tuples.specs.Kept.{listed, tuples_in}
-use Rattle.tuples.specs.Slices.{slice_at}
+use Rattle.ix_base.specs.LocatedElements.{located, offset_of}
+use Rattle.tuples.specs.Model.{listed, tuples_in}
+use Rattle.id_table.specs.Slices.{slice_at}
 use Rattle.tuples.proofs.KeptLaws.{listed-is}
 use Rattle.tuples.proofs.members.Members.of.Goals as goal
 

@@ -2,12 +2,12 @@ use Rattle.std.proofs.Common.{◌≡◌, ◌∙◌, ap, sym, subst, Some, None, 
 use Rattle.std.specs.Borrow.{Bor}
 use Rattle.std.specs.Prelude.{IfSome}
 use Rattle.ix_base.specs.Spots.{IsOnOnePage}
-use Rattle.ix_base.specs.Located.{Located, located}
+use Rattle.ix_base.specs.LocatedElements.{Located, located}
 use Rattle.ix_base.specs.Membership.{tuple_ref_of}
 use Rattle.ix_base.specs.declared.tree.Spot.{Spot}
 use Rattle.id_table.proofs.OnPages.{only-All}
-use Rattle.tuples.specs.Kept.{owner_by, tuple_at}
-use Rattle.tuples.specs.Slices.{lists_in}
+use Rattle.tuples.specs.Model.{owner_by, tuple_at}
+use Rattle.id_table.specs.Slices.{lists_in}
 use Rattle.tuples.proofs.KeptLaws.{placed-map, tuple-is}
 use Rattle.tuples.proofs.members.Members.owner.Goals as goal
 

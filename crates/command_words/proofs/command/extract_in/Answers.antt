@@ -1,0 +1,32 @@
+use Rattle.std.proofs.Common.{◌∙◌, sym, codes}
+use Rattle.std.proofs.lemmas.Result.{IfOk-weaker}
+use Rattle.clap.specs.Matches.{found_of}
+use Rattle.clap.proofs.WalkLemmas.{first_value-rows, raw_values-rows}
+use Rattle.command_words.proofs.Named.{no_base, no_dir, no_pages, all_named}
+use Rattle.command_words.proofs.command.extract_in.Goals as goal
+
+pub returns-in_default : goal.returns-in_default
+returns-in_default c =
+    let f = found_of c.args.matches.now in
+    no_base _ _ _ (sym (first_value-rows f (codes "base")) ∙ sym c.in_default.ensures)
+
+pub returns-in_default-get_str : goal.returns-in_default-get_str
+returns-in_default-get_str c =
+    let f = found_of c.args.matches.now in
+    no_dir _ _ _ _ (sym (first_value-rows f (codes "base")) ∙ sym c.in-Some.ensures)
+    (sym (first_value-rows f (codes "out")) ∙ sym c.in_default-get_str.ensures)
+
+pub returns-in_default-get_strs : goal.returns-in_default-get_strs
+returns-in_default-get_strs c =
+    let f = found_of c.args.matches.now in
+    no_pages _ _ _ _ _ (sym (first_value-rows f (codes "base")) ∙ sym c.in-Some.ensures)
+    (sym (first_value-rows f (codes "out")) ∙ sym c.in-Some-get_str.ensures)
+    (sym (raw_values-rows f (codes "PAGE")) ∙ sym c.in_default-get_strs.ensures)
+
+pub returns : goal.returns
+returns c =
+    let f = found_of c.args.matches.now in
+    IfOk-weaker c.extract_from.result _ _ (λ r e. all_named _ _ _ _ _ _ r
+    (sym (first_value-rows f (codes "base")) ∙ sym c.in-Some.ensures)
+    (sym (first_value-rows f (codes "out")) ∙ sym c.in-Some-get_str.ensures)
+    (sym (raw_values-rows f (codes "PAGE")) ∙ sym c.in-Some-get_strs.ensures) e) c.extract_from.ensures

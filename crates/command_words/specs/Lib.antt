@@ -1,0 +1,5 @@
+pub mod Bases
+pub mod Commands
+pub mod Names
+pub mod Numbers
+pub mod Simple

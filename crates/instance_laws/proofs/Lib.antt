@@ -1,0 +1,6 @@
+mod ArrangedRows
+mod DenotationRows
+mod ProperRows
+mod Rows
+pub mod SmallContents
+pub mod TwiceLaws

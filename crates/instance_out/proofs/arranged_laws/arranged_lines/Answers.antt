@@ -1,5 +1,0 @@
-use Rattle.instance_out.proofs.ArrangedLaws.{lines-arranged}
-use Rattle.instance_out.proofs.arranged_laws.arranged_lines.Goals as goal
-
-pub returns : goal.returns
-returns c = lines-arranged

@@ -1,5 +1,0 @@
-use Rattle.instance_out.proofs.WritableLaws.{writable-arranged}
-use Rattle.instance_out.proofs.arranged_laws.arranged_writable.Goals as goal
-
-pub returns : goal.returns
-returns c = writable-arranged

@@ -1,5 +1,0 @@
-use Rattle.instance_out.proofs.TheoremLaws.{proper-is_denoted}
-use Rattle.instance_out.proofs.denotation_laws.canonical_markup.Goals as goal
-
-pub returns : goal.returns
-returns c = proper-is_denoted

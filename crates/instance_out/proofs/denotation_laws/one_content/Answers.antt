@@ -1,5 +1,0 @@
-use Rattle.instance_out.proofs.SeenLaws.{denotes-one}
-use Rattle.instance_out.proofs.denotation_laws.one_content.Goals as goal
-
-pub returns : goal.returns
-returns c = denotes-one

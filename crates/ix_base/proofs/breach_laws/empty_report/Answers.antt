@@ -1,5 +1,0 @@
-use Rattle.ix_base.proofs.ReportLemmas.{report-is_nil}
-use Rattle.ix_base.proofs.breach_laws.empty_report.Goals as goal
-
-pub returns : goal.returns
-returns c = report-is_nil

@@ -1,5 +1,0 @@
-use Rattle.ix_base.proofs.RuleLemmas.{rule_cmp-rank_of}
-use Rattle.ix_base.proofs.breach_laws.ordered_rules.Goals as goal
-
-pub returns : goal.returns
-returns c = rule_cmp-rank_of

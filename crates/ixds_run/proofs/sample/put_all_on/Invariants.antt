@@ -1,6 +1,0 @@
-use Rattle.std.proofs.Common.{◌≡◌, ◌++◌}
-use Rattle.ixds_run.specs.Sample.{all_put_on}
-use Rattle.ixds_run.proofs.sample.put_all_on.Given as goal
-
-abbrev pub invariant-loop-i : goal.invariant-loop-i
-invariant-loop-i l = l.text.items ≡ l.fn.text.items ++ all_put_on l.page l.i

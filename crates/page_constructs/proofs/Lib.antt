@@ -1,0 +1,12 @@
+pub mod AllowedText
+pub mod Around
+pub mod BoolLaws
+pub mod CodeNames
+pub mod CutLaws
+pub mod NameBytes
+pub mod Parting
+pub mod SizeLaws
+pub mod SpanLaws
+pub mod TagForms
+pub mod TagReading
+pub mod ValueLaws

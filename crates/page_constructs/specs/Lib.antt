@@ -1,0 +1,12 @@
+pub mod Constructs
+pub mod Ends
+pub mod Forms
+pub mod Meanings
+pub mod Model
+pub mod Names
+pub mod ReadAttributes
+pub mod Searches
+pub mod Spans
+pub mod Stops
+pub mod Tokens
+pub mod Values

@@ -1,0 +1,21 @@
+-- What ends a span of a text.
+use Rattle.std.specs.Prelude.{ℕ, ◌==◌, Bool, false, ◌||◌, List, [], ◌∷◌}
+use Rattle.ix_base.specs.NcName.{is_white}
+use Rattle.page_constructs.specs.Meanings.{is_dark, ends_name, ends_tag_name}
+use Rattle.page_constructs.specs.declared.meaning.span.Stop.{Stop}
+use Rattle.page_constructs.specs.declared.meaning.span.Stop.TheVariants.{White, Dark, Name, TagName, Special}
+
+-- a reference, a tab or a line feed begins in a value
+abbrev pub is_special : ℕ → Bool
+is_special c = c == 38 || c == 9 || c == 10
+
+abbrev pub begins_special : List ℕ → Bool
+begins_special [] = false
+begins_special (c ∷ cs) = is_special c
+
+abbrev pub stops : Stop → ℕ → Bool
+stops White c = is_white c
+stops Dark c = is_dark c
+stops Name c = ends_name c
+stops TagName c = ends_tag_name c
+stops Special c = is_special c

@@ -1,0 +1,123 @@
+//! Tags.
+ghost use Rattle.std.specs.Prelude.{◌≡◌, ◌≤◌, ◌<◌, ℕ, Bool, true, false, length, option_map, IfOk, IfSome, MatchOption};
+ghost use Rattle.std.specs.Str.{IsUtf8};
+ghost use Rattle.ix_base.specs.Scope.{is_qname as is_qname_of};
+ghost use Rattle.page_constructs.specs.Meanings.{attribute_at as attribute_at_of, attributes_in as attributes_in_of, start_tag as start_tag_of, end_tag as end_tag_of};
+ghost use Rattle.page_constructs.specs.ReadAttributes.{attribute_and_more, attributes_and_end};
+ghost use Rattle.page_constructs.specs.Model.{token_of};
+
+use crate::meaning::span::{Stop, behind_white, equalled, is_white_text, split};
+use crate::meaning::value::value_of;
+use crate::token::{Attribute, Tag, Token};
+use crate::written::{Written, is_qname, parted};
+use bumpalo::Bump;
+use ix_base::NoMemory;
+use std::alloc::Global;
+
+/// A name, kept in the arena, in its parts, where it is a qualified name.
+fn kept_name<'a>(arena: &'a Bump, name: &str) -> Result<Option<Written<'a>>, NoMemory>
+    ensures { IfOk result (λ r. MatchOption r (is_qname_of name.now ≡ false)
+        (λ w. (is_qname_of name.now ≡ true) × (w.name.now ≡ name.now))) }
+{
+    let kept = arena.try_alloc_str(name)?;
+    Ok(parted(kept))
+}
+
+/// An attribute at the front, and what is behind it.
+fn attribute_at<'a, 't>(
+    alloc: Global,
+    arena: &'a Bump,
+    text: &'t str,
+) -> Result<Option<(Attribute<'a>, &'t str)>, NoMemory>
+    ensures value { IfOk result (λ r. option_map attribute_and_more r ≡ attribute_at_of text.now) }
+    ensures shorter { IfOk result (λ r. IfSome r (λ p. length p.1.now ≤ length text.now)) }
+    ensures text { IfOk result (λ r. IfSome r (λ p. IsUtf8 p.1.now)) }
+{
+    let (front, rest) = split(text, Stop::Name);
+    let Some(name) = kept_name(arena, front)? else {
+        return Ok(None);
+    };
+    match equalled(rest) {
+        Some((raw, more)) if !raw.as_bytes().contains(&b'<') => {
+            let value = value_of(alloc, arena, raw)?;
+            Ok(Some((Attribute { name, value }, more)))
+        }
+        _ => Ok(None),
+    }
+}
+
+/// Attributes, each behind white space, collected in a list: whether a `/` ends them.
+fn attributes_in<'a>(
+    alloc: Global,
+    arena: &'a Bump,
+    attrs: &mut Vec<Attribute<'a>>,
+    text: &str,
+) -> Result<Option<bool>, NoMemory>
+    ensures { IfOk result (λ r. (n : ℕ) → length text.now < n
+        → option_map (attributes_and_end attrs.new.items) r ≡ attributes_in_of n text.now) }
+{
+    attrs.clear();
+    let mut rest = text;
+    loop {
+        if is_white_text(rest) {
+            return Ok(Some(false));
+        }
+        let dark = behind_white(rest);
+        if dark == "/" {
+            return Ok(Some(true));
+        }
+        if dark.len() == rest.len() {
+            return Ok(None);
+        }
+        match attribute_at(alloc, arena, dark)? {
+            Some((attribute, more)) => {
+                attrs.push(attribute)?;
+                rest = more;
+            }
+            None => return Ok(None),
+        }
+    }
+}
+
+/// What stands in a start tag or in an empty-element tag.
+pub(crate) fn start_tag<'a, 't>(
+    alloc: Global,
+    arena: &'a Bump,
+    attrs: &'t mut Vec<Attribute<'a>>,
+    offset: u64,
+    inner: &'t str,
+) -> Result<Option<Token<'a, 't>>, NoMemory>
+    ensures { IfOk result (λ r. option_map token_of r ≡ start_tag_of offset inner.now) }
+{
+    let (front, rest) = split(inner, Stop::TagName);
+    let Some(name) = kept_name(arena, front)? else {
+        return Ok(None);
+    };
+    match attributes_in(alloc, arena, attrs, rest)? {
+        Some(is_empty) => {
+            let tag = Tag {
+                offset,
+                name,
+                attrs: attrs.as_slice(),
+            };
+            if is_empty {
+                Ok(Some(Token::EmptyTag(tag)))
+            } else {
+                Ok(Some(Token::StartTag(tag)))
+            }
+        }
+        None => Ok(None),
+    }
+}
+
+/// What stands in an end tag.
+pub(crate) fn end_tag<'a, 't>(inner: &'t str) -> Option<Token<'a, 't>>
+    ensures { option_map token_of result ≡ end_tag_of inner.now }
+{
+    let (name, rest) = split(inner, Stop::White);
+    if is_qname(name) && is_white_text(rest) {
+        Some(Token::EndTag(name))
+    } else {
+        None
+    }
+}

@@ -1,0 +1,216 @@
+//! Where constructs end.
+ghost use Rattle.std.specs.Prelude.{◌≡◌, ◌∷◌, ◌==◌, ◌||◌, ◌&&◌, suc, is_none, false, ◌+◌, ◌≤◌, ◌<◌, ◌++◌, ℕ, List, length, drop, Some, None, option_map, IfSome};
+ghost use Rattle.ix_base.specs.NcName.{is_white as is_white_byte};
+ghost use Rattle.page_constructs.specs.Constructs.{after as after_of, after_tag as after_tag_of, text_size as text_size_of, reference_size as reference_size_of, kind_of as kind_of_spec, size as size_of, size_by as size_by_spec, is_run as is_run_of, whole_size as whole_size_of};
+ghost use Rattle.page_constructs.specs.Searches.{seek as seek_of, skipped, further, found, GoesOn, IsSought};
+
+use crate::kind::{Kind, behind_first, kind_of, starts};
+use ix_base::is_white;
+
+/// How far the end of a construct was looked for: behind so many of its bytes, where this quote is open. At 0 it wasn't
+/// looked for.
+#[derive(Clone, Copy, Debug)]
+pub struct Sought {
+    pub at: usize,
+    pub quote: Option<u8>,
+}
+
+/// Where a construct ends, or how far its end was looked for in vain.
+#[derive(Clone, Copy, Debug)]
+pub enum End {
+    At(usize),
+    Beyond(Sought),
+}
+
+/// No end was looked for.
+pub fn unsought() -> Sought
+    ensures { result.at ≡ 0 }
+{
+    Sought { at: 0, quote: None }
+}
+
+/// Where the first of these ends, from a place on.
+fn after(text: &[u8], from: usize, ends: &[u8]) -> End
+    ensures value { found result ≡ further from (after_of ends.now (drop from text.now)) }
+    ensures within { IfSome (found result) (λ n. n ≤ length text.now) }
+    ensures goes { (s : _) → result ≡ End.Beyond s → GoesOn (after_of ends.now) from (after_of ends.now) s.at text.now }
+{
+    let mut at = from;
+    'places: while at < text.len() && ends.len() <= text.len() - at {
+        if starts(behind_first(text, at), ends) {
+            return End::At(at + ends.len());
+        }
+        at += 1;
+    }
+    End::Beyond(Sought { at, quote: None })
+}
+
+/// Whether a byte ends a tag, behind an open quote where there is one.
+fn ends_tag(quote: Option<u8>, byte: u8) -> bool
+    ensures { result ≡ (is_none quote && (byte == 62)) }
+{
+    quote.is_none() && byte == b'>'
+}
+
+/// The quote that is open behind a byte which doesn't end a tag.
+fn quote_behind(quote: Option<u8>, byte: u8) -> Option<u8>
+    requires { (is_none quote && (byte == 62)) ≡ false }
+    ensures { (cs : List ℕ) → after_tag_of quote (byte ∷ cs) ≡ option_map suc (after_tag_of result cs) }
+{
+    match quote {
+        Some(open) if byte == open => None,
+        None if byte == b'"' || byte == b'\'' => Some(byte),
+        same => same,
+    }
+}
+
+/// Where the first `>` outside quotes ends, from a place on.
+fn after_tag(text: &[u8], from: Sought) -> End
+    ensures value { found result ≡ further from.at (after_tag_of from.quote (drop from.at text.now)) }
+    ensures within { IfSome (found result) (λ n. n ≤ length text.now) }
+    ensures goes { (s : _) → result ≡ End.Beyond s
+        → GoesOn (after_tag_of from.quote) from.at (after_tag_of s.quote) s.at text.now }
+{
+    let mut at = from.at;
+    let mut quote = from.quote;
+    'bytes: while at < text.len() {
+        if ends_tag(quote, text[at]) {
+            return End::At(at + 1);
+        }
+        quote = quote_behind(quote, text[at]);
+        at += 1;
+    }
+    End::Beyond(Sought { at, quote })
+}
+
+/// Whether a byte ends a text.
+fn is_markup(byte: u8) -> bool
+    ensures { result ≡ (byte == 60 || byte == 38) }
+{
+    byte == b'<' || byte == b'&'
+}
+
+/// Where a text goes on to, from a place on.
+fn text_size(text: &[u8], from: usize) -> End
+    ensures value { found result ≡ further from (text_size_of (drop from text.now)) }
+    ensures within { IfSome (found result) (λ n. n ≤ length text.now) }
+    ensures goes { (s : _) → result ≡ End.Beyond s → GoesOn text_size_of from text_size_of s.at text.now }
+{
+    let mut at = from;
+    'bytes: while at < text.len() {
+        if is_markup(text[at]) {
+            return End::At(at);
+        }
+        at += 1;
+    }
+    End::Beyond(Sought { at, quote: None })
+}
+
+/// Whether a byte ends a reference and doesn't belong to it.
+fn ends_reference(byte: u8) -> bool
+    ensures { result ≡ (is_white_byte byte || byte == 60 || byte == 38) }
+{
+    is_white(byte) || byte == b'<' || byte == b'&'
+}
+
+/// Where a reference goes on to, from a place on.
+fn reference_size(text: &[u8], from: usize) -> End
+    ensures value { found result ≡ further from (reference_size_of (drop from text.now)) }
+    ensures within { IfSome (found result) (λ n. n ≤ length text.now) }
+    ensures goes { (s : _) → result ≡ End.Beyond s → GoesOn reference_size_of from reference_size_of s.at text.now }
+{
+    let mut at = from;
+    'bytes: while at < text.len() {
+        if text[at] == b';' {
+            return End::At(at + 1);
+        }
+        if ends_reference(text[at]) {
+            return End::At(at);
+        }
+        at += 1;
+    }
+    End::Beyond(Sought { at, quote: None })
+}
+
+/// Where a construct of a kind ends, from a place on.
+fn seek(kind: Kind, text: &[u8], from: Sought) -> End
+    ensures value { found result ≡ further from.at (seek_of kind from.quote (drop from.at text.now)) }
+    ensures within { IfSome (found result) (λ n. n ≤ length text.now) }
+    ensures goes { (s : _) → result ≡ End.Beyond s
+        → GoesOn (seek_of kind from.quote) from.at (seek_of kind s.quote) s.at text.now }
+{
+    match kind {
+        Kind::Declaration | Kind::Instruction => after(text, from.at, b"?>"),
+        Kind::Comment => after(text, from.at, b"-->"),
+        Kind::Cdata => after(text, from.at, b"]]>"),
+        Kind::Unknown | Kind::EndTag => after(text, from.at, b">"),
+        Kind::Doctype | Kind::StartTag => after_tag(text, from),
+        Kind::Reference => reference_size(text, from.at),
+        Kind::Text => text_size(text, from.at),
+    }
+}
+
+/// With how many bytes a construct of a kind begins, in which its end isn't looked for.
+fn head_size(kind: Kind) -> usize
+    ensures { result ≡ skipped kind }
+{
+    match kind {
+        Kind::Comment => 4,
+        Kind::Cdata | Kind::Doctype => 9,
+        Kind::Unknown | Kind::EndTag => 2,
+        Kind::Declaration | Kind::Instruction | Kind::StartTag | Kind::Reference | Kind::Text => 1,
+    }
+}
+
+/// From where the end of a construct of a kind is to be looked for.
+fn sought_from(kind: Kind, sought: Sought) -> Sought
+    ensures { (first : _) (cs : List ℕ) → kind ≡ kind_of_spec first cs → IsSought first cs sought
+        → (more : List ℕ) → size_by_spec kind (cs ++ more) ≡ further result.at (seek_of kind result.quote (drop result.at (cs ++ more))) }
+{
+    if sought.at == 0 {
+        return Sought {
+            at: head_size(kind),
+            quote: None,
+        };
+    }
+    sought
+}
+
+/// Where the first construct ends, whatever follows. What its first bytes are is certain once there are nine.
+fn first_end(first: bool, text: &[u8], sought: Sought) -> End
+    requires { IsSought first text.now sought }
+    ensures value { found result ≡ size_of first text.now }
+    ensures within { IfSome (found result) (λ n. n ≤ length text.now) }
+    ensures goes { (s : _) → result ≡ End.Beyond s → IsSought first text.now s }
+{
+    let kind = kind_of(first, text);
+    let end = seek(kind, text, sought_from(kind, sought));
+    match end {
+        End::Beyond(_) if text.len() < 9 => End::Beyond(unsought()),
+        end => end,
+    }
+}
+
+/// A text or a reference.
+fn is_run(text: &[u8]) -> bool
+    ensures { result ≡ is_run_of text.now }
+{
+    match text.split_first() {
+        Some((first, _)) => *first != b'<',
+        None => false,
+    }
+}
+
+/// Where the first construct of a page's rest ends. `ended` says that the page's characters end well, and `sought` how far
+/// the end was looked for before.
+pub fn whole_size(ended: bool, first: bool, text: &[u8], sought: Sought) -> End
+    requires { IsSought first text.now sought }
+    ensures value { found result ≡ whole_size_of ended first text.now }
+    ensures within { IfSome (found result) (λ n. n ≤ length text.now) }
+    ensures goes { (s : _) → result ≡ End.Beyond s → IsSought first text.now s }
+{
+    match first_end(first, text, sought) {
+        End::Beyond(_) if ended && is_run(text) => End::At(text.len()),
+        end => end,
+    }
+}

@@ -1,5 +1,0 @@
-use Rattle.page_tree.proofs.Parting.{strip-behind}
-use Rattle.page_tree.proofs.meaning.span.behind_front.Goals as goal
-
-pub returns : goal.returns
-returns c = strip-behind c.args.front.now c.args.text.now c.strip_prefix.result c.strip_prefix.ensures.cases

@@ -1,7 +1,0 @@
-use Rattle.std.proofs.Common.{◌≡◌, ◌+◌, length, drop}
-use Rattle.page_tree.specs.Meanings.{before}
-use Rattle.page_tree.specs.Stops.{stops}
-use Rattle.page_tree.proofs.meaning.span.size_before.Given as goal
-
-abbrev pub invariant-loop-at : goal.invariant-loop-at
-invariant-loop-at l = l.at + length (before (stops l.stop) (drop l.at l.text)) ≡ length (before (stops l.stop) l.text)

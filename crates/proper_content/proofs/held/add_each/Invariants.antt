@@ -1,6 +1,0 @@
-use Rattle.std.proofs.Common.{◌≡◌, ◌++◌, take}
-use Rattle.instance_out.specs.Tables.{values_of}
-use Rattle.proper_content.proofs.held.add_each.Given as goal
-
-abbrev pub invariant-loop-thing : goal.invariant-loop-thing
-invariant-loop-thing g l = values_of l.all.items ≡ values_of l.initial.all.items ++ take l.thing-index l.things

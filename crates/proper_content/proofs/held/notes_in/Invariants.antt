@@ -1,7 +1,0 @@
-use Rattle.std.proofs.Common.{◌≡◌, ◌++◌, drop}
-use Rattle.std.specs.Prelude.{flat_map}
-use Rattle.instance_out.specs.Tables.{values_of}
-use Rattle.proper_content.proofs.held.notes_in.Given as goal
-
-abbrev pub invariant-loop-link : goal.invariant-loop-link
-invariant-loop-link l = values_of l.notes.items ++ flat_map (λ k. k.footnotes) (drop l.link-index l.links) ≡ flat_map (λ k. k.footnotes) l.links

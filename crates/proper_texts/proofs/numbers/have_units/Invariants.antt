@@ -1,0 +1,9 @@
+use Rattle.std.specs.Prelude.{◌≡◌, ◌||◌, is_some}
+use Rattle.std.proofs.Common.{drop}
+use Rattle.std.specs.List.{list_all}
+use Rattle.instance_out.specs.Proper.{is_unitless}
+use Rattle.instance_out.specs.Tables.{values_of}
+use Rattle.proper_texts.proofs.numbers.have_units.Given as goal
+
+abbrev pub invariant-loop-item : goal.invariant-loop-item
+invariant-loop-item l = list_all (λ i. is_some i.unit || is_unitless i.value) (values_of (drop l.item-index l.items)) ≡ list_all (λ i. is_some i.unit || is_unitless i.value) (values_of l.items)

@@ -1,0 +1,43 @@
+//! Sets whose links break no rule, and those of them whose values break none.
+
+use crate::groups::Groups;
+use crate::links::Linked;
+use std::marker::Model;
+
+/// A set whose links break no rule. Contracts see its elements, with the bases of their pages.
+#[derive(Drop)]
+pub(crate) struct LinkedSet<'s, 'a> {
+    pub(crate) linked: Linked<'s, 'a>,
+}
+
+impl<'s, 'a> Model for LinkedSet<'s, 'a> {
+    ghost use Rattle.targets.specs.LinkedSets.{BasedElements, IsLinked, IsShallow, based, based_code};
+
+    ghost Value = { BasedElements };
+
+    ghost coded = { based_code };
+
+    ghost view = { λ s. based s.linked };
+
+    ghost invariant = { λ s. IsLinked s.linked × IsShallow (based s.linked) };
+}
+
+/// A set whose links and values break no rule, with its facts and references by their targets. Contracts see the same of it.
+#[derive(Drop)]
+pub(crate) struct ValuedSet<'s, 'a> {
+    pub(crate) set: LinkedSet<'s, 'a>,
+    pub(crate) groups: Groups<'a>,
+}
+
+impl<'s, 'a> Model for ValuedSet<'s, 'a> {
+    ghost use Rattle.targets.specs.Groups.{AreGroups};
+    ghost use Rattle.targets.specs.LinkedSets.{BasedElements, IsValued, based_code};
+
+    ghost Value = { BasedElements };
+
+    ghost coded = { based_code };
+
+    ghost view = { λ s. s.set };
+
+    ghost invariant = { λ s. IsValued s.set × AreGroups s.groups s.set.elements };
+}
