@@ -14,7 +14,7 @@ use Rattle.command_words.specs.Commands.{command_of, extract_from, extract_in, p
 use Rattle.page_names.specs.Names.{has_repeat, is_page_name, may_stand_in_name}
 use Rattle.command_words.specs.Names.{are_pages}
 use Rattle.sample_page.specs.Sample.{sample_names}
-use Rattle.command_words.specs.Numbers.{is_number, sample_number}
+use Rattle.command_words.specs.Numbers.{is_count, sample_number}
 use Rattle.command_words.specs.Simple.{check_app, extract_app, rows_taken, session_app, trace_app}
 use Rattle.command_words.specs.declared.command.Command.{Command}
 use Rattle.command_words.specs.declared.command.Command.TheVariants.{Extract, Check, Sample, Plain, Trace, Session}
@@ -114,7 +114,7 @@ sample_by (Some n) c h e = subst IsGiven (let f : Some (Sample n) ≡ Some c = e
 given_sample : (rest : List (List ℕ)) (c : Command) → sample_in rest ≡ Some c → IsGiven c
 given_sample [] c e = cc
 given_sample (word ∷ []) c e = sample_by (sample_number word) c (λ n is.
-    let h = number_by (is_number word) (nat_le 1 (number_in word)) (nat_le (number_in word) 200000) (number_in word) n is in
+    let h = number_by (is_count word) (nat_le 1 (number_in word)) (nat_le (number_in word) 200000) (number_in word) n is in
     subst (λ (k : ℕ). IsGiven (Sample k)) h.2 (sample_given (number_in word) (le_is 1 (number_in word) h.0) (le_is (number_in word) 200000 h.1))) e
 given_sample (word ∷ next ∷ rest) c e = cc
 

@@ -1,6 +1,6 @@
-//! What the words of a command line ask for.
+//! Commands.
 ghost use Rattle.std.specs.Prelude.{◌≡◌, IfOk, IfSome, Some, map, option_and_then, option_map};
-ghost use Rattle.command_words.specs.Commands as spec;
+ghost use Rattle.command_words.specs.Commands as commands;
 ghost use Rattle.command_words.specs.Simple.{check_app, extract_app, rows_of_matches, rows_taken, trace_app};
 
 use crate::base::is_base;
@@ -34,7 +34,7 @@ pub enum Command {
 impl Command {
     /// The names of the pages. Those of a session are named by its script.
     pub fn names(&self, alloc: Global) -> Result<Vec<Text>, NoMemory>
-        ensures { IfOk result (λ v. v.items ≡ spec.pages_of self.now) }
+        ensures { IfOk result (λ v. v.items ≡ commands.pages_of self.now) }
     {
         match self {
             Command::Extract(_, _, pages) => copied(alloc, pages.as_slice()),
@@ -48,7 +48,7 @@ impl Command {
 
     /// The base that links are joined to, where there is one.
     pub fn base(&self) -> Option<&str>
-        ensures { option_map (λ s. s.now) result ≡ spec.base_of self.now }
+        ensures { option_map (λ s. s.now) result ≡ commands.base_of self.now }
     {
         match self {
             Command::Extract(base, _, _) => Some(base.as_str()),
@@ -62,7 +62,7 @@ impl Command {
 
     /// The directory word, where there is one.
     pub fn dir(&self) -> Option<&str>
-        ensures { option_map (λ s. s.now) result ≡ spec.dir_of self.now }
+        ensures { option_map (λ s. s.now) result ≡ commands.dir_of self.now }
     {
         match self {
             Command::Extract(_, dir, _) => Some(dir.as_str()),
@@ -76,7 +76,7 @@ impl Command {
 
     /// How many facts a sample has.
     pub fn number(&self) -> Option<u32>
-        ensures { result ≡ spec.number_of self.now }
+        ensures { result ≡ commands.number_of self.now }
     {
         match self {
             Command::Extract(_, _, _) => None,
@@ -119,7 +119,7 @@ fn extract_from(
     dir: &str,
     words: &[&str],
 ) -> Result<Option<Command>, NoMemory>
-    ensures { IfOk result (λ r. r ≡ spec.extract_from (Some base.now) (Some dir.now) (Some (map (λ s. s.now) words.now))) }
+    ensures { IfOk result (λ r. r ≡ commands.extract_from (Some base.now) (Some dir.now) (Some (map (λ s. s.now) words.now))) }
 {
     let is_base = is_base(alloc, base)?;
     let pages = texts_of(alloc, words)?;
@@ -137,7 +137,7 @@ fn pages_from(
     base: &str,
     words: &[&str],
 ) -> Result<Option<(Text, List<Text>)>, NoMemory>
-    ensures { IfOk result (λ r. r ≡ spec.pages_from (Some base.now) (Some (map (λ s. s.now) words.now))) }
+    ensures { IfOk result (λ r. r ≡ commands.pages_from (Some base.now) (Some (map (λ s. s.now) words.now))) }
 {
     let is_base = is_base(alloc, base)?;
     let pages = texts_of(alloc, words)?;
@@ -150,7 +150,7 @@ fn pages_from(
 
 /// What the matches of `extract` ask for.
 fn extract_in(alloc: Global, matches: &ArgMatches) -> Result<Option<Command>, NoMemory>
-    ensures { IfOk result (λ r. r ≡ spec.extract_in (rows_of_matches matches.now)) }
+    ensures { IfOk result (λ r. r ≡ commands.extract_in (rows_of_matches matches.now)) }
 {
     let Some(base) = matches.get_str("base") else {
         return Ok(None);
@@ -166,7 +166,7 @@ fn extract_in(alloc: Global, matches: &ArgMatches) -> Result<Option<Command>, No
 
 /// The base and the pages that matches have.
 fn pages_in(alloc: Global, matches: &ArgMatches) -> Result<Option<(Text, List<Text>)>, NoMemory>
-    ensures { IfOk result (λ r. r ≡ spec.pages_in (rows_of_matches matches.now)) }
+    ensures { IfOk result (λ r. r ≡ commands.pages_in (rows_of_matches matches.now)) }
 {
     let Some(base) = matches.get_str("base") else {
         return Ok(None);
@@ -179,7 +179,7 @@ fn pages_in(alloc: Global, matches: &ArgMatches) -> Result<Option<(Text, List<Te
 
 /// What the matches of `check` ask for.
 fn check_in(alloc: Global, matches: &ArgMatches) -> Result<Option<Command>, NoMemory>
-    ensures { IfOk result (λ r. r ≡ spec.check_in (rows_of_matches matches.now)) }
+    ensures { IfOk result (λ r. r ≡ commands.check_in (rows_of_matches matches.now)) }
 {
     match pages_in(alloc, matches)? {
         Some((base, pages)) => Ok(Some(Command::Check(base, pages))),
@@ -189,7 +189,7 @@ fn check_in(alloc: Global, matches: &ArgMatches) -> Result<Option<Command>, NoMe
 
 /// What the matches of `trace` ask for.
 fn trace_in(alloc: Global, matches: &ArgMatches) -> Result<Option<Command>, NoMemory>
-    ensures { IfOk result (λ r. r ≡ spec.trace_in (rows_of_matches matches.now)) }
+    ensures { IfOk result (λ r. r ≡ commands.trace_in (rows_of_matches matches.now)) }
 {
     match pages_in(alloc, matches)? {
         Some((base, pages)) => Ok(Some(Command::Trace(base, pages))),
@@ -198,7 +198,7 @@ fn trace_in(alloc: Global, matches: &ArgMatches) -> Result<Option<Command>, NoMe
 }
 
 fn extract_of<'a>(alloc: Global, words: &'a [Text]) -> Result<Option<Command>, NoMemory>
-    ensures { IfOk result (λ r. r ≡ option_and_then spec.extract_in (rows_taken extract_app words.entry.now)) }
+    ensures { IfOk result (λ r. r ≡ option_and_then commands.extract_in (rows_taken extract_app words.entry.now)) }
 {
     let command = extract_words(alloc)?;
     match matched(command, words)? {
@@ -208,7 +208,7 @@ fn extract_of<'a>(alloc: Global, words: &'a [Text]) -> Result<Option<Command>, N
 }
 
 fn check_of<'a>(alloc: Global, words: &'a [Text]) -> Result<Option<Command>, NoMemory>
-    ensures { IfOk result (λ r. r ≡ option_and_then spec.check_in (rows_taken check_app words.entry.now)) }
+    ensures { IfOk result (λ r. r ≡ option_and_then commands.check_in (rows_taken check_app words.entry.now)) }
 {
     let command = check_words(alloc)?;
     match matched(command, words)? {
@@ -218,7 +218,7 @@ fn check_of<'a>(alloc: Global, words: &'a [Text]) -> Result<Option<Command>, NoM
 }
 
 fn trace_of<'a>(alloc: Global, words: &'a [Text]) -> Result<Option<Command>, NoMemory>
-    ensures { IfOk result (λ r. r ≡ option_and_then spec.trace_in (rows_taken trace_app words.entry.now)) }
+    ensures { IfOk result (λ r. r ≡ option_and_then commands.trace_in (rows_taken trace_app words.entry.now)) }
 {
     let command = trace_words(alloc)?;
     match matched(command, words)? {
@@ -229,7 +229,7 @@ fn trace_of<'a>(alloc: Global, words: &'a [Text]) -> Result<Option<Command>, NoM
 
 /// The sample that the words behind `sample` ask for.
 fn sample_in(words: &[Text]) -> Option<Command>
-    ensures { result ≡ spec.sample_in words.now }
+    ensures { result ≡ commands.sample_in words.now }
 {
     match words {
         [number] => sample_number(number.as_str()).map(Command::Sample),
@@ -239,7 +239,7 @@ fn sample_in(words: &[Text]) -> Option<Command>
 
 /// The page that the words behind `plain` ask for.
 fn plain_in(alloc: Global, words: &[Text]) -> Result<Option<Command>, NoMemory>
-    ensures { IfOk result (λ r. r ≡ spec.plain_in words.now) }
+    ensures { IfOk result (λ r. r ≡ commands.plain_in words.now) }
 {
     let [page] = words else {
         return Ok(None);
@@ -253,7 +253,7 @@ fn plain_in(alloc: Global, words: &[Text]) -> Result<Option<Command>, NoMemory>
 /// The command that the first word picks, and the words from there on give.
 #[tactic(auto, unfolding(crate::specs::Commands::command_of))]
 fn picked(alloc: Global, words: &[Text]) -> Result<Option<Command>, NoMemory>
-    ensures { IfOk result (λ c. c ≡ spec.command_of words.now) }
+    ensures { IfOk result (λ c. c ≡ commands.command_of words.now) }
 {
     let [first, rest @ ..] = words else {
         return Ok(None);
@@ -281,8 +281,8 @@ fn picked(alloc: Global, words: &[Text]) -> Result<Option<Command>, NoMemory>
 
 /// The command that the words of a command line give, without the program's name, or none where they give none.
 pub fn command_of(alloc: Global, words: &[Text]) -> Result<Option<Command>, NoMemory>
-    ensures value { IfOk result (λ c. c ≡ spec.command_of words.now) }
-    ensures given { IfOk result (λ o. IfSome o spec.IsGiven) }
+    ensures value { IfOk result (λ c. c ≡ commands.command_of words.now) }
+    ensures given { IfOk result (λ o. IfSome o commands.IsGiven) }
 {
     picked(alloc, words)
 }

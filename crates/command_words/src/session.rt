@@ -1,6 +1,6 @@
 //! The words of a session.
 ghost use Rattle.std.specs.Prelude.{◌≡◌, IfOk, Some, map, option_and_then};
-ghost use Rattle.command_words.specs.Commands as spec;
+ghost use Rattle.command_words.specs.Commands as commands;
 ghost use Rattle.command_words.specs.Simple.{rows_of_matches, rows_taken, session_app};
 
 use crate::base::is_base;
@@ -19,7 +19,7 @@ fn session_from(
     dir: &str,
     words: &[&str],
 ) -> Result<Option<Command>, NoMemory>
-    ensures { IfOk result (λ r. r ≡ spec.session_from (Some base.now) (Some dir.now) (Some (map (λ s. s.now) words.now))) }
+    ensures { IfOk result (λ r. r ≡ commands.session_from (Some base.now) (Some dir.now) (Some (map (λ s. s.now) words.now))) }
 {
     let [script] = words else {
         return Ok(None);
@@ -36,7 +36,7 @@ fn session_from(
 
 /// What the matches of `session` ask for.
 fn session_in(alloc: Global, matches: &ArgMatches) -> Result<Option<Command>, NoMemory>
-    ensures { IfOk result (λ r. r ≡ spec.session_in (rows_of_matches matches.now)) }
+    ensures { IfOk result (λ r. r ≡ commands.session_in (rows_of_matches matches.now)) }
 {
     let Some(base) = matches.get_str("base") else {
         return Ok(None);
@@ -52,7 +52,7 @@ fn session_in(alloc: Global, matches: &ArgMatches) -> Result<Option<Command>, No
 
 /// The session that the words from `session` on ask for.
 pub fn session_of<'a>(alloc: Global, words: &'a [Text]) -> Result<Option<Command>, NoMemory>
-    ensures { IfOk result (λ r. r ≡ option_and_then spec.session_in (rows_taken session_app words.entry.now)) }
+    ensures { IfOk result (λ r. r ≡ option_and_then commands.session_in (rows_taken session_app words.entry.now)) }
 {
     let command = session_words(alloc)?;
     match matched(command, words)? {

@@ -1,6 +1,6 @@
 //! Chains as slices of an arena.
 ghost use Rattle.std.specs.Prelude.{◌≡◌, ◌<◌, ℕ, [], OnOk, IfOk, Some, option_map, is_some, length, slice_get, true};
-ghost use Rattle.ix_base.specs.Chain as spec;
+ghost use Rattle.ix_base.specs.Chain as chains;
 ghost use Rattle.ix_base.specs.LinkRules.{is_at};
 ghost use Rattle.ix_base.specs.LocatedElements.{Located, located, offset_of};
 ghost use Rattle.id_table.specs.Model.{asked};
@@ -78,7 +78,7 @@ fn enter_chain<'a>(
     requires number { number < length links.now.spots.items }
     ensures { OnOk result ((e : Located) → slice_get (all_located links.now.spots.items) number ≡ Some e
         → (page offset : ℕ) → slice_at slices.new page offset
-        ≡ put_first (slice_at slices.old page offset) (is_at page offset e) (spec.chain (asked index.now) e)) }
+        ≡ put_first (slice_at slices.old page offset) (is_at page offset e) (chains.chain (asked index.now) e)) }
 {
     put_chain(index, links, number, chain)?;
     let slice = slice_of(arena, chain.as_slice())?;
@@ -93,7 +93,7 @@ fn slices_of<'a>(
 ) -> Result<Slices<'a>, NoMemory>
     requires { AreLinks index.now.spots links.now }
     ensures { IfOk result (λ m. (page offset : ℕ) → slice_at m page offset
-        ≡ option_map (spec.chain (asked index.now)) (first_start page offset index.now.spots)) }
+        ≡ option_map (chains.chain (asked index.now)) (first_start page offset index.now.spots)) }
 {
     let first = links.continuations;
     let mut chain = Vec::new(links.alloc);

@@ -1,7 +1,7 @@
 //! The elements of chains, numbered, so that a walk from one to the next takes no look-up.
 ghost use Rattle.std.specs.Prelude.{◌≡◌, ◌++◌, ◌&&◌, ℕ, List, OnOk, IfOk, Some, None, is_some, is_none, option_map, option_and_then, length, filter, slice_get, if◌then◌else◌};
 ghost use Rattle.std.specs.List.{list_any};
-ghost use Rattle.ix_base.specs.Chain as spec;
+ghost use Rattle.ix_base.specs.Chain as chains;
 ghost use Rattle.ix_base.specs.Ids.{holds_id};
 ghost use Rattle.ix_base.specs.LinkRules.{lacks_continuation};
 ghost use Rattle.ix_base.specs.LocatedElements as kinds;
@@ -68,7 +68,7 @@ fn number_in(index: &Index<'_>, numbers: &Numbers<'_>, id: Option<&str>) -> Opti
     requires { AreNumbers numbers.now (filter spec_is_continuation index.now.spots)
         (length (filter spec_is_continuation index.now.spots)) }
     ensures { option_map (slice_get (filter spec_is_continuation index.now.spots)) result
-        ≡ option_map Some (option_and_then (spec.continuation (asked index.now)) (option_map (λ s. s.now) id.entry)) }
+        ≡ option_map Some (option_and_then (chains.continuation (asked index.now)) (option_map (λ s. s.now) id.entry)) }
 {
     let id = id?;
     continuation(index, id)?;

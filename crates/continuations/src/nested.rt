@@ -2,7 +2,7 @@
 ghost use Rattle.std.specs.Prelude.{◌≡◌, ℕ, OnOk, IfOk, filter};
 ghost use Rattle.std.specs.List.{list_any};
 ghost use Rattle.std.specs.List.Sorted.{IsSorted};
-ghost use Rattle.ix_base.specs.Chain as spec;
+ghost use Rattle.ix_base.specs.Chain as chains;
 ghost use Rattle.ix_base.specs.LinkRules.{is_at};
 ghost use Rattle.ix_base.specs.LocatedElements.{located, is_start as spec_is_start};
 ghost use Rattle.id_table.specs.Model.{asked};
@@ -73,7 +73,7 @@ fn any_within(spots: &[&Spot<'_>], places: &mut Vec<(u32, u64)>) -> Result<bool,
 pub(crate) fn any_nested<'a>(index: &Index<'a>, links: &Links<'a>) -> Result<bool, NoMemory>
     requires { AreLinks index.now.spots links.now }
     ensures { IfOk result (λ b. b
-        ≡ list_any (λ s. is_nested (spec.chain (asked index.now) s)) (filter spec_is_start index.now.spots)) }
+        ≡ list_any (λ s. is_nested (chains.chain (asked index.now) s)) (filter spec_is_start index.now.spots)) }
 {
     let mut chain = Vec::new(links.alloc);
     let mut places = Vec::new(links.alloc);

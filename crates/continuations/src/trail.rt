@@ -1,6 +1,6 @@
 //! Chains, along the numbers of their elements.
 ghost use Rattle.std.specs.Prelude.{◌≡◌, ◌<◌, OnOk, Some, length, slice_get};
-ghost use Rattle.ix_base.specs.Chain as spec;
+ghost use Rattle.ix_base.specs.Chain as chains;
 ghost use Rattle.ix_base.specs.LocatedElements.{Located};
 ghost use Rattle.id_table.specs.Model.{asked};
 ghost use Rattle.id_table.specs.Tables.{all_located, AreOnOwnPages};
@@ -20,7 +20,7 @@ pub(crate) fn put_chain<'a>(
     requires links { AreLinks index.now.spots links.now }
     requires from { from < length links.now.spots.items }
     ensures chain { OnOk result ((e : Located) → slice_get (all_located links.now.spots.items) from ≡ Some e
-        → all_located chain.new.items ≡ spec.chain (asked index.now) e) }
+        → all_located chain.new.items ≡ chains.chain (asked index.now) e) }
     ensures pages { OnOk result (AreOnOwnPages chain.new.items) }
 {
     chain.clear();

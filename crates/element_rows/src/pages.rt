@@ -4,13 +4,11 @@ ghost use Rattle.page_tree.specs.Model.{fed_bytes};
 
 use anyhow::{Context, Result, bail};
 use bumpalo::Bump;
+use ix_base::limits::DEEPEST_ELEMENT;
 use ix_base::{Element, NoMemory};
 use page_tree::{PageFault, TreeBuilder};
 use row_tables::{Cell, owned};
 use std::alloc::Global;
-
-/// How deep an element may be where a row doesn't say it.
-const DEPTH: u32 = 256;
 
 /// The number of the page of a row.
 pub(crate) const PAGE: u32 = 7;
@@ -61,7 +59,7 @@ pub(crate) fn root_of<'a>(
     page: &[u8],
     number: u32,
 ) -> Result<&'a Element<'a>> {
-    match root_in_pieces(alloc, arena, page, number, DEPTH, page.len())? {
+    match root_in_pieces(alloc, arena, page, number, DEEPEST_ELEMENT, page.len())? {
         Ok(root) => Ok(root),
         Err(_) => bail!("the page has no tree"),
     }
@@ -80,7 +78,7 @@ pub(crate) fn told_fault(alloc: Global, fault: PageFault) -> Result<String> {
 /// What a page breaks that comes in pieces of so many bytes.
 fn fault_in_pieces(alloc: Global, page: &[u8], step: usize) -> Result<String> {
     let arena = Bump::new(alloc);
-    match root_in_pieces(alloc, &arena, page, PAGE, DEPTH, step)? {
+    match root_in_pieces(alloc, &arena, page, PAGE, DEEPEST_ELEMENT, step)? {
         Ok(_) => owned(alloc, "none"),
         Err(fault) => told_fault(alloc, fault),
     }
@@ -104,7 +102,7 @@ pub(crate) fn fault(alloc: Global, cells: &[Cell]) -> Result<String> {
 /// How many characters wait behind each of the pieces of a page.
 pub(crate) fn waiting(alloc: Global, cells: &[Cell]) -> Result<String> {
     let arena = Bump::new(alloc);
-    let mut builder = TreeBuilder::new(alloc, &arena, PAGE, DEPTH);
+    let mut builder = TreeBuilder::new(alloc, &arena, PAGE, DEEPEST_ELEMENT);
     let mut counts = String::new(alloc);
     let mut fed = 0u64;
     for cell in cells {

@@ -1,6 +1,6 @@
-//! The attributes of an element as they are written.
+//! Writing attributes.
 ghost use Rattle.std.specs.Prelude.{◌≡◌, ◌++◌, ◌∷◌, ℕ, List, bytes_eq, map, IfOk, OnOk, option_map, []};
-ghost use Rattle.ix_base.specs.Markup as spec;
+ghost use Rattle.ix_base.specs.Markup as marks;
 ghost use Rattle.ix_base.specs.Trees.{named, valued, tree_of};
 ghost use Rattle.ix_base.specs.WrittenMarkup.{attrs_text};
 ghost use Rattle.ix_base.specs.SortedLists.{sorted};
@@ -22,13 +22,13 @@ pub(crate) struct Own {
 
 #[tactic(auto, unfolding(ix_base::specs::Namespaces::xml_namespace))]
 fn is_written(attr: &Attr<'_>) -> bool
-    ensures { result ≡ spec.is_written (valued attr.now) }
+    ensures { result ≡ marks.is_written (valued attr.now) }
 {
     attr.name.ns.is_empty() || (attr.name.ns == XML && attr.name.local != "base")
 }
 
 fn written_name(alloc: Global, name: &Name<'_>) -> Result<Text, NoMemory>
-    ensures { IfOk result (λ t. t ≡ spec.written_name (named name.now)) }
+    ensures { IfOk result (λ t. t ≡ marks.written_name (named name.now)) }
 {
     if name.ns.is_empty() {
         return Text::of(alloc, name.local);
@@ -40,7 +40,7 @@ fn written_name(alloc: Global, name: &Name<'_>) -> Result<Text, NoMemory>
 
 /// A link against a base, or as it is written.
 fn link_at(alloc: Global, base: Option<&ParsedBase>, text: &str) -> Result<Text, NoMemory>
-    ensures { IfOk result (λ t. t ≡ spec.link_at (option_map (λ b. b.now) base.entry) text.now) }
+    ensures { IfOk result (λ t. t ≡ marks.link_at (option_map (λ b. b.now) base.entry) text.now) }
 {
     match base {
         Some(base) => base.resolved(alloc, text),
@@ -54,7 +54,7 @@ fn value_by(
     base: Option<&ParsedBase>,
     text: &str,
 ) -> Result<Text, NoMemory>
-    ensures { IfOk result (λ t. t ≡ spec.value_by is_link (option_map (λ b. b.now) base.entry) text.now) }
+    ensures { IfOk result (λ t. t ≡ marks.value_by is_link (option_map (λ b. b.now) base.entry) text.now) }
 {
     if is_link {
         link_at(alloc, base, text)
@@ -70,7 +70,7 @@ fn own_of(
     element: &Name<'_>,
     attr: &Attr<'_>,
 ) -> Result<Own, NoMemory>
-    ensures { IfOk result (λ o. own o ≡ spec.attribute_of (option_map (λ b. b.now) base.entry) (named element.now) (valued attr.now)) }
+    ensures { IfOk result (λ o. own o ≡ marks.attribute_of (option_map (λ b. b.now) base.entry) (named element.now) (valued attr.now)) }
 {
     let name = written_name(alloc, &attr.name)?;
     let value = value_by(alloc, is_link_of(element, &attr.name), base, attr.value)?;
@@ -119,7 +119,7 @@ fn by_name(a: &Own, b: &Own) -> Ordering
 
 /// Sorts attributes by the bytes of their written names.
 fn sort_owns(owns: &mut Vec<Own>) -> Result<(), NoMemory>
-    ensures { OnOk result (map own owns.new.items ≡ sorted spec.attribute_cmp (map own owns.old.items)) }
+    ensures { OnOk result (map own owns.new.items ≡ sorted marks.attribute_cmp (map own owns.old.items)) }
 {
     match owns.sort_by(|a, b| by_name(a, b)) {
         Ok(()) => Ok(()),
@@ -133,7 +133,7 @@ fn owns_of(
     base: Option<&ParsedBase>,
     element: &Element<'_>,
 ) -> Result<Vec<Own>, NoMemory>
-    ensures { IfOk result (λ v. map own v.items ≡ spec.own_attributes (option_map (λ b. b.now) base.entry) (tree_of element.now).head) }
+    ensures { IfOk result (λ v. map own v.items ≡ marks.own_attributes (option_map (λ b. b.now) base.entry) (tree_of element.now).head) }
 {
     let mut owns = owns_in(alloc, base, &element.name, element.attrs.written)?;
     sort_owns(&mut owns)?;
@@ -154,7 +154,7 @@ fn push_attribute(name: &str, value: &str, out: &mut Text) -> Result<(), NoMemor
 /// Appends a declaration of the default namespace, where it isn't the one around.
 pub(crate) fn push_declaration(is_around: bool, ns: &str, out: &mut Text) -> Result<(), NoMemory>
     ensures { (around : List ℕ) → is_around ≡ bytes_eq ns.now around
-        → OnOk result (out.new ≡ out.old ++ attrs_text (spec.declaration around ns.now) []) }
+        → OnOk result (out.new ≡ out.old ++ attrs_text (marks.declaration around ns.now) []) }
 {
     if is_around {
         return Ok(());
@@ -171,7 +171,7 @@ pub(crate) fn push_attributes(
     out: &mut Text,
 ) -> Result<(), NoMemory>
     ensures { OnOk result (out.new ≡ out.old
-        ++ attrs_text (spec.own_attributes (option_map (λ b. b.now) base.entry) (tree_of element.now).head) []) }
+        ++ attrs_text (marks.own_attributes (option_map (λ b. b.now) base.entry) (tree_of element.now).head) []) }
 {
     let owns = owns_of(alloc, base, element)?;
     for own in &owns {

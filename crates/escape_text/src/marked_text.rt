@@ -3,7 +3,7 @@ ghost use Rattle.std.specs.Prelude.{◌≡◌, ◌++◌, ◌∷◌, ◌<◌, Lis
 ghost use Rattle.ix_base.specs.Address.{joined_or};
 ghost use Rattle.ix_base.specs.Elements.{place_of};
 ghost use Rattle.ix_base.specs.LocatedElements.{located, base_in};
-ghost use Rattle.ix_base.specs.Markup as spec;
+ghost use Rattle.ix_base.specs.Markup as marks;
 ghost use Rattle.ix_base.specs.Spaces.{AreNumbered, IsOuter, Space, space_of, spaces_in, spaces_of};
 ghost use Rattle.ix_base.specs.Spots.{IsOnOnePage};
 ghost use Rattle.ix_base.specs.Trees.{nodes_of, tree_of};
@@ -73,7 +73,7 @@ fn push_open(around: Around<'_, '_>, element: &Element<'_>, out: &mut Text) -> R
 fn push_rest(around: Around<'_, '_>, element: &Element<'_>, out: &mut Text) -> Result<(), NoMemory>
     requires { IsWithin around (spaces_of element.now) }
     ensures { OnOk result (out.new ≡ out.old ++ rest_text (is_short (tree_of element.now)) (tree_of element.now).head.name.local
-        (spec.markup (base_of around.entry) (tree_of element.now).head.name.ns (tree_of element.now).children)) }
+        (marks.markup (base_of around.entry) (tree_of element.now).head.name.ns (tree_of element.now).children)) }
 {
     if ends_short(element.name) && is_silent(element) {
         return out.push("/>");
@@ -172,7 +172,7 @@ fn push_shown(around: Around<'_, '_>, element: &Element<'_>, out: &mut Text) -> 
 #[cycle(markup)]
 fn push_nodes(around: Around<'_, '_>, nodes: &[Node<'_>], out: &mut Text) -> Result<(), NoMemory>
     requires { IsWithin around (flat_map spaces_in nodes.now) }
-    ensures { OnOk result (out.new ≡ out.old ++ spec.markup (base_of around.entry) around.entry.outer.ns.now (nodes_of nodes.now)) }
+    ensures { OnOk result (out.new ≡ out.old ++ marks.markup (base_of around.entry) around.entry.outer.ns.now (nodes_of nodes.now)) }
 {
     for node in nodes {
         match node {
@@ -191,7 +191,7 @@ pub fn markup_as_is(
     start_ns: &str,
     text: &mut Text,
 ) -> Result<(), NoMemory>
-    ensures ok { OnOk result (text.new ≡ text.old ++ spec.markup None start_ns.now (nodes_of nodes.now)) }
+    ensures ok { OnOk result (text.new ≡ text.old ++ marks.markup None start_ns.now (nodes_of nodes.now)) }
     ensures err { OnErr result (text.new ≡ text.old) }
 {
     let mut whole = Text::of(alloc, "")?;
@@ -222,7 +222,7 @@ fn push_held(
 ) -> Result<(), NoMemory>
     requires { IsOnOnePage spot.now }
     ensures { OnOk result (text.new ≡ text.old
-        ++ spec.markup (option_map (λ b. b.now) base.entry) ns.now (located spot.now).placed.tree.children) }
+        ++ marks.markup (option_map (λ b. b.now) base.entry) ns.now (located spot.now).placed.tree.children) }
 {
     let around = Around {
         alloc,
@@ -245,7 +245,7 @@ fn push_spot(
 ) -> Result<(), NoMemory>
     requires base { (place_of spot.now).page < length bases.now.pages }
     requires page { IsOnOnePage spot.now }
-    ensures { OnOk result (text.new ≡ text.old ++ spec.markup (Some (base_in bases.now.pages (located spot.now))) ns.now
+    ensures { OnOk result (text.new ≡ text.old ++ marks.markup (Some (base_in bases.now.pages (located spot.now))) ns.now
         (located spot.now).placed.tree.children) }
 {
     if !holds_links(spot) {
@@ -266,7 +266,7 @@ fn chain_markup(
 ) -> Result<Text, NoMemory>
     requires bases { All (λ s. (place_of s.now).page < length bases.now.pages) chain.now }
     requires pages { All (λ s. IsOnOnePage s.now) chain.now }
-    ensures { IfOk result (λ t. t ≡ spec.markup_along (λ e. Some (base_in bases.now.pages e)) start_ns.now
+    ensures { IfOk result (λ t. t ≡ marks.markup_along (λ e. Some (base_in bases.now.pages e)) start_ns.now
         (map (λ s. located s.now) chain.now)) }
 {
     let mut text = Text::of(alloc, "")?;
@@ -287,7 +287,7 @@ pub fn markup(
 ) -> Result<(), NoMemory>
     requires bases { All (λ s. (place_of s.now).page < length bases.now.pages) chain.now }
     requires pages { All (λ s. IsOnOnePage s.now) chain.now }
-    ensures ok { OnOk result (text.new ≡ text.old ++ spec.markup_along (λ e. Some (base_in bases.now.pages e)) start_ns.now
+    ensures ok { OnOk result (text.new ≡ text.old ++ marks.markup_along (λ e. Some (base_in bases.now.pages e)) start_ns.now
         (map (λ s. located s.now) chain.now)) }
     ensures err { OnErr result (text.new ≡ text.old) }
 {

@@ -1,6 +1,6 @@
 //! Elements that give no markup.
 ghost use Rattle.std.specs.Prelude.{◌≡◌};
-ghost use Rattle.ix_base.specs.Markup as spec;
+ghost use Rattle.ix_base.specs.Markup as marks;
 ghost use Rattle.ix_base.specs.Trees.{tree_of};
 
 use crate::names::{is_left_out, is_opened};
@@ -9,7 +9,7 @@ use ix_base::{Element, Node};
 /// Whether nodes give no markup: there is no text among them, and no element that is kept.
 #[cycle(silence)]
 pub(crate) fn is_silent(element: &Element<'_>) -> bool
-    ensures { result ≡ spec.is_silent (tree_of element.now).children }
+    ensures { result ≡ marks.is_silent (tree_of element.now).children }
 {
     for node in element.children {
         match node {
@@ -31,7 +31,7 @@ pub(crate) fn is_silent(element: &Element<'_>) -> bool
 /// Whether an element gives no markup.
 #[cycle(silence)]
 fn gives_nothing(element: &Element<'_>) -> bool
-    ensures { result ≡ spec.silent_by (spec.manner (tree_of element.now).head.name) (spec.is_silent (tree_of element.now).children) }
+    ensures { result ≡ marks.silent_by (marks.manner (tree_of element.now).head.name) (marks.is_silent (tree_of element.now).children) }
 {
     is_left_out(element) || (is_opened(element) && is_silent(element))
 }

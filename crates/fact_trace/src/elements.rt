@@ -2,7 +2,7 @@
 ghost use Rattle.std.specs.Prelude.{◌≡◌, ◌++◌, OnOk, IfOk, map};
 ghost use Rattle.ix_base.specs.Trees.{named, nodes_of, tree_of};
 ghost use Rattle.fact_trace.specs.Parts.{left_out_at};
-ghost use Rattle.fact_trace.specs.Spans as spec;
+ghost use Rattle.fact_trace.specs.Spans as tracing;
 ghost use Rattle.fact_trace.specs.Spans.{element_spans, span_of};
 ghost use Rattle.fact_trace.specs.Walks.{IsOfPage};
 
@@ -15,7 +15,7 @@ use std::alloc::Global;
 
 /// Whether an element of this name is left out of texts.
 fn is_left_out(name: &Name<'_>) -> bool
-    ensures { result ≡ spec.is_left_out (named name.now) }
+    ensures { result ≡ tracing.is_left_out (named name.now) }
 {
     is_ix(name) && name.local == "exclude"
 }
@@ -34,7 +34,7 @@ fn push_left_out(element: &Element<'_>, offsets: &mut Vec<u64>) -> Result<(), No
 /// Adds the offsets of the elements among some nodes and below that are left out, in document order.
 #[cycle(left_out)]
 fn push_all_left_out(nodes: &[Node<'_>], offsets: &mut Vec<u64>) -> Result<(), NoMemory>
-    ensures { OnOk result (offsets.new.items ≡ offsets.old.items ++ spec.left_out (nodes_of nodes.now)) }
+    ensures { OnOk result (offsets.new.items ≡ offsets.old.items ++ tracing.left_out (nodes_of nodes.now)) }
 {
     for node in nodes {
         match node {
@@ -47,7 +47,7 @@ fn push_all_left_out(nodes: &[Node<'_>], offsets: &mut Vec<u64>) -> Result<(), N
 
 /// The offsets of the elements in an element that are left out.
 fn left_out_of(alloc: Global, element: &Element<'_>) -> Result<Vec<u64>, NoMemory>
-    ensures { IfOk result (λ v. v.items ≡ spec.left_out (tree_of element.now).children) }
+    ensures { IfOk result (λ v. v.items ≡ tracing.left_out (tree_of element.now).children) }
 {
     let mut offsets = Vec::new(alloc);
     push_all_left_out(element.children, &mut offsets)?;

@@ -8,7 +8,7 @@ ghost use Rattle.ix_base.specs.Trees.{tree_of};
 ghost use Rattle.continuations.specs.Model.{AreChainsOf};
 ghost use Rattle.id_table.specs.Tables.{all_located};
 ghost use Rattle.targets.specs.LinkedSets.{AreApart};
-ghost use Rattle.fact_trace.specs.Spans as spec;
+ghost use Rattle.fact_trace.specs.Spans as tracing;
 ghost use Rattle.fact_trace.specs.Spans.{elements, lying_at, number_in, part_of, source_at, spans_in, text_elements};
 ghost use Rattle.fact_trace.specs.Model.{ArePagesFrom, IsText, sources_of};
 
@@ -146,7 +146,7 @@ fn spans_of(
     requires chains { AreChainsOf chains.now (elements (sources_of pages.now)) }
     requires apart { AreApart (elements (sources_of pages.now)) }
     requires there { Contains (elements (sources_of pages.now)) (located spot.now) }
-    ensures { IfOk result (λ l. l ≡ spec.spans (sources_of pages.now) (located spot.now)) }
+    ensures { IfOk result (λ l. l ≡ tracing.spans (sources_of pages.now) (located spot.now)) }
 {
     let mut spans = List::new(alloc);
     if !is_nil(spot.element) {
@@ -174,7 +174,7 @@ fn traced_of(
     requires chains { AreChainsOf chains.now (elements (sources_of pages.now)) }
     requires apart { AreApart (elements (sources_of pages.now)) }
     requires there { Contains (elements (sources_of pages.now)) (located spot.now) }
-    ensures { IfOk result (λ t. t ≡ spec.traced_of (sources_of pages.now) (located spot.now)) }
+    ensures { IfOk result (λ t. t ≡ tracing.traced_of (sources_of pages.now) (located spot.now)) }
 {
     let place = spot.element.place;
     Ok(Traced {
@@ -197,7 +197,7 @@ pub(crate) fn traced_items(
     requires chains { AreChainsOf chains.now (elements (sources_of pages.now)) }
     requires apart { AreApart (elements (sources_of pages.now)) }
     requires there { All (λ e. Contains (elements (sources_of pages.now)) e) (all_located spots.now) }
-    ensures { IfOk result (λ v. v.items ≡ map (spec.traced_of (sources_of pages.now)) (filter kinds.is_item (all_located spots.now))) }
+    ensures { IfOk result (λ v. v.items ≡ map (tracing.traced_of (sources_of pages.now)) (filter kinds.is_item (all_located spots.now))) }
 {
     let mut items = Vec::new(alloc);
     for spot in spots {

@@ -2,7 +2,7 @@
 ghost use Rattle.std.specs.Prelude.{◌≡◌, ◌==◌, ◌-◌, ◌≤◌, length, option_map, slice_index};
 ghost use Rattle.page_tree.specs.Reaches.{StandsAt, reach_at, reaches};
 ghost use Rattle.fact_trace.specs.Walks.{IsConstruct, IsWhole, move_there, stepped};
-ghost use Rattle.fact_trace.specs.Walks as spec;
+ghost use Rattle.fact_trace.specs.Walks as walks;
 
 use page_tree::{Construct, Kind, construct_at};
 
@@ -37,7 +37,7 @@ fn is_slashed(bytes: &[u8], end: u64) -> bool
 fn tag_move(bytes: &[u8], tag: Construct) -> Move
     requires low { 2 ≤ tag.end }
     requires high { tag.end ≤ length bytes.now }
-    ensures { result ≡ spec.tag_move (slice_index bytes.now (tag.end - 2) == 47) tag.start }
+    ensures { result ≡ walks.tag_move (slice_index bytes.now (tag.end - 2) == 47) tag.start }
 {
     if is_slashed(bytes, tag.end) {
         Move::Passes

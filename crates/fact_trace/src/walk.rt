@@ -2,7 +2,7 @@
 ghost use Rattle.std.specs.Prelude.{◌≡◌, ◌++◌, ◌<◌, ◌+◌, ◌^◌, OnOk, map};
 ghost use Rattle.ix_base.specs.Sound.{Rise};
 ghost use Rattle.page_tree.specs.Reaches.{StandsAt, reaches};
-ghost use Rattle.fact_trace.specs.Spans as spec;
+ghost use Rattle.fact_trace.specs.Spans as tracing;
 ghost use Rattle.fact_trace.specs.Spans.{heard, is_among, span_of};
 ghost use Rattle.fact_trace.specs.Walks.{IsFrontPassed, IsWhole, from_on, heard_at_step};
 
@@ -28,7 +28,7 @@ fn is_next(offsets: &[u64], next: &mut usize, at: u64) -> bool
 /// How many of the innermost open elements stand in one that is left out, where one more opens.
 fn muted_in(is_left_out: bool, muted: u64) -> u64
     requires { muted + 1 < 2 ^ 64 }
-    ensures { result ≡ spec.muted_in is_left_out muted }
+    ensures { result ≡ tracing.muted_in is_left_out muted }
 {
     if is_left_out || muted > 0 {
         muted + 1

@@ -1,10 +1,10 @@
-//! What the attributes of a fact, of a numerator or of a denominator say.
+//! Views of facts.
 ghost use Rattle.std.specs.Prelude.{◌≡◌, ◌&&◌, option_map, is_some, codes};
 ghost use Rattle.ix_base.specs.Elements.{placed};
 ghost use Rattle.ix_base.specs.Kinds.{is_fact, ix_kind};
 ghost use Rattle.ix_base.specs.Readers as reader;
 ghost use Rattle.ix_base.specs.Trees.{tree_of, named};
-ghost use Rattle.ix_base.specs.FactViews as spec;
+ghost use Rattle.ix_base.specs.FactViews as fact_views;
 ghost use Rattle.fact_view.specs.Model.{seen};
 
 use ix_base::{Element, Name, Spot, attr_of, ix_kind, token_at};
@@ -72,7 +72,7 @@ fn is_nil_fact(e: &Element) -> bool
 
 /// What the attributes of an element say. It takes no memory.
 pub fn view<'a>(spot: &Spot<'a>) -> FactView<'a>
-    ensures { seen result ≡ spec.view (placed spot.now).tree }
+    ensures { seen result ≡ fact_views.view (placed spot.now).tree }
 {
     let e = spot.element;
     FactView {

@@ -2,7 +2,7 @@
 ghost use Rattle.std.specs.Prelude.{◌≡◌, IfOk};
 ghost use Rattle.ix_base.specs.Forms as form;
 ghost use Rattle.ix_base.specs.Trees.{tree_of};
-ghost use Rattle.facts.specs.Exactness as spec;
+ghost use Rattle.facts.specs.Exactness as exactness;
 
 use ix_base::{Accuracy, Element, Kind, NoMemory, Text, attr_of, token};
 use scale_sign::has_minus;
@@ -46,7 +46,7 @@ fn integer_form(alloc: Global, text: &str) -> Result<Text, NoMemory>
 
 /// `INF`, or an integer in normal form.
 fn exact_form(alloc: Global, value: &str) -> Result<Text, NoMemory>
-    ensures { IfOk result (λ t. t ≡ spec.exact_form value.now) }
+    ensures { IfOk result (λ t. t ≡ exactness.exact_form value.now) }
 {
     let text = token(value);
     if text == "INF" {
@@ -57,7 +57,7 @@ fn exact_form(alloc: Global, value: &str) -> Result<Text, NoMemory>
 
 /// What `decimals` says, or else `precision`.
 fn accuracy_at(alloc: Global, e: &Element<'_>) -> Result<Option<Accuracy>, NoMemory>
-    ensures { IfOk result (λ o. o ≡ spec.accuracy_at (tree_of e.now)) }
+    ensures { IfOk result (λ o. o ≡ exactness.accuracy_at (tree_of e.now)) }
 {
     if let Some(value) = attr_of(e, "", "decimals") {
         return Ok(Some(Accuracy::Decimals(exact_form(alloc, value)?)));
@@ -70,7 +70,7 @@ fn accuracy_at(alloc: Global, e: &Element<'_>) -> Result<Option<Accuracy>, NoMem
 
 /// How exact a number is, unless it is nil.
 fn accuracy_by(alloc: Global, nil: bool, e: &Element<'_>) -> Result<Option<Accuracy>, NoMemory>
-    ensures { IfOk result (λ o. o ≡ spec.accuracy_by nil (tree_of e.now)) }
+    ensures { IfOk result (λ o. o ≡ exactness.accuracy_by nil (tree_of e.now)) }
 {
     if nil {
         return Ok(None);
@@ -84,7 +84,7 @@ pub(crate) fn accuracy_of(
     kind: Kind,
     e: &Element<'_>,
 ) -> Result<Option<Accuracy>, NoMemory>
-    ensures { IfOk result (λ o. o ≡ spec.accuracy_of kind (tree_of e.now)) }
+    ensures { IfOk result (λ o. o ≡ exactness.accuracy_of kind (tree_of e.now)) }
 {
     match kind {
         Kind::NonFraction => accuracy_by(alloc, is_nil(e), e),

@@ -1,7 +1,7 @@
 //! The values of fractions.
 ghost use Rattle.std.specs.Prelude.{◌≡◌, Some, IfSome, option_map};
 ghost use Rattle.ix_base.specs.Trees.{nodes_of, tree_of};
-ghost use Rattle.facts.specs.FractionValue as spec;
+ghost use Rattle.facts.specs.FractionValue as fractions;
 ghost use Rattle.facts.specs.NumberValue.{IsNumberValue};
 ghost use Rattle.facts.specs.Verdicts.{said, said_both};
 
@@ -14,7 +14,7 @@ use std::cmp::Ordering;
 /// The part of a fraction that has this local name and stands among some nodes.
 #[cycle(part)]
 pub fn part_in<'a>(local: &str, nodes: &'a [Node<'a>]) -> Option<&'a Element<'a>>
-    ensures { option_map (λ e. tree_of e.now) result ≡ spec.part_in local.now (nodes_of nodes.entry.now) }
+    ensures { option_map (λ e. tree_of e.now) result ≡ fractions.part_in local.now (nodes_of nodes.entry.now) }
 {
     for node in nodes {
         let Node::Elem(below) = node else {
@@ -30,7 +30,7 @@ pub fn part_in<'a>(local: &str, nodes: &'a [Node<'a>]) -> Option<&'a Element<'a>
 /// The same of one element: itself, or what it holds.
 #[cycle(part)]
 fn part_at<'a>(local: &str, e: &'a Element<'a>) -> Option<&'a Element<'a>>
-    ensures { option_map (λ e. tree_of e.now) result ≡ spec.part_at local.now (tree_of e.entry.now) }
+    ensures { option_map (λ e. tree_of e.now) result ≡ fractions.part_at local.now (tree_of e.entry.now) }
 {
     if !is_ix(&e.name) {
         return part_in(local, e.children);
@@ -40,7 +40,7 @@ fn part_at<'a>(local: &str, e: &'a Element<'a>) -> Option<&'a Element<'a>>
 
 /// The value of a part. One that isn't there is an empty number.
 fn part_value(alloc: Global, part: Option<&Element<'_>>) -> Result<Text, ItemFault>
-    ensures { IfSome (said result) (IsNumberValue (spec.part_number (option_map (λ e. tree_of e.now) part.entry))) }
+    ensures { IfSome (said result) (IsNumberValue (fractions.part_number (option_map (λ e. tree_of e.now) part.entry))) }
 {
     match part {
         Some(e) => own_value(alloc, e),
@@ -50,14 +50,14 @@ fn part_value(alloc: Global, part: Option<&Element<'_>>) -> Result<Text, ItemFau
 
 /// The value of the part that has this local name.
 fn part_named(alloc: Global, e: &Element<'_>, local: &str) -> Result<Text, ItemFault>
-    ensures { IfSome (said result) (spec.IsPart local.now (tree_of e.now)) }
+    ensures { IfSome (said result) (fractions.IsPart local.now (tree_of e.now)) }
 {
     part_value(alloc, part_in(local, e.children))
 }
 
 /// The lower one of two rules.
 fn lower_of(q: Rule, r: Rule) -> Rule
-    ensures { result ≡ spec.lower q r }
+    ensures { result ≡ fractions.lower q r }
 {
     match q.cmp(&r) {
         Ordering::Greater => r,
@@ -67,7 +67,7 @@ fn lower_of(q: Rule, r: Rule) -> Rule
 
 /// A numerator over a denominator.
 fn over_of(numerator: Text, denominator: Text) -> Result<Value, ItemFault>
-    ensures { said result ≡ Some (spec.over numerator denominator) }
+    ensures { said result ≡ Some (fractions.over numerator denominator) }
 {
     if denominator.as_str() == "0" {
         return Err(ItemFault::Breach(Rule::V5));
@@ -96,7 +96,7 @@ fn fraction_of(
 
 /// The value of a fraction.
 pub(crate) fn fraction_value(alloc: Global, e: &Element<'_>) -> Result<Value, ItemFault>
-    ensures { IfSome (said result) (spec.IsFractionValue (tree_of e.now)) }
+    ensures { IfSome (said result) (fractions.IsFractionValue (tree_of e.now)) }
 {
     let numerator = part_named(alloc, e, "numerator");
     let denominator = part_named(alloc, e, "denominator");

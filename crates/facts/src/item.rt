@@ -11,7 +11,7 @@ ghost use Rattle.ix_base.specs.Trees.{named, tree_of};
 ghost use Rattle.ix_base.specs.FactViews as viewed;
 ghost use Rattle.ix_base.specs.declared.kind.Kind.TheVariants as kinds;
 ghost use Rattle.facts.specs.ChainTexts.{raw_along, text_along};
-ghost use Rattle.facts.specs.ItemValue as spec;
+ghost use Rattle.facts.specs.ItemValue as item_value;
 ghost use Rattle.facts.specs.NumberValue as numbers;
 ghost use Rattle.facts.specs.Verdicts.{as_plain, said};
 ghost use Rattle.facts.specs.TextValue.{IsTransformed};
@@ -81,7 +81,7 @@ fn text_value(
 ) -> Result<Text, ItemFault>
     requires bases { All (λ s. (place_of s.now).page < length bases.now.pages) chain.now }
     requires pages { All (λ s. IsOnOnePage s.now) chain.now }
-    ensures { IfSome (said result) (spec.IsTextBy (option_map named format.entry)
+    ensures { IfSome (said result) (item_value.IsTextBy (option_map named format.entry)
         (text_along (base_in bases.now.pages) escape (map (λ s. located s.now) chain.now))) }
 {
     match format {
@@ -106,7 +106,7 @@ fn nonnumeric_value(
 ) -> Result<Value, ItemFault>
     requires bases { All (λ s. (place_of s.now).page < length bases.now.pages) chain.now }
     requires pages { All (λ s. IsOnOnePage s.now) chain.now }
-    ensures { IfSome (said result) (spec.IsPlain (spec.IsTextBy (viewed.view (tree_of e.now)).format
+    ensures { IfSome (said result) (item_value.IsPlain (item_value.IsTextBy (viewed.view (tree_of e.now)).format
         (text_along (base_in bases.now.pages) (viewed.view (tree_of e.now)).escape (map (λ s. located s.now) chain.now)))) }
 {
     let format = name_at(e, "format");
@@ -115,7 +115,7 @@ fn nonnumeric_value(
 
 /// The value of a nonFraction that isn't nil.
 fn nonfraction_value(alloc: Global, e: &Element<'_>) -> Result<Value, ItemFault>
-    ensures { IfSome (said result) (spec.IsPlain (numbers.IsNumberValue
+    ensures { IfSome (said result) (item_value.IsPlain (numbers.IsNumberValue
         (numbers.number_by (viewed.view (tree_of e.now)) (numbers.number_text (tree_of e.now).children)))) }
 {
     plain_value(nested_value(alloc, e))
@@ -131,7 +131,7 @@ fn value_as(
 ) -> Result<Value, ItemFault>
     requires bases { All (λ s. (place_of s.now).page < length bases.now.pages) chain.now }
     requires pages { All (λ s. IsOnOnePage s.now) chain.now }
-    ensures { IfSome (said result) (spec.IsValueAs kind
+    ensures { IfSome (said result) (item_value.IsValueAs kind
         (text_along (base_in bases.now.pages) (viewed.view (placed spot.now).tree).escape (map (λ s. located s.now) chain.now))
         (placed spot.now).tree) }
 {
@@ -151,7 +151,7 @@ fn value_of(
 ) -> Result<Value, ItemFault>
     requires bases { All (λ s. (place_of s.now).page < length bases.now.pages) chain.now }
     requires pages { All (λ s. IsOnOnePage s.now) chain.now }
-    ensures { IfSome (said result) (spec.IsValueOf
+    ensures { IfSome (said result) (item_value.IsValueOf
         (text_along (base_in bases.now.pages) (viewed.view (placed spot.now).tree).escape (map (λ s. located s.now) chain.now))
         (placed spot.now)) }
 {
@@ -200,7 +200,7 @@ fn refs_in(alloc: Global, kind: Kind, e: &Element<'_>) -> Result<(Text, Option<T
 
 /// An item of this kind with a value.
 fn item_with(alloc: Global, kind: Kind, e: &Element<'_>, value: Value) -> Result<Item, NoMemory>
-    ensures { IfOk result (λ i. i ≡ spec.item_with kind (tree_of e.now) value) }
+    ensures { IfOk result (λ i. i ≡ item_value.item_with kind (tree_of e.now) value) }
 {
     let accuracy = accuracy_of(alloc, kind, e)?;
     let id = own_token(alloc, e, "id")?;
@@ -222,8 +222,8 @@ fn item_by(
     spot: &Spot<'_>,
     value: Result<Value, ItemFault>,
 ) -> Result<Item, ItemFault>
-    ensures { (text : spec.ItemText) → IfSome (said value) (spec.IsValueOf text (placed spot.now))
-        → IfSome (said result) (spec.IsItemOf text (placed spot.now)) }
+    ensures { (text : item_value.ItemText) → IfSome (said value) (item_value.IsValueOf text (placed spot.now))
+        → IfSome (said result) (item_value.IsItemOf text (placed spot.now)) }
 {
     Ok(item_with(alloc, kind_of(spot), spot.element, value?)?)
 }
@@ -244,7 +244,7 @@ pub fn item_of(
     requires pages { All (λ s. IsOnOnePage s.now) chain.now }
     ensures { (a : Asks Located)
         → (is_kind kinds.NonNumeric (located spot.now) ≡ true → map (λ s. located s.now) chain.now ≡ chains.chain a (located spot.now))
-        → IfSome (said result) (spec.IsItem (base_in bases.now.pages) a (located spot.now)) }
+        → IfSome (said result) (item_value.IsItem (base_in bases.now.pages) a (located spot.now)) }
 {
     let value = value_of(alloc, spot, chain, bases);
     item_by(alloc, spot, value)

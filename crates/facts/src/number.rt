@@ -7,7 +7,7 @@ ghost use Rattle.ix_base.specs.Trees.{named, nodes_of, tree_of};
 ghost use Rattle.ix_base.specs.FactViews as viewed;
 ghost use Rattle.ix_base.specs.declared.limits.TheConstants.{LARGEST_SCALE};
 ghost use Rattle.scale_sign.specs.Scaled.{IsNumber};
-ghost use Rattle.facts.specs.NumberValue as spec;
+ghost use Rattle.facts.specs.NumberValue as numerals;
 ghost use Rattle.facts.specs.Verdicts.{said};
 
 use crate::fault::ItemFault;
@@ -20,7 +20,7 @@ use value_forms::scale_of;
 
 /// The texts among some nodes, joined.
 pub(crate) fn own_text(alloc: Global, nodes: &[Node<'_>]) -> Result<Text, NoMemory>
-    ensures { IfOk result (λ t. t ≡ spec.own_text (nodes_of nodes.now)) }
+    ensures { IfOk result (λ t. t ≡ numerals.own_text (nodes_of nodes.now)) }
 {
     let mut text = Text::of(alloc, "")?;
     for node in nodes {
@@ -39,8 +39,8 @@ fn is_number(name: &Name) -> bool
 
 /// The nonFraction whose own text is that of a nonFraction: itself, or the innermost in it.
 pub fn innermost<'a>(e: &'a Element<'a>) -> &'a Element<'a>
-    ensures tree { tree_of result.now ≡ unwrap_or (spec.nested_in (tree_of e.entry.now).children) (tree_of e.entry.now) }
-    ensures text { spec.own_text (tree_of result.now).children ≡ spec.number_text (tree_of e.entry.now).children }
+    ensures tree { tree_of result.now ≡ unwrap_or (numerals.nested_in (tree_of e.entry.now).children) (tree_of e.entry.now) }
+    ensures text { numerals.own_text (tree_of result.now).children ≡ numerals.number_text (tree_of e.entry.now).children }
 {
     for node in e.children {
         let Node::Elem(below) = node else {
@@ -55,7 +55,7 @@ pub fn innermost<'a>(e: &'a Element<'a>) -> &'a Element<'a>
 
 /// The decimal that a text says without a format.
 fn plain_digits(alloc: Global, text: &str) -> Result<Text, ItemFault>
-    ensures { IfSome (said result) (spec.IsDigits None text.now) }
+    ensures { IfSome (said result) (numerals.IsDigits None text.now) }
 {
     let digits = token(text);
     if !is_unsigned(digits) {
@@ -66,7 +66,7 @@ fn plain_digits(alloc: Global, text: &str) -> Result<Text, ItemFault>
 
 /// The decimal that a text says in the format of this name.
 fn format_digits(alloc: Global, name: Name<'_>, text: &str) -> Result<Text, ItemFault>
-    ensures { IfSome (said result) (spec.IsDigits (Some (named name.entry)) text.now) }
+    ensures { IfSome (said result) (numerals.IsDigits (Some (named name.entry)) text.now) }
 {
     let format = Format::named(name).ok_or(ItemFault::Breach(Rule::V1))?;
     let digits = transformed(alloc, format, text)?;
@@ -78,7 +78,7 @@ fn format_digits(alloc: Global, name: Name<'_>, text: &str) -> Result<Text, Item
 
 /// The decimal that the text of a number says before it is moved and signed.
 fn digits_of(alloc: Global, format: Option<Name<'_>>, text: &str) -> Result<Text, ItemFault>
-    ensures { IfSome (said result) (spec.IsDigits (option_map named format.entry) text.now) }
+    ensures { IfSome (said result) (numerals.IsDigits (option_map named format.entry) text.now) }
 {
     match format {
         Some(name) => format_digits(alloc, name, text),
@@ -123,7 +123,7 @@ pub(crate) fn number_value(
     text: &str,
 ) -> Result<Text, ItemFault>
     requires { unsigned_abs scale ≤ LARGEST_SCALE }
-    ensures { IfSome (said result) (spec.IsNumberValue (spec.number_at (option_map named format.entry) scale negative text.now)) }
+    ensures { IfSome (said result) (numerals.IsNumberValue (numerals.number_at (option_map named format.entry) scale negative text.now)) }
 {
     let digits = digits_of(alloc, format, text)?;
     Ok(moved(alloc, digits.as_str(), scale, negative)?)
@@ -131,7 +131,7 @@ pub(crate) fn number_value(
 
 /// The value of a number that has this text, by what its element says of it.
 fn value_by(alloc: Global, e: &Element<'_>, text: &str) -> Result<Text, ItemFault>
-    ensures { IfSome (said result) (spec.IsNumberValue (spec.number_by (viewed.view (tree_of e.now)) text.now)) }
+    ensures { IfSome (said result) (numerals.IsNumberValue (numerals.number_by (viewed.view (tree_of e.now)) text.now)) }
 {
     let is_negative = attr_of(e, "", "sign").is_some();
     number_value(alloc, name_at(e, "format"), scale_of(e), is_negative, text)
@@ -139,8 +139,8 @@ fn value_by(alloc: Global, e: &Element<'_>, text: &str) -> Result<Text, ItemFaul
 
 /// The value of a nonFraction.
 pub(crate) fn nested_value(alloc: Global, e: &Element<'_>) -> Result<Text, ItemFault>
-    ensures { IfSome (said result) (spec.IsNumberValue
-        (spec.number_by (viewed.view (tree_of e.now)) (spec.number_text (tree_of e.now).children))) }
+    ensures { IfSome (said result) (numerals.IsNumberValue
+        (numerals.number_by (viewed.view (tree_of e.now)) (numerals.number_text (tree_of e.now).children))) }
 {
     let text = own_text(alloc, innermost(e).children)?;
     value_by(alloc, e, text.as_str())
@@ -148,8 +148,8 @@ pub(crate) fn nested_value(alloc: Global, e: &Element<'_>) -> Result<Text, ItemF
 
 /// The value of a number whose text is its own.
 pub(crate) fn own_value(alloc: Global, e: &Element<'_>) -> Result<Text, ItemFault>
-    ensures { IfSome (said result) (spec.IsNumberValue
-        (spec.number_by (viewed.view (tree_of e.now)) (spec.own_text (tree_of e.now).children))) }
+    ensures { IfSome (said result) (numerals.IsNumberValue
+        (numerals.number_by (viewed.view (tree_of e.now)) (numerals.own_text (tree_of e.now).children))) }
 {
     let text = own_text(alloc, e.children)?;
     value_by(alloc, e, text.as_str())

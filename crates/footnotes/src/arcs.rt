@@ -7,7 +7,7 @@ ghost use Rattle.id_table.specs.Model.{asked};
 ghost use Rattle.id_table.specs.Tables.{all_located};
 ghost use Rattle.footnotes.specs.ArcGroups.{arcs_along, arcs_from, AreAttributesOf, group_arcs, groups_at};
 ghost use Rattle.footnotes.specs.BorrowedArcs.{as_arc};
-ghost use Rattle.footnotes.specs.FootnoteLinks as spec;
+ghost use Rattle.footnotes.specs.FootnoteLinks as footnote_links;
 ghost use Rattle.footnotes.specs.FootnoteLinks.{arc_texts_cmp};
 ghost use Rattle.footnotes.specs.NamedEnds.{seen, all_seen, IsKnown};
 
@@ -22,7 +22,7 @@ use text_map::TextMap;
 
 /// What an element is called in arcs.
 pub(crate) fn label_of<'a>(spot: &Spot<'a>) -> &'a str
-    ensures { result.now ≡ spec.label (located spot.now) }
+    ensures { result.now ≡ footnote_links.label (located spot.now) }
 {
     match id_at(spot) {
         Some(id) => id,
@@ -56,7 +56,7 @@ const LINK_ROLE: &str = "http://www.xbrl.org/2003/role/link";
 const ARCROLE: &str = "http://www.xbrl.org/2003/arcrole/fact-footnote";
 
 fn role_of<'a>(spot: &Spot<'a>) -> &'a str
-    ensures { result.now ≡ spec.link_role (located spot.now) }
+    ensures { result.now ≡ footnote_links.link_role (located spot.now) }
 {
     match token_at(spot.element, "linkRole") {
         Some(role) => role,
@@ -65,7 +65,7 @@ fn role_of<'a>(spot: &Spot<'a>) -> &'a str
 }
 
 fn arcrole_of<'a>(spot: &Spot<'a>) -> &'a str
-    ensures { result.now ≡ spec.arcrole (located spot.now) }
+    ensures { result.now ≡ footnote_links.arcrole (located spot.now) }
 {
     match token_at(spot.element, "arcrole") {
         Some(role) => role,
@@ -75,8 +75,8 @@ fn arcrole_of<'a>(spot: &Spot<'a>) -> &'a str
 
 /// What a relationship says of its arcs, with an order that was made canonical.
 fn attributes_with<'a>(spot: &Spot<'a>, order: &'a str) -> ArcAttributes<'a>
-    ensures role { result.role.now ≡ spec.link_role (located spot.now) }
-    ensures arcrole { result.arcrole.now ≡ spec.arcrole (located spot.now) }
+    ensures role { result.role.now ≡ footnote_links.link_role (located spot.now) }
+    ensures arcrole { result.arcrole.now ≡ footnote_links.arcrole (located spot.now) }
     ensures order { result.order.now ≡ order.entry.now }
 {
     ArcAttributes {
@@ -149,7 +149,7 @@ pub(crate) fn groups_of<'a>(
 ) -> Result<GroupTable<'a>, NoMemory>
     requires seen { all_seen relationships.now ≡ filter rules_of.is_relationship index.now.spots }
     requires known { All (IsKnown (asked index.now)) relationships.now }
-    ensures { IfOk result (λ m. (q : Items ℕ) → arcs_along (groups_at m q) ≡ spec.arcs_in index.now.spots q) }
+    ensures { IfOk result (λ m. (q : Items ℕ) → arcs_along (groups_at m q) ≡ footnote_links.arcs_in index.now.spots q) }
 {
     let mut table = TextMap::new(alloc);
     for relationship in relationships {

@@ -7,7 +7,7 @@ ghost use Rattle.ix_base.specs.SortedLists.{text_cmp};
 ghost use Rattle.continuations.specs.Model.{AreChainsOf};
 ghost use Rattle.footnotes.specs.ArcGroups.{arcs_along, group_arcs, groups_at};
 ghost use Rattle.footnotes.specs.ArcLinks.{link_by, links_by, note_in, role_by, roles_along, texts_of};
-ghost use Rattle.footnotes.specs.FootnoteLinks as spec;
+ghost use Rattle.footnotes.specs.FootnoteLinks as footnote_links;
 ghost use Rattle.footnotes.specs.FootnoteLinks.{ends, label};
 ghost use Rattle.footnotes.specs.Model.{arcs_kept, AreOnPages, AreRelationsOf, StandApart};
 
@@ -239,7 +239,7 @@ impl<'a> Relations<'a> {
     ) -> Result<List<NoteLink>, NoMemory>
         requires { AreOnPages chains.now (length bases.now.pages) }
         ensures { (es : Items Located) → AreRelationsOf self.now es → AreChainsOf chains.now es → StandApart es
-            → IfOk result (λ l. l ≡ spec.notes (base_in bases.now.pages) es target.now) }
+            → IfOk result (λ l. l ≡ footnote_links.notes (base_in bases.now.pages) es target.now) }
     {
         links_at(alloc, &self.groups, target, chains, bases)
     }

@@ -14,7 +14,7 @@ ghost use Rattle.ix_base.specs.Trees.{tree_of};
 ghost use Rattle.id_table.specs.Tables.{all_located, AreOnOwnPages};
 ghost use Rattle.footnotes.specs.ArcGroups.{arcs_along, group_arcs};
 ghost use Rattle.footnotes.specs.ArcLinks.{chain_kept, end_footnotes, kept_at, last_called, note_in, texts_of};
-ghost use Rattle.footnotes.specs.FootnoteLinks as spec;
+ghost use Rattle.footnotes.specs.FootnoteLinks as footnote_links;
 ghost use Rattle.footnotes.specs.FootnoteLinks.{label};
 ghost use Rattle.footnotes.specs.Model.{AreOnPages};
 
@@ -33,7 +33,7 @@ use text_map::TextMap;
 const FOOTNOTE_ROLE: &str = "http://www.xbrl.org/2003/role/footnote";
 
 fn footnote_role<'a>(spot: &Spot<'a>) -> &'a str
-    ensures { result.now ≡ spec.footnote_role (located spot.now) }
+    ensures { result.now ≡ footnote_links.footnote_role (located spot.now) }
 {
     match token_at(spot.element, "footnoteRole") {
         Some(role) => role,

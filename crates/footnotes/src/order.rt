@@ -2,7 +2,7 @@
 ghost use Rattle.std.specs.Prelude.{◌≡◌, ◌+◌, ◌≤◌, IfOk, length, pos};
 ghost use Rattle.ix_base.specs.Decimals.{IsUnsigned};
 ghost use Rattle.scale_sign.specs.Scaled.{IsNumber};
-ghost use Rattle.footnotes.specs.FootnoteLinks as spec;
+ghost use Rattle.footnotes.specs.FootnoteLinks as footnote_links;
 
 use ix_base::{NoMemory, Text, text_at, zeros};
 use scale_sign::{has_minus, numbers_are_text, scaled};
@@ -31,7 +31,7 @@ fn written(alloc: Global, digits: &str, negative: bool) -> Result<Text, NoMemory
 
 /// An order as a canonical decimal. A text that isn't a decimal stands as it is.
 pub(crate) fn canonical_order(alloc: Global, text: &str) -> Result<Text, NoMemory>
-    ensures { IfOk result (λ t. t ≡ spec.canonical_order text.now) }
+    ensures { IfOk result (λ t. t ≡ footnote_links.canonical_order text.now) }
 {
     let digits = without_sign(text);
     if is_unsigned_decimal(digits) {

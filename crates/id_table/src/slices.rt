@@ -1,4 +1,4 @@
-//! Lists of elements, by places.
+//! Finding lists of elements by place.
 ghost use Rattle.std.specs.Prelude.{◌≡◌, ◌==◌, ◌&&◌, ℕ, OnOk, option_map};
 ghost use Rattle.id_table.specs.Slices.{put_first, slice_at, spots_in};
 

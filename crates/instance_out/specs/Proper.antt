@@ -129,15 +129,15 @@ is_exact (accuracy.Decimals n) = bytes_eq n (codes "INF") || is_normal_integer n
 is_exact (accuracy.Precision n) = bytes_eq n (codes "INF") || is_whole_part n
 
 -- of an item with a unit, and of one without
-abbrev pub is_number : Option (List ℕ) → Value → Option Accuracy → Bool
-is_number (Some u) (value.Plain text) None = false
-is_number (Some u) (value.Plain text) (Some a) = is_exact a && is_canonical_decimal text
-is_number (Some u) v None = true
-is_number None v None = true
-is_number u v (Some a) = false
+abbrev pub is_numeric : Option (List ℕ) → Value → Option Accuracy → Bool
+is_numeric (Some u) (value.Plain text) None = false
+is_numeric (Some u) (value.Plain text) (Some a) = is_exact a && is_canonical_decimal text
+is_numeric (Some u) v None = true
+is_numeric None v None = true
+is_numeric u v (Some a) = false
 
 unfoldable pub numbers_fit : Said → Bool
-numbers_fit c = list_all (λ i. is_number i.unit i.value i.accuracy) (items_in c.facts)
+numbers_fit c = list_all (λ i. is_numeric i.unit i.value i.accuracy) (items_in c.facts)
 
 -- 9. and 10. A fraction has a unit, and its parts are canonical decimals, the one below not zero.
 

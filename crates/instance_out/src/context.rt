@@ -1,4 +1,4 @@
-//! The lines of contexts.
+//! Writing contexts.
 ghost use Rattle.std.specs.Prelude.{◌≡◌, map, IfOk, OnOk, All};
 ghost use Rattle.ix_base.specs.SortedLists.{sorted, text_cmp};
 ghost use Rattle.ix_base.specs.WrittenMarkup.{written, nothing};

@@ -1,4 +1,4 @@
-//! The lines of facts.
+//! Writing facts.
 ghost use Rattle.std.specs.Prelude.{◌≡◌, map, option_map, IfOk, OnOk};
 ghost use Rattle.ix_base.specs.Facts.{facts_of};
 ghost use Rattle.ix_base.specs.PlainContents.{said_of};

@@ -1,4 +1,4 @@
-//! The lines of a content.
+//! Writing contents.
 ghost use Rattle.std.specs.Prelude.{◌≡◌, ◌++◌, map, IfOk, OnOk, All};
 ghost use Rattle.std.specs.Ordering.{on};
 ghost use Rattle.ix_base.specs.Once.{in_order};

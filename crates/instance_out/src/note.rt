@@ -1,4 +1,4 @@
-//! The lines of footnote links.
+//! Writing footnote links.
 ghost use Rattle.std.specs.Prelude.{◌≡◌, ◌++◌, map, IfOk, OnOk};
 ghost use Rattle.std.specs.List.{concat};
 ghost use Rattle.std.specs.Ordering.{on};

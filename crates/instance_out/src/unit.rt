@@ -1,4 +1,4 @@
-//! The lines of units.
+//! Writing units.
 ghost use Rattle.std.specs.Prelude.{◌≡◌, map, IfOk, OnOk};
 ghost use Rattle.ix_base.specs.SortedLists.{sorted, text_cmp};
 ghost use Rattle.ix_base.specs.WrittenMarkup.{written};

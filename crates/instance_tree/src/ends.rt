@@ -1,6 +1,6 @@
 //! The ends of arcs: what arcs name by labels.
 ghost use Rattle.std.specs.Prelude.{◌≡◌, ℕ, List, Some, not, if◌then◌else◌, bytes_eq, is_some, map, option_map, IfOk, IfSome};
-ghost use Rattle.instance_out.specs.Denotation as spec;
+ghost use Rattle.instance_out.specs.Denotation as denotation;
 ghost use Rattle.instance_out.specs.Lists.{are_apart};
 ghost use Rattle.instance_tree.specs.ReaderWords.{HasEnds, end_of, id_at, labels_of};
 
@@ -58,7 +58,7 @@ pub(super) fn ends_of<'a>(
     locs: &'a [(Text, Text)],
     footnotes: &'a [Footnote],
 ) -> Result<Vec<End<'a>>, NoMemory>
-    ensures { IfOk result (λ v. map end_of v.items ≡ spec.ends_of locs.now footnotes.now) }
+    ensures { IfOk result (λ v. map end_of v.items ≡ denotation.ends_of locs.now footnotes.now) }
 {
     let mut ends = Vec::new(alloc);
     for loc in locs {

@@ -2,7 +2,7 @@
 ghost use Rattle.std.specs.Prelude.{◌≡◌, option_map, IfOk};
 ghost use Rattle.ix_base.specs.Facts.{Facts, before, facts_of as joined_of};
 ghost use Rattle.ix_base.specs.Trees.{named, nodes_of, tree_of};
-ghost use Rattle.instance_out.specs.Denotation as spec;
+ghost use Rattle.instance_out.specs.Denotation as denotation;
 ghost use Rattle.instance_tree.specs.ReaderWords.{fact_at, tuple_at};
 
 use crate::items::item_of;
@@ -15,7 +15,7 @@ use value_forms::is_nil;
 /// Whether an element of this name is no fact.
 #[tactic(auto, unfolding(ix_base::specs::Namespaces::xbrli_namespace, ix_base::specs::Namespaces::link_namespace))]
 fn is_part(name: &Name<'_>) -> bool
-    ensures { result ≡ spec.is_part (named name.now) }
+    ensures { result ≡ denotation.is_part (named name.now) }
 {
     name.ns == XBRLI || name.ns == LINK
 }
@@ -24,7 +24,7 @@ fn is_part(name: &Name<'_>) -> bool
 #[cycle(facts)]
 fn members_of(alloc: Global, e: &Element<'_>) -> Result<Option<List<Fact>>, NoMemory>
     ensures { IfOk result (λ o. option_map joined_of o
-        ≡ spec.members_by (spec.is_nil (tree_of e.now).head.attrs) (spec.facts_in (tree_of e.now).children)) }
+        ≡ denotation.members_by (denotation.is_nil (tree_of e.now).head.attrs) (denotation.facts_in (tree_of e.now).children)) }
 {
     if is_nil(e) {
         return Ok(Some(List::new(alloc)));
@@ -68,7 +68,7 @@ fn fact_of(alloc: Global, e: &Element<'_>) -> Result<Option<Fact>, NoMemory>
 /// The facts that some nodes denote, in document order.
 #[cycle(facts)]
 fn facts_in(alloc: Global, nodes: &[Node<'_>]) -> Result<Option<List<Fact>>, NoMemory>
-    ensures { IfOk result (λ o. option_map joined_of o ≡ spec.facts_in (nodes_of nodes.now)) }
+    ensures { IfOk result (λ o. option_map joined_of o ≡ denotation.facts_in (nodes_of nodes.now)) }
 {
     let mut facts = List::new(alloc);
     for node in nodes {
@@ -91,7 +91,7 @@ fn facts_in(alloc: Global, nodes: &[Node<'_>]) -> Result<Option<List<Fact>>, NoM
 
 /// The facts among the children of a root, in document order.
 pub(super) fn facts_among(alloc: Global, nodes: &[Node<'_>]) -> Result<Option<List<Fact>>, NoMemory>
-    ensures { IfOk result (λ o. option_map joined_of o ≡ spec.facts_in (spec.facts_among (nodes_of nodes.now))) }
+    ensures { IfOk result (λ o. option_map joined_of o ≡ denotation.facts_in (denotation.facts_among (nodes_of nodes.now))) }
 {
     let mut facts = List::new(alloc);
     for node in nodes {

@@ -3,7 +3,7 @@ ghost use Rattle.std.specs.Prelude.{◌≡◌, [], option_map, IfOk, codes};
 ghost use Rattle.ix_base.specs.Attributes as attributes;
 ghost use Rattle.ix_base.specs.ElementContent.{elements_in};
 ghost use Rattle.ix_base.specs.Trees.{nodes_of, tree_of};
-ghost use Rattle.instance_out.specs.Denotation as spec;
+ghost use Rattle.instance_out.specs.Denotation as denotation;
 ghost use Rattle.instance_tree.specs.ReaderWords as reading;
 
 use holding::{first_element, has_no_elements, is_blank_beside, is_of, text_alone};
@@ -14,7 +14,7 @@ use value_forms::is_nil;
 
 /// How exact an item is, unless it says so in both ways.
 fn accuracy_of(alloc: Global, e: &Element<'_>) -> Result<Option<Option<Accuracy>>, NoMemory>
-    ensures { IfOk result (λ o. o ≡ spec.accuracy_by (attributes.value_of (tree_of e.now).head.attrs [] (codes "decimals"))
+    ensures { IfOk result (λ o. o ≡ denotation.accuracy_by (attributes.value_of (tree_of e.now).head.attrs [] (codes "decimals"))
         (attributes.value_of (tree_of e.now).head.attrs [] (codes "precision"))) }
 {
     match (attr_of(e, "", "decimals"), attr_of(e, "", "precision")) {
@@ -89,7 +89,7 @@ fn plain_in(alloc: Global, nodes: &[Node<'_>]) -> Result<Option<Value>, NoMemory
 
 /// What an item says that isn't nil.
 fn value_from(alloc: Global, nodes: &[Node<'_>]) -> Result<Option<Value>, NoMemory>
-    ensures { IfOk result (λ o. o ≡ spec.value_from (elements_in (nodes_of nodes.now)) (nodes_of nodes.now)) }
+    ensures { IfOk result (λ o. o ≡ denotation.value_from (elements_in (nodes_of nodes.now)) (nodes_of nodes.now)) }
 {
     match pair_of(nodes) {
         Some((above, below)) => ratio_in(alloc, above, below, nodes),
@@ -99,7 +99,7 @@ fn value_from(alloc: Global, nodes: &[Node<'_>]) -> Result<Option<Value>, NoMemo
 
 /// What an item says. One that is nil says nothing, whatever it holds.
 fn value_of(alloc: Global, e: &Element<'_>) -> Result<Option<Value>, NoMemory>
-    ensures { IfOk result (λ o. o ≡ spec.value_by (spec.is_nil (tree_of e.now).head.attrs) (tree_of e.now).children) }
+    ensures { IfOk result (λ o. o ≡ denotation.value_by (denotation.is_nil (tree_of e.now).head.attrs) (tree_of e.now).children) }
 {
     if is_nil(e) {
         Ok(Some(Value::Nil))
@@ -115,7 +115,7 @@ pub(super) fn item_of(
     context: &str,
     e: &Element<'_>,
 ) -> Result<Option<Item>, NoMemory>
-    ensures { IfOk result (λ o. o ≡ spec.item_in context.now (tree_of e.now).head (tree_of e.now).children) }
+    ensures { IfOk result (λ o. o ≡ denotation.item_in context.now (tree_of e.now).head (tree_of e.now).children) }
 {
     let Some(accuracy) = accuracy_of(alloc, e)? else {
         return Ok(None);

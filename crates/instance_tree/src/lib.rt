@@ -6,7 +6,7 @@
 ghost use Rattle.std.specs.Prelude.{◌≡◌, option_map, IfOk};
 ghost use Rattle.ix_base.specs.PlainContents.{said_of};
 ghost use Rattle.ix_base.specs.Trees.{named, nodes_of, tree_of};
-ghost use Rattle.instance_out.specs.Denotation as spec;
+ghost use Rattle.instance_out.specs.Denotation as denotation;
 
 use children::{read_links, read_parts};
 use facts::facts_among;
@@ -30,7 +30,7 @@ mod references;
 /// Whether an element of this name may stand in an instance's root.
 #[tactic(auto, unfolding(ix_base::specs::Namespaces::xbrli_namespace, ix_base::specs::Namespaces::link_namespace))]
 fn may_stand(name: &Name<'_>) -> bool
-    ensures { result ≡ spec.may_stand (named name.now) }
+    ensures { result ≡ denotation.may_stand (named name.now) }
 {
     if name.ns == LINK {
         matches!(
@@ -46,7 +46,7 @@ fn may_stand(name: &Name<'_>) -> bool
 
 /// Whether each element among some nodes may stand in an instance's root.
 fn are_parts(nodes: &[Node<'_>]) -> bool
-    ensures { result ≡ spec.are_parts (nodes_of nodes.now) }
+    ensures { result ≡ denotation.are_parts (nodes_of nodes.now) }
 {
     for node in nodes {
         if let Node::Elem(e) = node {
@@ -61,7 +61,7 @@ fn are_parts(nodes: &[Node<'_>]) -> bool
 /// What the children of a root denote, each kind in document order.
 #[tactic(auto, unfolding(instance_out::specs::Denotation::parts_in))]
 fn parts_in(alloc: Global, nodes: &[Node<'_>]) -> Result<Option<Content>, NoMemory>
-    ensures { IfOk result (λ o. option_map said_of o ≡ spec.parts_in (nodes_of nodes.now)) }
+    ensures { IfOk result (λ o. option_map said_of o ≡ denotation.parts_in (nodes_of nodes.now)) }
 {
     let Some(schemas) = read_links(alloc, &SchemaReader, nodes, "schemaRef")? else {
         return Ok(None);
@@ -114,7 +114,7 @@ fn parts_in(alloc: Global, nodes: &[Node<'_>]) -> Result<Option<Content>, NoMemo
 /// a footnote link are hashed.
 #[tactic(auto, unfolding(instance_out::specs::Denotation::content_in, ix_base::specs::Namespaces::xbrli_namespace))]
 pub fn denoted(alloc: Global, root: &Element<'_>) -> Result<Option<Content>, NoMemory>
-    ensures { IfOk result (λ o. option_map said_of o ≡ spec.content_in (tree_of root.now)) }
+    ensures { IfOk result (λ o. option_map said_of o ≡ denotation.content_in (tree_of root.now)) }
 {
     if !is_of(&root.name, XBRLI, "xbrl") {
         return Ok(None);

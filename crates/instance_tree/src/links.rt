@@ -2,7 +2,7 @@
 ghost use Rattle.std.specs.Prelude.{◌≡◌, option_map};
 ghost use Rattle.ix_base.specs.Trees.{tree_of};
 ghost use Rattle.instance_out.specs.Denotation.{xlink_at};
-ghost use Rattle.instance_tree.specs.ReaderWords as spec;
+ghost use Rattle.instance_tree.specs.ReaderWords as reader_words;
 
 use ix_base::namespaces::XLINK;
 use ix_base::{Element, attr_of};
@@ -17,7 +17,7 @@ pub(super) fn xlink_of<'a>(e: &Element<'a>, local: &str) -> Option<&'a str>
 
 /// Whether an element has this `xlink:type`. It takes no memory.
 pub(super) fn is_typed(e: &Element<'_>, kind: &str) -> bool
-    ensures { result ≡ spec.is_typed kind.now (tree_of e.now) }
+    ensures { result ≡ reader_words.is_typed kind.now (tree_of e.now) }
 {
     match xlink_of(e, "type") {
         Some(value) => kind == value,

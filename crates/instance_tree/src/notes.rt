@@ -2,7 +2,7 @@
 ghost use Rattle.std.specs.Prelude.{◌≡◌, [], None, map, option_map, IfOk};
 ghost use Rattle.ix_base.specs.Markup.{markup};
 ghost use Rattle.ix_base.specs.Trees.{nodes_of, tree_of};
-ghost use Rattle.instance_out.specs.Denotation as spec;
+ghost use Rattle.instance_out.specs.Denotation as denotation;
 ghost use Rattle.instance_tree.specs.ReaderWords.{arc_by, arcs_in, end_at, id_at, link_by};
 
 use crate::children::{Reader, read_links};
@@ -33,7 +33,7 @@ pub(super) struct LinkReader;
 
 /// The id in a link to an element of the same instance.
 fn id_behind(href: &str) -> Option<&str>
-    ensures { option_map (λ id. id.now) result ≡ spec.id_behind href.now }
+    ensures { option_map (λ id. id.now) result ≡ denotation.id_behind href.now }
 {
     href.strip_prefix('#')
 }
@@ -41,7 +41,7 @@ fn id_behind(href: &str) -> Option<&str>
 /// A locator.
 #[tactic(auto, unfolding(instance_out::specs::Denotation::locator_in))]
 fn locator_of(alloc: Global, e: &Element<'_>) -> Result<Option<(Text, Text)>, NoMemory>
-    ensures { IfOk result (λ o. o ≡ spec.locator_in (tree_of e.now)) }
+    ensures { IfOk result (λ o. o ≡ denotation.locator_in (tree_of e.now)) }
 {
     if !is_typed(e, "locator") {
         return Ok(None);
@@ -73,7 +73,7 @@ fn body_of(alloc: Global, e: &Element<'_>) -> Result<Text, NoMemory>
 /// A footnote.
 #[tactic(auto, unfolding(instance_out::specs::Denotation::footnote_in, ix_base::specs::Namespaces::xml_namespace))]
 fn footnote_of(alloc: Global, e: &Element<'_>) -> Result<Option<Footnote>, NoMemory>
-    ensures { IfOk result (λ o. o ≡ spec.footnote_in (tree_of e.now)) }
+    ensures { IfOk result (λ o. o ≡ denotation.footnote_in (tree_of e.now)) }
 {
     if !is_typed(e, "resource") {
         return Ok(None);
@@ -173,7 +173,7 @@ fn arcs_of(
     footnotes: &[Footnote],
     nodes: &[Node<'_>],
 ) -> Result<Option<List<Arc>>, NoMemory>
-    ensures { IfOk result (λ o. o ≡ arcs_in (spec.ends_of locs.now footnotes.now) (nodes_of nodes.now)) }
+    ensures { IfOk result (λ o. o ≡ arcs_in (denotation.ends_of locs.now footnotes.now) (nodes_of nodes.now)) }
 {
     let ends = ends_of(alloc, locs, footnotes)?;
     match table_of(alloc, ends.as_slice())? {
@@ -217,7 +217,7 @@ fn link_of(
 /// A footnote link.
 #[tactic(auto, unfolding(instance_out::specs::Denotation::notes_in))]
 fn notes_of(alloc: Global, e: &Element<'_>) -> Result<Option<NoteLink>, NoMemory>
-    ensures { IfOk result (λ o. o ≡ spec.notes_in (tree_of e.now)) }
+    ensures { IfOk result (λ o. o ≡ denotation.notes_in (tree_of e.now)) }
 {
     if !is_typed(e, "extended") {
         return Ok(None);

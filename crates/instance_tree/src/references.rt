@@ -1,7 +1,7 @@
 //! References to schemas, linkbases, roles and arcroles.
 ghost use Rattle.std.specs.Prelude.{◌≡◌, IfOk};
 ghost use Rattle.ix_base.specs.Trees.{tree_of};
-ghost use Rattle.instance_out.specs.Denotation as spec;
+ghost use Rattle.instance_out.specs.Denotation as denotation;
 
 use crate::children::Reader;
 use crate::links::{is_typed, xlink_of};
@@ -28,7 +28,7 @@ pub(super) struct RoleReader<'a> {
 /// The address of a schema.
 #[tactic(auto, unfolding(instance_out::specs::Denotation::schema_in))]
 fn schema_of(alloc: Global, e: &Element<'_>) -> Result<Option<Text>, NoMemory>
-    ensures { IfOk result (λ o. o ≡ spec.schema_in (tree_of e.now)) }
+    ensures { IfOk result (λ o. o ≡ denotation.schema_in (tree_of e.now)) }
 {
     if !is_typed(e, "simple") {
         return Ok(None);
@@ -39,7 +39,7 @@ fn schema_of(alloc: Global, e: &Element<'_>) -> Result<Option<Text>, NoMemory>
 /// A reference to a linkbase.
 #[tactic(auto, unfolding(instance_out::specs::Denotation::linkbase_in))]
 fn linkbase_of(alloc: Global, e: &Element<'_>) -> Result<Option<Linkbase>, NoMemory>
-    ensures { IfOk result (λ o. o ≡ spec.linkbase_in (tree_of e.now)) }
+    ensures { IfOk result (λ o. o ≡ denotation.linkbase_in (tree_of e.now)) }
 {
     if !is_typed(e, "simple") {
         return Ok(None);
@@ -62,7 +62,7 @@ fn linkbase_of(alloc: Global, e: &Element<'_>) -> Result<Option<Linkbase>, NoMem
 /// A reference to a role or an arcrole, whose URI stands in the attribute of this name.
 #[tactic(auto, unfolding(instance_out::specs::Denotation::reference_in))]
 fn reference_of(alloc: Global, name: &str, e: &Element<'_>) -> Result<Option<RoleRef>, NoMemory>
-    ensures { IfOk result (λ o. o ≡ spec.reference_in name.now (tree_of e.now)) }
+    ensures { IfOk result (λ o. o ≡ denotation.reference_in name.now (tree_of e.now)) }
 {
     if !is_typed(e, "simple") {
         return Ok(None);

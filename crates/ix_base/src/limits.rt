@@ -1,4 +1,4 @@
-//! The limits of names, pages, sets, links and values, each stated once: clauses and code ask here.
+//! The limits of names, pages, sets, links, values and sessions, each stated once: clauses and code ask here.
 
 /// The longest name of a page, in bytes.
 pub const LONGEST_NAME: usize = 4_096;
@@ -20,6 +20,12 @@ pub const DEEPEST_TUPLE: u32 = 100;
 
 /// The longest base, and the longest text of a link that is resolved, in bytes.
 pub const LONGEST_LINK: usize = 65_536;
+
+/// The most bytes that all pages that a session puts have together, replaced and dropped ones included.
+pub const MOST_BYTES_PUT: u64 = 134_217_728;
+
+/// The most bytes `<` that they have together.
+pub const MOST_TAGS_PUT: u64 = 4_194_304;
 
 /// The longest script of a session, in bytes.
 pub const LONGEST_SCRIPT: usize = 65_536;

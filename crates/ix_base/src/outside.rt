@@ -42,7 +42,8 @@ pub trait PageSource {
     fn start(&mut self, name: &str) -> Result<(), Failed>
         requires count { faults self.old + 1 < 2 ^ 64 }
         requires name { length name.now ≤ LONGEST_NAME }
-        ensures counted { IsCounted (faults self.old) (faults self.new) (last_failed self.new) (numbers self.old) (numbers self.new) result }
+        ensures counted { IsCounted (faults self.old) (faults self.new) (last_failed self.new) (numbers self.old) (numbers self.new)
+            result }
         ensures pages { page self.new ≡ page self.old }
         ensures begins { OnOk result (Begins (page self.old) (left self.new) name.now) }
         ensures started { started self.new ≡ is_ok result }
@@ -54,7 +55,8 @@ pub trait PageSource {
         requires count { faults self.old + 1 < 2 ^ 64 }
         requires started { IsTrue (started self.old) }
         requires room { 0 < length buf.old }
-        ensures counted { IsCounted (faults self.old) (faults self.new) (last_failed self.new) (numbers self.old) (numbers self.new) result }
+        ensures counted { IsCounted (faults self.old) (faults self.new) (last_failed self.new) (numbers self.old) (numbers self.new)
+            result }
         ensures pages { page self.new ≡ page self.old }
         ensures started { started self.new ≡ started self.old }
         ensures names { SameNames (asked self.old) (asked self.new) (starts self.old) (starts self.new) }
@@ -88,7 +90,8 @@ pub trait TargetSink {
     /// Adds an unfinished target with no bytes. One that answers Failed has added none.
     fn begin(&mut self, dir: &str, target: &str) -> Result<(), Failed>
         requires { faults self.old + 1 < 2 ^ 64 }
-        ensures counted { IsCounted (faults self.old) (faults self.new) (last_failed self.new) (numbers self.old) (numbers self.new) result }
+        ensures counted { IsCounted (faults self.old) (faults self.new) (last_failed self.new) (numbers self.old) (numbers self.new)
+            result }
         ensures ok { OnOk result (targets self.new ≡ option_map (λ ts. ts ++ begun dir.now target.now ∷ []) (targets self.old)) }
         ensures err { OnErr result (targets self.new ≡ targets self.old) }
         ensures opened { OnOk result (IsTrue (is_open self.new)) }
@@ -100,7 +103,8 @@ pub trait TargetSink {
     fn put(&mut self, piece: &[u8]) -> Result<(), Failed>
         requires count { faults self.old + 1 < 2 ^ 64 }
         requires opened { IsTrue (is_open self.old) }
-        ensures counted { IsCounted (faults self.old) (faults self.new) (last_failed self.new) (numbers self.old) (numbers self.new) result }
+        ensures counted { IsCounted (faults self.old) (faults self.new) (last_failed self.new) (numbers self.old) (numbers self.new)
+            result }
         ensures ok { OnOk result (targets self.new ≡ option_map (last_grown piece.now) (targets self.old)) }
         ensures err { OnErr result (GainsFront piece.now (targets self.old) (targets self.new)) }
         ensures opened { IsTrue (is_open self.new) }
@@ -111,7 +115,8 @@ pub trait TargetSink {
     fn finish(&mut self) -> Result<(), Failed>
         requires count { faults self.old + 1 < 2 ^ 64 }
         requires opened { IsTrue (is_open self.old) }
-        ensures counted { IsCounted (faults self.old) (faults self.new) (last_failed self.new) (numbers self.old) (numbers self.new) result }
+        ensures counted { IsCounted (faults self.old) (faults self.new) (last_failed self.new) (numbers self.old) (numbers self.new)
+            result }
         ensures ok { OnOk result (targets self.new ≡ option_map last_finished (targets self.old)) }
         ensures err { OnErr result (targets self.new ≡ targets self.old) }
         ensures closed { is_open self.new ≡ is_err result }
@@ -136,7 +141,8 @@ pub trait TextSink {
     /// Adds a piece. One that answers Failed has added a front of it.
     fn put(&mut self, piece: &[u8]) -> Result<(), Failed>
         requires { faults self.old + 1 < 2 ^ 64 }
-        ensures counted { IsCounted (faults self.old) (faults self.new) (last_failed self.new) (numbers self.old) (numbers self.new) result }
+        ensures counted { IsCounted (faults self.old) (faults self.new) (last_failed self.new) (numbers self.old) (numbers self.new)
+            result }
         ensures ok { OnOk result (taken self.new ≡ option_map (λ t. t ++ piece.now) (taken self.old)) }
         ensures err { OnErr result (TextGainsFront piece.now (taken self.old) (taken self.new)) };
 }

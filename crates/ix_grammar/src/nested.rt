@@ -2,7 +2,7 @@
 ghost use Rattle.std.specs.Prelude.{◌≡◌, option_map, false, not, ◌&&◌, bytes_eq, codes};
 ghost use Rattle.std.specs.List.{list_any};
 ghost use Rattle.std.specs.Option.{option_map_or, option_eq};
-ghost use Rattle.ix_base.specs.ElementRules as spec;
+ghost use Rattle.ix_base.specs.ElementRules as grammar;
 ghost use Rattle.ix_base.specs.ElementContent.{named_in, same_name as same_name_of, element_alone as element_alone_in};
 ghost use Rattle.ix_base.specs.Namespaces.{ix_namespace};
 ghost use Rattle.ix_base.specs.Readers as reader;
@@ -18,14 +18,14 @@ use value_forms::{is_nil, scale_of};
 /// Whether an element is a nonFraction.
 #[tactic(auto, unfolding(ix_base::specs::Namespaces::ix_namespace))]
 fn is_number(e: &Element) -> bool
-    ensures { result ≡ spec.is_number (tree_of e.now) }
+    ensures { result ≡ grammar.is_number (tree_of e.now) }
 {
     is_of(&e.name, IX, "nonFraction")
 }
 
 /// Whether some nodes are one nonFraction that isn't nil, beside white space.
 fn is_sole_number(nodes: &[Node]) -> bool
-    ensures { result ≡ option_map_or (λ t. spec.is_number t && not (reader.is_nil t)) (element_alone_in (nodes_of nodes.now)) false }
+    ensures { result ≡ option_map_or (λ t. grammar.is_number t && not (reader.is_nil t)) (element_alone_in (nodes_of nodes.now)) false }
 {
     match element_alone(nodes) {
         None => false,
@@ -35,14 +35,14 @@ fn is_sole_number(nodes: &[Node]) -> bool
 
 /// Whether there are no elements among some nodes, or they are one nonFraction that isn't nil.
 fn holds_number(nodes: &[Node]) -> bool
-    ensures { result ≡ spec.holds_number (nodes_of nodes.now) }
+    ensures { result ≡ grammar.holds_number (nodes_of nodes.now) }
 {
     has_no_elements(nodes) || is_sole_number(nodes)
 }
 
 /// Whether a number holds what it may not.
 pub fn breaks_number(kind: Kind, e: &Element) -> bool
-    ensures { result ≡ spec.breaks_number kind (tree_of e.now) }
+    ensures { result ≡ grammar.breaks_number kind (tree_of e.now) }
 {
     match kind {
         Kind::NonFraction => !is_nil(e) && !holds_number(e.children),
@@ -140,7 +140,7 @@ fn any_differs(own: &Measure, nodes: &[Node]) -> bool
 
 /// Whether a number within a number is measured in another way. What the outer one has is read once.
 pub fn breaks_nested(kind: Kind, e: &Element) -> bool
-    ensures { result ≡ spec.breaks_nested kind (tree_of e.now) }
+    ensures { result ≡ grammar.breaks_nested kind (tree_of e.now) }
 {
     match kind {
         Kind::NonFraction => !is_nil(e) && any_differs(&measure_of(e), e.children),

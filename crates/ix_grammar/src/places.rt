@@ -1,7 +1,7 @@
 //! Where elements may stand.
 ghost use Rattle.std.specs.Prelude.{◌≡◌, true, false};
 ghost use Rattle.std.specs.Option.{option_map_or};
-ghost use Rattle.ix_base.specs.ElementRules as spec;
+ghost use Rattle.ix_base.specs.ElementRules as grammar;
 ghost use Rattle.ix_base.specs.Elements.{path_above};
 ghost use Rattle.ix_base.specs.Kinds.{near as spec_near, parent_kind as spec_parent_kind};
 ghost use Rattle.ix_grammar.specs.Parts.{is_in_text};
@@ -10,7 +10,7 @@ use crate::kinds::near;
 use ix_base::{Kind, Spot, ix_kind, parent_kind};
 
 fn may_hold_facts(kind: Kind) -> bool
-    ensures { result ≡ spec.may_hold_facts kind }
+    ensures { result ≡ grammar.may_hold_facts kind }
 {
     matches!(
         kind,
@@ -24,7 +24,7 @@ fn may_hold_facts(kind: Kind) -> bool
 }
 
 fn may_hold_excludes(kind: Kind) -> bool
-    ensures { result ≡ spec.may_hold_excludes kind }
+    ensures { result ≡ grammar.may_hold_excludes kind }
 {
     matches!(
         kind,
@@ -33,13 +33,13 @@ fn may_hold_excludes(kind: Kind) -> bool
 }
 
 fn is_under_fraction(nearest: Option<Kind>) -> bool
-    ensures { result ≡ option_map_or spec.is_fraction nearest false }
+    ensures { result ≡ option_map_or grammar.is_fraction nearest false }
 {
     matches!(nearest, Some(Kind::Fraction))
 }
 
 fn is_beside_facts(nearest: Option<Kind>) -> bool
-    ensures { result ≡ option_map_or spec.may_hold_facts nearest true }
+    ensures { result ≡ option_map_or grammar.may_hold_facts nearest true }
 {
     match nearest {
         None => true,
@@ -48,7 +48,7 @@ fn is_beside_facts(nearest: Option<Kind>) -> bool
 }
 
 fn may_hold_numbers(kind: Kind) -> bool
-    ensures { result ≡ spec.may_hold_numbers kind }
+    ensures { result ≡ grammar.may_hold_numbers kind }
 {
     match kind {
         Kind::NonFraction => true,
@@ -57,7 +57,7 @@ fn may_hold_numbers(kind: Kind) -> bool
 }
 
 fn is_beside_numbers(nearest: Option<Kind>) -> bool
-    ensures { result ≡ option_map_or spec.may_hold_numbers nearest true }
+    ensures { result ≡ option_map_or grammar.may_hold_numbers nearest true }
 {
     match nearest {
         None => true,
@@ -66,7 +66,7 @@ fn is_beside_numbers(nearest: Option<Kind>) -> bool
 }
 
 fn is_in_excludable(nearest: Option<Kind>) -> bool
-    ensures { result ≡ option_map_or spec.may_hold_excludes nearest true }
+    ensures { result ≡ option_map_or grammar.may_hold_excludes nearest true }
 {
     match nearest {
         None => true,
@@ -75,13 +75,13 @@ fn is_in_excludable(nearest: Option<Kind>) -> bool
 }
 
 fn is_header(kind: Kind) -> bool
-    ensures { result ≡ spec.is_header kind }
+    ensures { result ≡ grammar.is_header kind }
 {
     matches!(kind, Kind::Header)
 }
 
 fn is_resources(kind: Kind) -> bool
-    ensures { result ≡ spec.is_resources kind }
+    ensures { result ≡ grammar.is_resources kind }
 {
     matches!(kind, Kind::Resources)
 }
@@ -89,7 +89,7 @@ fn is_resources(kind: Kind) -> bool
 /// Whether an element of a kind may stand where what is above it is this. Only where its rule asks for the nearest ix
 /// ancestor are the ancestors walked through.
 fn may_stand(kind: Kind, up: Option<&Spot>) -> bool
-    ensures { result ≡ spec.may_stand kind (spec_parent_kind (path_above up.entry)) (spec_near (path_above up.entry)) }
+    ensures { result ≡ grammar.may_stand kind (spec_parent_kind (path_above up.entry)) (spec_near (path_above up.entry)) }
 {
     match kind {
         Kind::Header => near(up).is_none(),
@@ -112,14 +112,14 @@ fn may_stand(kind: Kind, up: Option<&Spot>) -> bool
 
 /// Whether an element of a kind stands where it may not.
 pub fn breaks_place(kind: Kind, up: Option<&Spot>) -> bool
-    ensures { result ≡ spec.breaks_place kind (path_above up.entry) }
+    ensures { result ≡ grammar.breaks_place kind (path_above up.entry) }
 {
     !may_stand(kind, up)
 }
 
 /// Whether an element of this kind is running text.
 fn is_running(kind: Kind) -> bool
-    ensures { result ≡ spec.is_running kind }
+    ensures { result ≡ grammar.is_running kind }
 {
     matches!(kind, Kind::NonNumeric | Kind::Continuation | Kind::Footnote)
 }
@@ -142,7 +142,7 @@ fn is_in_text(up: Option<&Spot>) -> bool
 
 /// Whether an exclude stands in no running text.
 pub fn breaks_exclude(kind: Kind, up: Option<&Spot>) -> bool
-    ensures { result ≡ spec.breaks_exclude kind (path_above up.entry) }
+    ensures { result ≡ grammar.breaks_exclude kind (path_above up.entry) }
 {
     match kind {
         Kind::Exclude => !is_in_text(up),

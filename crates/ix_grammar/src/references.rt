@@ -2,7 +2,7 @@
 ghost use Rattle.std.specs.Prelude.{◌≡◌, ◌&&◌, [], List, option_map, true, bytes_eq, codes};
 ghost use Rattle.std.specs.Option.{option_map_or, option_or};
 ghost use Rattle.ix_base.specs.Attributes.{value_of};
-ghost use Rattle.ix_base.specs.ElementRules as spec;
+ghost use Rattle.ix_base.specs.ElementRules as grammar;
 ghost use Rattle.ix_base.specs.Elements.{path_above};
 ghost use Rattle.ix_base.specs.Namespaces.{xlink_namespace, xml_namespace};
 ghost use Rattle.ix_base.specs.Readers as reader;
@@ -15,7 +15,7 @@ use value_forms::{Form, has_form};
 
 /// Whether an attribute is there with a token that isn't empty.
 fn has_some(e: &Element, ns: &str, local: &str) -> bool
-    ensures { result ≡ spec.has_some ns.now local.now (tree_of e.now) }
+    ensures { result ≡ grammar.has_some ns.now local.now (tree_of e.now) }
 {
     match attr_of(e, ns, local) {
         None => false,
@@ -38,21 +38,21 @@ fn is_simple(e: &Element) -> bool
 /// Whether an element refers to an address.
 #[tactic(auto, unfolding(ix_base::specs::Namespaces::xlink_namespace))]
 fn refers(e: &Element) -> bool
-    ensures { result ≡ spec.refers (tree_of e.now) }
+    ensures { result ≡ grammar.refers (tree_of e.now) }
 {
     has_some(e, XLINK, "href") && is_simple(e)
 }
 
 /// Whether an element refers to an address for a role.
 fn refers_for(e: &Element, local: &str) -> bool
-    ensures { result ≡ (spec.refers (tree_of e.now) && spec.has_some [] local.now (tree_of e.now)) }
+    ensures { result ≡ (grammar.refers (tree_of e.now) && grammar.has_some [] local.now (tree_of e.now)) }
 {
     refers(e) && has_some(e, "", local)
 }
 
 /// Whether a reference lacks its address or its role.
 pub fn breaks_reference(kind: Kind, e: &Element) -> bool
-    ensures { result ≡ spec.breaks_reference kind (tree_of e.now) }
+    ensures { result ≡ grammar.breaks_reference kind (tree_of e.now) }
 {
     match kind {
         Kind::SchemaRef | Kind::LinkbaseRef => !refers(e),
@@ -98,7 +98,8 @@ fn is_no_language(lang: Option<&str>) -> bool
 
 /// Whether a footnote is in no language, where this is the `xml:lang` that holds for the element.
 pub fn breaks_language(kind: Kind, lang: Option<&str>) -> bool
-    ensures { (path : List Tree) → option_map (λ s. s.now) lang.entry ≡ reader.lang_along path → result ≡ spec.breaks_language kind path }
+    ensures { (path : List Tree) → option_map (λ s. s.now) lang.entry ≡ reader.lang_along path
+        → result ≡ grammar.breaks_language kind path }
 {
     match kind {
         Kind::Footnote => is_no_language(lang),

@@ -1,6 +1,6 @@
 //! The rules of an element.
 ghost use Rattle.std.specs.Prelude.{◌≡◌, ◌++◌, OnOk, OnErr, IfOk, option_map};
-ghost use Rattle.ix_base.specs.ElementRules as spec;
+ghost use Rattle.ix_base.specs.ElementRules as grammar;
 ghost use Rattle.ix_base.specs.ElementRules.{found};
 ghost use Rattle.ix_base.specs.Elements.{placed, path_of, place_of};
 ghost use Rattle.ix_base.specs.Kinds.{kind_of as spec_kind_of};
@@ -34,7 +34,7 @@ pub(crate) struct Subject<'a> {
 
 /// The rules of elements, in the order of their table.
 fn element_rules() -> &'static [Rule]
-    ensures { result.now ≡ spec.element_rules }
+    ensures { result.now ≡ grammar.element_rules }
 {
     &[
         Rule::N1,
@@ -65,7 +65,7 @@ fn element_rules() -> &'static [Rule]
 /// Whether an element breaks a rule of elements. It breaks no other rule.
 fn breaks(alloc: Global, rule: Rule, of: &Subject<'_>) -> Result<bool, NoMemory>
     requires { option_map (λ s. s.now) of.now.lang ≡ spec_lang_along (path_of (placed of.now.spot.now)) }
-    ensures { IfOk result (λ b. b ≡ spec.breaks_as of.now.kind (placed of.now.spot.now) rule) }
+    ensures { IfOk result (λ b. b ≡ grammar.breaks_as of.now.kind (placed of.now.spot.now) rule) }
 {
     let kind = of.kind;
     let e = of.spot.element;

@@ -1,4 +1,4 @@
-//! Why a call of the system failed.
+//! Causes of failed calls.
 ghost use Rattle.std.specs.Prelude.{◌≡◌};
 ghost use Rattle.std.specs.IoError.{error_kind};
 ghost use Rattle.ixds_files.specs.Causes.{cause_of, cause_text};

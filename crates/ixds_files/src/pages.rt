@@ -1,4 +1,4 @@
-//! Pages that are files.
+//! The pages of the program.
 ghost use Rattle.std.specs.Prelude.{◌≡◌, ◌≤◌, ◌<◌, ◌++◌, ◌∷◌, [], length, take, ℕ, List, Option, IfOk, OnErr, None, option_map};
 ghost use Rattle.std.specs.Io.KnownBytes.{Consumes, IsAtEnd, Keeps};
 ghost use Rattle.ix_base.specs.declared.limits.TheConstants.{LONGEST_NAME};

@@ -1,4 +1,4 @@
-//! The folders and files of the system.
+//! The file system of the program.
 ghost use Rattle.std.specs.Prelude.{◌≡◌};
 
 use crate::folder::Folder;

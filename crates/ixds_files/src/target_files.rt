@@ -1,4 +1,4 @@
-//! Targets that are files.
+//! The targets of the program.
 ghost use Rattle.std.specs.Prelude.{◌≡◌, ◌+◌, [], IfOk, IfSome, IsTrue, None, OnErr, OnOk, is_some, length};
 ghost use Rattle.ixds_files.specs.Parts.{LooksAtMost, cleared};
 ghost use Rattle.ixds_files.specs.TargetCalls.{IsOpened};

@@ -7,8 +7,7 @@ use Rattle.instance_out.specs.Canonical.{canon, canon_lines}
 use Rattle.instance_out.specs.Theorem.{IsReadBack}
 use Rattle.command_words.specs.Commands.{dir_of, number_of}
 use Rattle.ixds_run.specs.Rearrangement.{IsRearranged}
-use Rattle.ixds_run.specs.Summary.{summary_of}
-use Rattle.ixds_run.specs.Texts.{breach_line, sample_text}
+use Rattle.ixds_run.specs.Texts.{breach_line, sample_text, summary_of}
 use Rattle.command_words.specs.declared.command.Command.{Command}
 use Rattle.ixds_run.specs.declared.status.Status.{Status}
 use Rattle.ixds_run.specs.declared.status.Status.TheVariants as status

@@ -3,13 +3,12 @@ use Rattle.std.specs.Prelude.{◌≡◌, ℕ, ◌≤◌, ◌<◌, All, true, fal
 use Rattle.std.specs.Prelude.{Option, Some, None, IfSome, option_map, Result, Ok, Err, IfOk, IfErr, OnOk}
 use Rattle.std.specs.List.{concat, list_any}
 use Rattle.ix_base.specs.declared.NoMemory.{NoMemory}
-use Rattle.ix_base.specs.declared.limits.TheConstants.{LONGEST_NAME}
+use Rattle.ix_base.specs.declared.limits.TheConstants.{LONGEST_NAME, MOST_BYTES_PUT}
 use Rattle.page_session.specs.Course.{AreTold, Course, Standing, StandsAs, course, course_from, names_read, names_read_from, with_check}
 use Rattle.page_session.specs.HandedPages.{Handed}
 use Rattle.page_session.specs.Script.{is_extract}
 use Rattle.page_session.specs.Sessions.{IsWithin, base_of}
 use Rattle.page_session.specs.Sources.{IsTelling, Source, told}
-use Rattle.page_session.specs.declared.limits.TheConstants.{MOST_BYTES_PUT}
 use Rattle.page_session.specs.declared.script.Line.{Line}
 use Rattle.page_session.specs.declared.script.Line.TheVariants as line
 use Rattle.page_session.specs.declared.script.ScriptLine.{ScriptLine}

@@ -1,14 +1,18 @@
 -- The texts that `out` takes, each line with its line feed.
-use Rattle.std.specs.Prelude.{ℕ, Bool, true, false, List, [], ◌∷◌, ◌++◌, codes}
+use Rattle.std.specs.Prelude.{ℕ, Bool, true, false, List, [], ◌∷◌, ◌++◌, length, codes}
 use Rattle.std.specs.Fmt.{decimal}
 use Rattle.std.specs.List.{flat_map}
 use Rattle.fact_trace.specs.declared.span.Span.{Span}
 use Rattle.fact_trace.specs.declared.span.Traced.{Traced}
 use Rattle.ix_base.specs.Breaches.{class_of}
+use Rattle.ix_base.specs.Facts.{Facts, facts_of}
 use Rattle.ix_base.specs.Rules.{code_of as rule_code, text_of as rule_text}
 use Rattle.ix_base.specs.declared.breach.Breach.{Breach}
 use Rattle.ix_base.specs.declared.breach.Class.{Class}
 use Rattle.ix_base.specs.declared.breach.Class.TheVariants as class
+use Rattle.ix_base.specs.declared.content.Content.{Content}
+use Rattle.ixds_run.specs.Summary.{item_count, note_ids, tuple_count}
+use Rattle.targets.specs.declared.outcome.Target.{Target}
 
 -- how the program is used
 unfoldable pub usage_text : List ℕ
@@ -46,6 +50,34 @@ item_text t = t.page ++ 58 ∷ (decimal t.offset ++ (codes " {" ++ (t.name.ns ++
 -- its line, with where its text stands
 abbrev pub trace_line : Traced → List ℕ
 trace_line t = item_text t ++ 58 ∷ (spans_text t.nil t.spans ++ 10 ∷ [])
+
+-- the name of a target, as it is shown
+abbrev pub shown_name : List ℕ → List ℕ
+shown_name [] = codes "(default)"
+shown_name (c ∷ cs) = c ∷ cs
+
+-- a number, and what is counted
+abbrev pub count : ℕ → List ℕ → List ℕ
+count n what = decimal n ++ what
+
+-- how many items and tuples there are
+abbrev pub facts_text : Facts → List ℕ
+facts_text facts = count (item_count facts) (codes " facts, ") ++ count (tuple_count facts) (codes " tuples, ")
+
+-- how many contexts, units and footnotes a content has
+abbrev pub others_text : Content → List ℕ
+others_text c =
+    count (length c.contexts) (codes " contexts, ")
+    ++ (count (length c.units) (codes " units, ") ++ count (length (note_ids c.notes)) (codes " footnotes\n"))
+
+-- the line of a target
+abbrev pub summary_line : Target → List ℕ
+summary_line t = shown_name t.name ++ (codes ": " ++ (facts_text (facts_of t.content.facts) ++ others_text t.content))
+
+-- the lines of the summary
+unfoldable pub summary_of : List Target → List ℕ
+summary_of [] = codes "no targets\n"
+summary_of (t ∷ ts) = flat_map summary_line (t ∷ ts)
 
 -- the line of the number of a sample, and that of the length of its instance
 abbrev pub number_line : ℕ → List ℕ

@@ -1,4 +1,4 @@
-//! A page that is being read.
+//! Reading a page piece by piece.
 ghost use Rattle.std.specs.Prelude.{◌≡◌, []};
 ghost use Rattle.ix_base.specs.declared.limits.TheConstants.{DEEPEST_ELEMENT};
 ghost use Rattle.page_tree.specs.Model.{limit, page_number};

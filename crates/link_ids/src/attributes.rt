@@ -3,7 +3,7 @@ ghost use Rattle.std.specs.Prelude.{◌≡◌, flat_map, option_map};
 ghost use Rattle.ix_base.specs.Kinds.{kind_of as spec_kind_of};
 ghost use Rattle.ix_base.specs.LocatedElements.{Located};
 ghost use Rattle.ix_base.specs.Trees.{tree_of};
-ghost use Rattle.link_ids.specs.LinkAttributes as spec;
+ghost use Rattle.link_ids.specs.LinkAttributes as link_attributes;
 ghost use Rattle.link_ids.specs.Links.{links_of};
 
 use ix_base::{Element, Kind, attr_of, token_at};
@@ -21,7 +21,7 @@ pub enum LinkAttribute {
 
 /// The attributes by which an element of a kind links: what they name are all of its links.
 pub fn attributes_of(kind: Kind) -> &'static [LinkAttribute]
-    ensures { (e : Located) → spec_kind_of e.placed ≡ kind → flat_map (λ a. spec.links_in a e) result.now ≡ links_of e }
+    ensures { (e : Located) → spec_kind_of e.placed ≡ kind → flat_map (λ a. link_attributes.links_in a e) result.now ≡ links_of e }
 {
     match kind {
         Kind::NonNumeric => &[
@@ -43,7 +43,7 @@ pub fn attributes_of(kind: Kind) -> &'static [LinkAttribute]
 
 /// What an attribute that names one id says.
 pub fn single_at<'a>(attribute: LinkAttribute, e: &Element<'a>) -> Option<&'a str>
-    ensures { option_map (λ s. s.now) result ≡ spec.single_in attribute (tree_of e.now) }
+    ensures { option_map (λ s. s.now) result ≡ link_attributes.single_in attribute (tree_of e.now) }
 {
     match attribute {
         LinkAttribute::ContinuedAt => token_at(e, "continuedAt"),
@@ -56,7 +56,7 @@ pub fn single_at<'a>(attribute: LinkAttribute, e: &Element<'a>) -> Option<&'a st
 
 /// What an attribute that names a list of ids says.
 pub fn list_at<'a>(attribute: LinkAttribute, e: &Element<'a>) -> Option<&'a str>
-    ensures { option_map (λ s. s.now) result ≡ spec.list_in attribute (tree_of e.now) }
+    ensures { option_map (λ s. s.now) result ≡ link_attributes.list_in attribute (tree_of e.now) }
 {
     match attribute {
         LinkAttribute::FromRefs => attr_of(e, "", "fromRefs"),

@@ -1,7 +1,7 @@
 //! The ids by which elements are found, and those at which they go on or belong to a tuple. None takes memory.
 ghost use Rattle.std.specs.Prelude.{◌≡◌, option_map};
 ghost use Rattle.ix_base.specs.Chain.{continued_at as spec_continued_at};
-ghost use Rattle.ix_base.specs.Ids as spec;
+ghost use Rattle.ix_base.specs.Ids as ids;
 ghost use Rattle.ix_base.specs.LocatedElements.{located};
 ghost use Rattle.ix_base.specs.Membership.{tuple_ref_of};
 
@@ -9,14 +9,14 @@ use ix_base::{Spot, is_tuple, may_go_on, token_at};
 
 /// The id of an element.
 pub fn id_at<'a>(spot: &Spot<'a>) -> Option<&'a str>
-    ensures { option_map (λ s. s.now) result ≡ spec.id_of (located spot.now) }
+    ensures { option_map (λ s. s.now) result ≡ ids.id_of (located spot.now) }
 {
     token_at(spot.element, "id")
 }
 
 /// The tuple id of a tuple.
 pub fn tuple_id_at<'a>(spot: &Spot<'a>) -> Option<&'a str>
-    ensures { option_map (λ s. s.now) result ≡ spec.tuple_id_of (located spot.now) }
+    ensures { option_map (λ s. s.now) result ≡ ids.tuple_id_of (located spot.now) }
 {
     if !is_tuple(spot) {
         return None;

@@ -5,7 +5,7 @@ ghost use Rattle.ix_base.specs.Forms.{words_of};
 ghost use Rattle.ix_base.specs.LinkRules as rules_of;
 ghost use Rattle.ix_base.specs.LocatedElements.{located};
 ghost use Rattle.ix_base.specs.Trees.{tree_of};
-ghost use Rattle.link_ids.specs.LinkAttributes as spec;
+ghost use Rattle.link_ids.specs.LinkAttributes as link_attributes;
 
 use crate::attributes::{LinkAttribute, list_at};
 use crate::words::words_in;
@@ -18,7 +18,7 @@ fn words_at<'a>(
     attribute: LinkAttribute,
     e: &Element<'a>,
 ) -> Result<Vec<&'a str>, NoMemory>
-    ensures { IfOk result (λ v. map (λ s. s.now) v.items ≡ option_map_or words_of (spec.list_in attribute (tree_of e.now)) []) }
+    ensures { IfOk result (λ v. map (λ s. s.now) v.items ≡ option_map_or words_of (link_attributes.list_in attribute (tree_of e.now)) []) }
 {
     match list_at(attribute, e) {
         Some(text) => words_in(alloc, text),

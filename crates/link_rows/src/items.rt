@@ -85,7 +85,7 @@ pub(crate) fn fields(alloc: Global, cells: &[Cell]) -> Result<String> {
 }
 
 /// Refuses pages of which two elements have one id, or two tuples one tuple id.
-fn ensure_apart(alloc: Global, index: &Index<'_>) -> Result<()>
+pub(crate) fn ensure_apart(alloc: Global, index: &Index<'_>) -> Result<()>
     requires { index.now.choices ≡ [] }
     ensures { OnOk result (AreChosen index.now) }
 {
@@ -95,23 +95,14 @@ fn ensure_apart(alloc: Global, index: &Index<'_>) -> Result<()>
     Ok(())
 }
 
-/// Adds the contexts and units that the elements of an index miss.
-fn add_missed(index: &Index<'_>, breaches: &mut Breaches) -> Result<()>
-    requires { AreChosen index.now }
-{
-    for spot in index.spots() {
-        refs_of(spot, index, breaches)?;
-    }
-    Ok(())
-}
-
 /// How many contexts and units the elements of an index miss.
 pub(crate) fn missed(alloc: Global, index: &Index<'_>) -> Result<String>
-    requires { index.now.choices ≡ [] }
+    requires { AreChosen index.now }
 {
-    ensure_apart(alloc, index)?;
     let mut breaches = Breaches::new(alloc);
-    add_missed(index, &mut breaches)?;
+    for spot in index.spots() {
+        refs_of(spot, index, &mut breaches)?;
+    }
     Ok(breaches.len().to_string(alloc)?)
 }
 

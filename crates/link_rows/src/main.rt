@@ -49,7 +49,10 @@ fn seen_in<'a>(
         "doubled_ids" => chains::doubled(alloc, index, count),
         "footnote_links" => notes::of_target(alloc, arena, index, count, word),
         "members" => members::of_first(alloc, arena, index),
-        "missed_references" => items::missed(alloc, index),
+        "missed_references" => {
+            items::ensure_apart(alloc, index)?;
+            items::missed(alloc, index)
+        }
         _ => bail!("no such table"),
     }
 }

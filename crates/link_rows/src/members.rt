@@ -3,7 +3,7 @@ ghost use Rattle.std.specs.Prelude.{◌≡◌, true};
 ghost use Rattle.std.specs.List.{list_all};
 ghost use Rattle.ix_base.specs.LocatedElements.{located};
 ghost use Rattle.ix_base.specs.Membership.{order_of};
-ghost use Rattle.tuples.specs.OrderNumbers.{fits, is_number};
+ghost use Rattle.tuples.specs.OrderNumbers.{fits, is_order_number};
 
 use anyhow::{Result, ensure};
 use bumpalo::Bump;
@@ -14,7 +14,7 @@ use tuples::{Members, membership};
 use value_forms::{Form, has_form};
 
 fn has_number(spot: &Spot<'_>) -> bool
-    ensures { result ≡ is_number (order_of (located spot.now)) }
+    ensures { result ≡ is_order_number (order_of (located spot.now)) }
 {
     match attr_of(spot.element, "", "order") {
         Some(value) => has_form(Form::Order, value),

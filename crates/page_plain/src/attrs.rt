@@ -5,7 +5,7 @@ ghost use Rattle.ix_base.specs.Spaces.{AreNumbered, space_of};
 ghost use Rattle.ix_base.specs.Trees.{named, valued};
 ghost use Rattle.ix_base.specs.WrittenMarkup.{attrs_text};
 ghost use Rattle.page_tree.specs.FineMarkup.{declaring};
-ghost use Rattle.page_plain.specs.Bare as spec;
+ghost use Rattle.page_plain.specs.Bare as plain;
 ghost use Rattle.page_plain.specs.SpaceNumbers.{attr_spaces};
 
 use crate::names::is_inline;
@@ -17,7 +17,7 @@ use std::alloc::Global;
 /// Appends a local name behind the prefix of this number.
 fn push_qualified(alloc: Global, number: usize, local: &str, out: &mut Text) -> Result<(), NoMemory>
     requires { 0 < number }
-    ensures { OnOk result (out.new ≡ out.old ++ spec.qualified (Some (spec.prefix_at number)) local.now) }
+    ensures { OnOk result (out.new ≡ out.old ++ plain.qualified (Some (plain.prefix_at number)) local.now) }
 {
     push_prefix(alloc, number, out)?;
     out.push(":")?;
@@ -33,7 +33,7 @@ fn push_name(
     out: &mut Text,
 ) -> Result<(), NoMemory>
     requires { AreNumbered (space_of name.now ∷ prefixes.now.spaces) }
-    ensures { OnOk result (out.new ≡ out.old ++ spec.attr_name (spec.numbered 1 prefixes.now.texts) (named name.now)) }
+    ensures { OnOk result (out.new ≡ out.old ++ plain.attr_name (plain.numbered 1 prefixes.now.texts) (named name.now)) }
 {
     if name.ns.is_empty() {
         return out.push(name.local);
@@ -66,7 +66,7 @@ fn push_attr(
 ) -> Result<(), NoMemory>
     requires { AreNumbered (space_of attr.now.name ∷ prefixes.now.spaces) }
     ensures { OnOk result (out.new ≡ out.old
-        ++ attrs_text (spec.attr_in (spec.numbered 1 prefixes.now.texts) (valued attr.now) ∷ []) []) }
+        ++ attrs_text (plain.attr_in (plain.numbered 1 prefixes.now.texts) (valued attr.now) ∷ []) []) }
 {
     out.push(" ")?;
     push_name(alloc, prefixes, &attr.name, out)?;
@@ -75,7 +75,7 @@ fn push_attr(
 
 /// Appends the declarations of the prefixes of these namespaces.
 fn push_declarations(alloc: Global, spaces: &[&str], out: &mut Text) -> Result<(), NoMemory>
-    ensures { OnOk result (out.new ≡ out.old ++ attrs_text (map declaring (spec.numbered 1 (map (λ s. s.now) spaces.now))) []) }
+    ensures { OnOk result (out.new ≡ out.old ++ attrs_text (map declaring (plain.numbered 1 (map (λ s. s.now) spaces.now))) []) }
 {
     let mut number = 1;
     for space in spaces {
@@ -97,7 +97,7 @@ fn push_attrs(
 ) -> Result<(), NoMemory>
     requires { AreNumbered (prefixes.now.spaces ++ attr_spaces attrs.now) }
     ensures { OnOk result (out.new ≡ out.old
-        ++ attrs_text (map (spec.attr_in (spec.numbered 1 prefixes.now.texts)) (spec.kept_attrs (map valued attrs.now))) []) }
+        ++ attrs_text (map (plain.attr_in (plain.numbered 1 prefixes.now.texts)) (plain.kept_attrs (map valued attrs.now))) []) }
 {
     for attr in attrs {
         if !is_inline(attr) {
@@ -117,8 +117,8 @@ pub(crate) fn push_declared(
     out: &mut Text,
 ) -> Result<(), NoMemory>
     requires { AreNumbered (prefixes.now.spaces ++ attr_spaces attrs.now) }
-    ensures { OnOk result (out.new ≡ out.old ++ attrs_text (map declaring (spec.numbered 1 (map (λ s. s.now) declared.now))
-        ++ map (spec.attr_in (spec.numbered 1 prefixes.now.texts)) (spec.kept_attrs (map valued attrs.now))) []) }
+    ensures { OnOk result (out.new ≡ out.old ++ attrs_text (map declaring (plain.numbered 1 (map (λ s. s.now) declared.now))
+        ++ map (plain.attr_in (plain.numbered 1 prefixes.now.texts)) (plain.kept_attrs (map valued attrs.now))) []) }
 {
     push_declarations(alloc, declared, out)?;
     push_attrs(alloc, prefixes, attrs, out)

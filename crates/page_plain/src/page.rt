@@ -5,7 +5,7 @@ ghost use Rattle.ix_base.specs.Spaces.{AreNumbered, IsOuter, space_of, spaces_in
 ghost use Rattle.ix_base.specs.Trees.{before, nodes_of, none, tree_of};
 ghost use Rattle.ix_base.specs.WrittenMarkup.{attrs_text};
 ghost use Rattle.ix_base.specs.Sound.{IsSoundRoot};
-ghost use Rattle.page_plain.specs.Bare as spec;
+ghost use Rattle.page_plain.specs.Bare as plain;
 ghost use Rattle.page_plain.specs.SpaceNumbers.{IsWithin};
 ghost use Rattle.page_plain.specs.Theorem.{IsPageOf};
 ghost use Rattle.page_plain.specs.Parts.{element_bytes, is_short, is_silent, kept_bytes, node_bytes, open_bytes, rest_bytes};
@@ -70,7 +70,7 @@ fn push_open(
 ) -> Result<(), NoMemory>
     requires { IsWithin around prefixes.now.spaces (spaces_of element.now) }
     ensures { OnOk result (out.new ≡ out.old
-        ++ open_bytes (spec.numbered 1 (map (λ s. s.now) declared.now)) (spec.numbered 1 prefixes.now.texts) around.entry.ns.now
+        ++ open_bytes (plain.numbered 1 (map (λ s. s.now) declared.now)) (plain.numbered 1 prefixes.now.texts) around.entry.ns.now
         (tree_of element.now).head) }
 {
     out.push("<")?;
@@ -90,7 +90,7 @@ fn push_rest(
     requires { AreNumbered (prefixes.now.spaces ++ spaces_of element.now) }
     ensures { OnOk result (out.new ≡ out.old
         ++ rest_bytes (is_short (tree_of element.now)) (tree_of element.now).head.name.local
-        (node_bytes (spec.numbered 1 prefixes.now.texts) (tree_of element.now).head.name.ns (tree_of element.now).children)) }
+        (node_bytes (plain.numbered 1 prefixes.now.texts) (tree_of element.now).head.name.ns (tree_of element.now).children)) }
 {
     if ends_short(element.name) && are_silent(element.children) {
         return out.push("/>");
@@ -118,7 +118,7 @@ fn push_element(
 ) -> Result<(), NoMemory>
     requires { IsWithin around prefixes.now.spaces (spaces_of element.now) }
     ensures { OnOk result (out.new ≡ out.old
-        ++ element_bytes (spec.numbered 1 prefixes.now.texts) around.entry.ns.now (tree_of element.now)) }
+        ++ element_bytes (plain.numbered 1 prefixes.now.texts) around.entry.ns.now (tree_of element.now)) }
 {
     if is_dropped(element) {
         return Ok(());
@@ -141,7 +141,7 @@ fn push_nodes(
 ) -> Result<(), NoMemory>
     requires { IsWithin around prefixes.now.spaces (flat_map spaces_in nodes.now) }
     ensures { OnOk result (out.new ≡ out.old
-        ++ node_bytes (spec.numbered 1 prefixes.now.texts) around.entry.ns.now (nodes_of nodes.now)) }
+        ++ node_bytes (plain.numbered 1 prefixes.now.texts) around.entry.ns.now (nodes_of nodes.now)) }
 {
     for node in nodes {
         match node {
@@ -161,7 +161,7 @@ fn push_root(
 ) -> Result<(), NoMemory>
     requires { AreNumbered (prefixes.now.spaces ++ spaces_of root.now) }
     ensures { OnOk result (out.new ≡ out.old
-        ++ kept_bytes (spec.numbered 1 prefixes.now.texts) (spec.numbered 1 prefixes.now.texts) [] (tree_of root.now)) }
+        ++ kept_bytes (plain.numbered 1 prefixes.now.texts) (plain.numbered 1 prefixes.now.texts) [] (tree_of root.now)) }
 {
     push_open(
         alloc,
@@ -180,10 +180,10 @@ fn push_root(
 /// logarithm for each attribute, and with the bytes of the answer. Namespaces are compared by their numbers; only the
 /// different ones of attributes are put in order by their texts, each once.
 pub fn plain_page(alloc: Global, root: &Element<'_>) -> Result<Text, NoMemory>
-    requires kept { spec.is_inline (tree_of root.now).head.name ≡ false }
+    requires kept { plain.is_inline (tree_of root.now).head.name ≡ false }
     requires sound { (page : ℕ) × IsSoundRoot root.now page 256 }
-    ensures text { IfOk result (λ t. t ≡ spec.spell (spec.bare (tree_of root.now))) }
-    ensures page { IfOk result (λ t. IsPageOf t (spec.bare (tree_of root.now))) }
+    ensures text { IfOk result (λ t. t ≡ plain.spell (plain.bare (tree_of root.now))) }
+    ensures page { IfOk result (λ t. IsPageOf t (plain.bare (tree_of root.now))) }
 {
     let met = spaces_below(alloc, root)?;
     let prefixes = Prefixes::of(alloc, &met)?;

@@ -1,8 +1,8 @@
-//! The namespaces of the attributes that are kept.
+//! Which prefixes a plain page declares.
 ghost use Rattle.std.specs.Prelude.{◌++◌, [], IfOk, OnOk, flat_map, map};
 ghost use Rattle.ix_base.specs.Spaces.{AreNumbered, spaces_in, spaces_of};
 ghost use Rattle.ix_base.specs.Trees.{nodes_of, tree_of, valued};
-ghost use Rattle.page_plain.specs.Bare as spec;
+ghost use Rattle.page_plain.specs.Bare as plain;
 ghost use Rattle.page_plain.specs.SpaceNumbers.{Meets, attr_spaces, spaces_met};
 ghost use Rattle.page_plain.specs.Parts.{element_spaces, node_spaces};
 
@@ -15,7 +15,7 @@ use std::collections::BTreeMap;
 fn add_attrs<'a>(attrs: &[Attr<'a>], met: &mut BTreeMap<usize, &'a str>) -> Result<(), NoMemory>
     requires { AreNumbered (spaces_met met.old ++ attr_spaces attrs.now) }
     ensures { OnOk result (Meets (spaces_met met.old) (attr_spaces attrs.now)
-        (spec.attr_spaces (spec.kept_attrs (map valued attrs.now))) (spaces_met met.new)) }
+        (plain.attr_spaces (plain.kept_attrs (map valued attrs.now))) (spaces_met met.new)) }
 {
     for attr in attrs {
         if is_prefixed(attr) {

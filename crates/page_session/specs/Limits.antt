@@ -1,6 +1,6 @@
 -- How much a session may read.
 use Rattle.std.specs.Prelude.{ℕ, Bool, ◌&&◌, nat_le, ◌<◌, ◌⊎◌}
-use Rattle.page_session.specs.declared.limits.TheConstants.{MOST_BYTES_PUT, MOST_TAGS_PUT}
+use Rattle.ix_base.specs.declared.limits.TheConstants.{MOST_BYTES_PUT, MOST_TAGS_PUT}
 
 -- all pages that were put, replaced and dropped ones too, may have so many bytes together, of which so many are `<`
 abbrev pub may_hold : ℕ → ℕ → Bool

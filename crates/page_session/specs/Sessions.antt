@@ -2,7 +2,7 @@
 use Rattle.std.specs.Prelude.{◌≡◌, ℕ, suc, ◌+◌, ◌≤◌, ◌<◌, List, [], ◌∷◌, ◌++◌, length, map, Option, IfSome, Result, Err, Some, None}
 use Rattle.ix_base.specs.Trees.{Tree}
 use Rattle.ix_base.specs.declared.breach.Found.{Found}
-use Rattle.ix_base.specs.declared.limits.TheConstants.{DEEPEST_ELEMENT}
+use Rattle.ix_base.specs.declared.limits.TheConstants.{DEEPEST_ELEMENT, MOST_BYTES_PUT, MOST_TAGS_PUT}
 use Rattle.page_tree.specs.Break.{fault, w}
 use Rattle.page_tree.specs.Page.{page}
 use Rattle.targets.specs.Breaches.{all_tags_in, bytes_in, on_page, tags_in}
@@ -11,7 +11,6 @@ use Rattle.page_session.specs.Limits.{Passes}
 use Rattle.page_session.specs.declared.kept.Held.{Held}
 use Rattle.page_session.specs.declared.kept.Held.TheVariants as held
 use Rattle.page_session.specs.declared.kept.Kept.{Kept}
-use Rattle.page_session.specs.declared.limits.TheConstants.{MOST_BYTES_PUT, MOST_TAGS_PUT}
 use Rattle.page_session.specs.declared.put.PutFault.{PutFault}
 use Rattle.page_session.specs.declared.put.PutFault.TheVariants as put
 use Rattle.page_session.specs.declared.session.Session.{Session}

@@ -12,7 +12,6 @@
 mod answer;
 mod kept;
 pub mod laws;
-pub mod limits;
 pub mod made;
 mod put;
 pub mod reading;

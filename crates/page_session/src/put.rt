@@ -8,11 +8,10 @@ ghost use Rattle.page_session.specs.Sessions.{IsHeld, OfPage};
 ghost use Rattle.page_session.specs.Sources.{source_told};
 
 use crate::kept::{Held, held_of};
-use crate::limits::{MOST_BYTES_PUT, MOST_TAGS_PUT};
 use crate::reading::{ReadError, Sums, buffer, read_page};
 use bumpalo::Bump;
 use ix_base::PageSource;
-use ix_base::limits::DEEPEST_ELEMENT;
+use ix_base::limits::{DEEPEST_ELEMENT, MOST_BYTES_PUT, MOST_TAGS_PUT};
 use page_tree::TreeBuilder;
 use std::alloc::Global;
 use thiserror::Error;

@@ -1,6 +1,6 @@
 //! Scripts of a session.
 ghost use Rattle.std.specs.Prelude.{◌≡◌, ◌==◌, IfOk, position};
-ghost use Rattle.page_session.specs.Script as spec;
+ghost use Rattle.page_session.specs.Script as scripts;
 
 use ix_base::limits::LONGEST_SCRIPT;
 use ix_base::{List, NoMemory, Text};
@@ -38,7 +38,7 @@ pub enum Script {
 
 impl Line {
     fn is_extract(&self) -> bool
-        ensures { result ≡ spec.is_extract self.now }
+        ensures { result ≡ scripts.is_extract self.now }
     {
         match self {
             Line::Extract => true,
@@ -49,7 +49,7 @@ impl Line {
 
 /// A name that may name a page.
 fn page_name(alloc: Global, name: &str) -> Result<Option<Text>, NoMemory>
-    ensures { IfOk result (λ name'. name' ≡ spec.page_name name.now) }
+    ensures { IfOk result (λ name'. name' ≡ scripts.page_name name.now) }
 {
     if !is_page_name(name) {
         return Ok(None);
@@ -60,7 +60,7 @@ fn page_name(alloc: Global, name: &str) -> Result<Option<Text>, NoMemory>
 
 /// The line that a text is, if it has one of the four forms.
 fn line_in(alloc: Global, text: &str) -> Result<Option<Line>, NoMemory>
-    ensures { IfOk result (λ line. line ≡ spec.line_in text.now) }
+    ensures { IfOk result (λ line. line ≡ scripts.line_in text.now) }
 {
     if text == "check" {
         return Ok(Some(Line::Check));
@@ -79,7 +79,7 @@ fn line_in(alloc: Global, text: &str) -> Result<Option<Line>, NoMemory>
 
 /// The line that these bytes are, if they are a good one.
 fn good_line(alloc: Global, bytes: &[u8], is_last: bool) -> Result<Option<Line>, NoMemory>
-    ensures { IfOk result (λ line. line ≡ spec.good_line is_last bytes.now) }
+    ensures { IfOk result (λ line. line ≡ scripts.good_line is_last bytes.now) }
 {
     let Ok(text) = str::from_utf8(bytes) else {
         return Ok(None);
@@ -102,7 +102,7 @@ fn line_feed_in(bytes: &[u8]) -> Option<usize>
 
 /// What a script says.
 pub fn parse(alloc: Global, script: &[u8]) -> Result<Script, NoMemory>
-    ensures { IfOk result (λ said. said ≡ spec.script_of script.now) }
+    ensures { IfOk result (λ said. said ≡ scripts.script_of script.now) }
 {
     if script.len() > LONGEST_SCRIPT {
         return Ok(Script::Bad(LONGEST_SCRIPT as u64));

@@ -6,7 +6,8 @@ use Rattle.std.proofs.lemmas.Bool.Decides.{nat_tests}
 use Rattle.bstr.specs.Utf8.{Decoded, decoded, decoded_by, bad, good, second, continues, code_of_2, code_of_3, code_of_4}
 use Rattle.bstr.proofs.lemmas.PieceLemmas.{piece-bounds}
 use Rattle.page_text.specs.Characters.{mark, Scan, scan_on, scan_from, scan, unified, chars, begun}
-use Rattle.page_text.specs.Fronts.{front_on, is_allowed, is_part}
+use Rattle.ix_base.specs.NcName.{is_allowed}
+use Rattle.page_text.specs.Fronts.{front_on, is_part}
 use Rattle.page_text.specs.Order.{AreInOrder}
 use Rattle.page_text.specs.Model.{Reading, after, seen, due_on, due}
 use Rattle.page_text.specs.declared.Mark.{Mark}
@@ -105,7 +106,7 @@ scan-in-order (suc n) w at (b ∷ bs) to h =
       by_char rest g (Some c) e = by_allowed rest g c e (is_allowed c) refl
 
 unified-in-order : (cr : Bool) (at to : ℕ) (ms : List Mark) → AreInOrder at to ms → AreInOrder at to (unified cr ms)
-unfolding unified
+unfolding unified is_allowed
 unified-in-order cr at to [] g = tt
 unified-in-order cr at to (m ∷ ms) g = by_return (unified (m.ch == 0xD) ms) (unified-in-order (m.ch == 0xD) (m.offset + len_utf8 m.ch) to ms g.3) (m.ch == 0xD) refl where
   gone : (rest : List Mark) → AreInOrder (m.offset + len_utf8 m.ch) to rest → AreInOrder at to rest

@@ -4,7 +4,8 @@ use Rattle.bstr.specs.Utf8.{decoded}
 use Rattle.bstr.proofs.lemmas.PieceLemmas.{piece-bounds}
 use Rattle.bstr.proofs.lemmas.SoundLemmas.{SpellsChar-decoded}
 use Rattle.page_text.specs.Characters.{mark, scan}
-use Rattle.page_text.specs.Fronts.{front, front_on, is_allowed, is_part}
+use Rattle.ix_base.specs.NcName.{is_allowed}
+use Rattle.page_text.specs.Fronts.{front, front_on, is_part}
 use Rattle.page_text.specs.declared.fronts.Front.{Front}
 use Rattle.page_text.specs.declared.fronts.Front.TheVariants.{Allowed, Banned, Part, Ill}
 use Rattle.page_text.proofs.Scans.{scan-front}

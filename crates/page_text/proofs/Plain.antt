@@ -12,7 +12,8 @@ use Rattle.std.specs.Str.{encode_utf8_all}
 use Rattle.bstr.specs.Utf8.{decoded, good}
 use Rattle.bstr.proofs.lemmas.EncodeLemmas.{decoded-encode}
 use Rattle.page_text.specs.Characters.{scan_on, scan, unified}
-use Rattle.page_text.specs.Fronts.{is_allowed, front_on}
+use Rattle.ix_base.specs.NcName.{is_allowed}
+use Rattle.page_text.specs.Fronts.{front_on}
 use Rattle.page_text.specs.Plain.{is_plain, are_plain, marks_from}
 use Rattle.page_text.specs.Model.{Reading, ends_in_cr, after_on, after, due}
 use Rattle.page_text.specs.declared.TextFault.{TextFault}
@@ -21,6 +22,7 @@ use Rattle.page_text.proofs.Scans.{scan-nil, scan-step}
 -- ---- allowed characters
 
 allowed-scalar : (c : ℕ) → is_allowed c ≡ true → IsScalar c
+unfolding is_allowed
 allowed-scalar c h = elim (parted c h) as (λ x. IsScalar c) [
   | inl l ↦ rw (lt-ltb c 0xD800 l) refl
   | inr l ↦ by_low (ltb c 0xD800) (lt-ltb c 0x110000 l.1) (le-leb 0xE000 c l.0)

@@ -10,14 +10,17 @@ use Rattle.std.specs.List.{list_all}
 use Rattle.std.specs.Str as str
 use Rattle.std.specs.Str.{IsUtf8, encode_utf8_all, all_scalars}
 use Rattle.std.specs.Char.{IsScalar, encode_utf8}
+use Rattle.ix_base.specs.NcName.{is_allowed}
 use Rattle.page_text.specs.Plain.{is_plain, are_plain, is_clear}
 
 -- a character of one byte
 one-plain : (c : ℕ) → is_clear c ≡ true → c < 0x80 → is_plain c ≡ true
+unfolding is_allowed
 one-plain c h low = grind (arith, nat_tests)
 
 -- one of more bytes, none of which is 0xEF
 more-plain : (c : ℕ) → (c < 0xD800) ⊎ ((0xE000 ≤ c) × (c < 0x110000)) → 0x80 ≤ c → (c < 0xF000) ⊎ (0x10000 ≤ c) → is_plain c ≡ true
+unfolding is_allowed
 more-plain c s more out = grind (arith, nat_tests)
 
 -- one that begins with 0xEF

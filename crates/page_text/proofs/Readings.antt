@@ -6,7 +6,8 @@ use Rattle.std.proofs.Math.Seq.{take-suc, take-append_seam, take-length, drop-le
 use Rattle.std.proofs.Math.ListN.{length-set}
 use Rattle.bstr.specs.Utf8.{decoded}
 use Rattle.bstr.proofs.lemmas.PieceLemmas.{piece-bounds, value-1}
-use Rattle.page_text.specs.Fronts.{is_allowed, is_part, front, front_on}
+use Rattle.ix_base.specs.NcName.{is_allowed}
+use Rattle.page_text.specs.Fronts.{is_part, front, front_on}
 use Rattle.page_text.specs.Characters.{Scan, mark, no_marks, scan_on, scan_from, scan, shown, unified, chars, stop, begun, first_break}
 use Rattle.page_text.specs.Model.{Reading, ends_in_cr, begin, reading_of, Stands, seen, after_on, after, due_on, due, answer}
 use Rattle.page_text.specs.Cuts.{joined, after_all, due_all}

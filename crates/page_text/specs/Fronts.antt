@@ -1,14 +1,10 @@
 -- What stands at the front of some bytes: UTF-8 by Table 3-7 of the Unicode Standard, which is bstr's `decoded`,
--- and the characters that XML 1.0 (fifth edition), section 2.2, allows.
-use Rattle.std.specs.Prelude.{ℕ, Bool, ◌==◌, ◌&&◌, ◌||◌, nat_lt, nat_le, if◌then◌else◌, List, length, slice_index, Option, Some, None}
+-- and the characters that XML 1.0 (fifth edition), section 2.2, production 2, allows.
+use Rattle.std.specs.Prelude.{ℕ, Bool, ◌==◌, ◌&&◌, nat_lt, nat_le, if◌then◌else◌, List, length, slice_index, Option, Some, None}
 use Rattle.bstr.specs.Utf8.{decoded}
+use Rattle.ix_base.specs.NcName.{is_allowed}
 use Rattle.page_text.specs.declared.fronts.Front.{Front}
 use Rattle.page_text.specs.declared.fronts.Front.TheVariants.{Allowed, Banned, Part, Ill}
-
--- XML 1.0, production 2
-abbrev pub is_allowed : ℕ → Bool
-is_allowed c = (c == 0x9 || c == 0xA || c == 0xD)
-    || ((nat_le 0x20 c && nat_le c 0xD7FF) || (nat_le 0xE000 c && nat_le c 0xFFFD) || (nat_le 0x10000 c && nat_le c 0x10FFFF))
 
 -- bytes that are no character: all of them can begin one, which has more bytes
 abbrev pub is_part : List ℕ → Bool

@@ -1,7 +1,7 @@
 -- Characters one behind another within some bytes.
 use Rattle.std.specs.Prelude.{◌≡◌, ℕ, ◌+◌, ◌≤◌, true, List, [], ◌∷◌}
 use Rattle.std.specs.Char.{len_utf8}
-use Rattle.page_text.specs.Fronts.{is_allowed}
+use Rattle.ix_base.specs.NcName.{is_allowed}
 use Rattle.page_text.specs.declared.Mark.{Mark}
 
 -- allowed characters between these offsets, each behind the one before it

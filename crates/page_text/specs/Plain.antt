@@ -3,8 +3,8 @@ use Rattle.std.specs.Prelude.{ℕ, ◌+◌, ◌==◌, Bool, not, ◌&&◌, ◌||
 use Rattle.std.specs.Char.{len_utf8}
 use Rattle.std.specs.List.{list_all}
 use Rattle.std.specs.Str as str
+use Rattle.ix_base.specs.NcName.{is_allowed}
 use Rattle.page_text.specs.Characters.{mark}
-use Rattle.page_text.specs.Fronts.{is_allowed}
 use Rattle.page_text.specs.declared.Mark.{Mark}
 
 -- an allowed character that is neither a carriage return nor a byte order mark

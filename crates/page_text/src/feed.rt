@@ -8,8 +8,9 @@ ghost use Rattle.std.specs.Str.{chars as text_chars};
 ghost use Rattle.page_text.specs.Plain.{are_plain, marks_from};
 ghost use Rattle.page_text.specs.Growth.{Gains, GainsFront};
 
-use crate::fronts::{Front, front_of, is_allowed_char, plain_front};
+use crate::fronts::{Front, front_of, plain_front};
 use crate::{Mark, Run, TextFault};
+use ix_base::is_allowed;
 use std::alloc::AllocError;
 use std::marker::Model;
 
@@ -128,7 +129,7 @@ impl Feed {
         let ch = byte as char;
         let start = self.pushed;
         self.pushed += 1;
-        if !is_allowed_char(ch) {
+        if !is_allowed(ch) {
             self.fault = Some(TextFault::BadChar { offset: start });
             return None;
         }

@@ -1,12 +1,13 @@
-//! What stands at the front of some bytes.
+//! The first character of some bytes, and as many plain ones as are taken in one go.
 
 ghost use Rattle.std.specs.Prelude.{◌≡◌, ◌<◌, ◌≤◌, true, length, take};
 ghost use Rattle.std.specs.List.{list_all};
 ghost use Rattle.std.specs.Str.Lossy.{utf8_valid_len};
 ghost use Rattle.page_text.specs.Plain.{are_plain, is_clear};
-ghost use Rattle.page_text.specs.Fronts.{is_allowed, front};
+ghost use Rattle.page_text.specs.Fronts.{front};
 
 use bstr::decode_utf8;
+use ix_base::is_allowed;
 
 /// What stands at the front of some bytes.
 #[derive(Clone, Copy, Debug, PartialEq, Eq)]
@@ -21,13 +22,6 @@ pub(crate) enum Front {
     Ill,
 }
 
-/// The characters that XML 1.0 (fifth edition), section 2.2, allows.
-pub(crate) fn is_allowed_char(ch: char) -> bool
-    ensures { result ≡ is_allowed ch }
-{
-    matches!(ch, '\t' | '\n' | '\r' | '\u{20}'..='\u{D7FF}' | '\u{E000}'..='\u{FFFD}' | '\u{10000}'..='\u{10FFFF}')
-}
-
 /// What stands there; the bytes must not be none.
 pub(crate) fn front_of(bytes: &[u8]) -> Front
     requires { 0 < length bytes.now }
@@ -36,7 +30,7 @@ pub(crate) fn front_of(bytes: &[u8]) -> Front
 {
     let (ch, size) = decode_utf8(bytes);
     match ch {
-        Some(ch) if is_allowed_char(ch) => Front::Allowed(ch),
+        Some(ch) if is_allowed(ch) => Front::Allowed(ch),
         Some(_) => Front::Banned,
         None => {
             if bytes.len() < 4 && size == bytes.len() && 0xC2 <= bytes[0] && bytes[0] <= 0xF4 {

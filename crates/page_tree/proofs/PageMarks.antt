@@ -1,22 +1,15 @@
 -- The characters of a page make bytes of allowed characters, whose offsets rise.
 use Rattle.std.proofs.Common.{◌≡◌, ℕ, suc, ◌+◌, ◌≤◌, true, List, [], ◌∷◌, ◌++◌, length, refl, sym, ap, ◌∙◌, subst, arith, encode_utf8}
 use Rattle.std.specs.Char.{len_utf8}
-use Rattle.std.proofs.lemmas.Bool.Decides.{nat_tests}
 use Rattle.std.proofs.lemmas.List.{map-append}
 use Rattle.std.proofs.lemmas.Str.{length-encode}
-use Rattle.ix_base.specs.NcName.{is_allowed, are_allowed}
+use Rattle.ix_base.specs.NcName.{are_allowed}
 use Rattle.page_text.specs.Characters.{chars}
-use Rattle.page_text.specs.Fronts as fronts
 use Rattle.page_text.specs.Order.{AreInOrder}
 use Rattle.page_text.specs.declared.Mark.{Mark}
 use Rattle.page_text.proofs.InOrder.{page-in-order}
 use Rattle.page_constructs.specs.Constructs.{Byte, counted, spread, values, text_of}
 use Rattle.page_constructs.proofs.AllowedText.{allowed-nil, allowed-append, allowed-char}
-
--- the two say the same
-same-allowed : (c : ℕ) → fronts.is_allowed c ≡ true → is_allowed c ≡ true
-unfolding is_allowed
-same-allowed c h = grind (arith, nat_tests)
 
 -- bytes from an offset on, each behind the one before it
 abbrev pub BytesClimb : ℕ → List Byte → Type 0
@@ -46,7 +39,7 @@ spread-allowed : (at to : ℕ) (ms : List Mark) → AreInOrder at to ms → are_
 spread-allowed at to [] g = allowed-nil
 spread-allowed at to (m ∷ ms) g =
     ap are_allowed (map-append (λ u. u.value) (counted m.offset (encode_utf8 m.ch)) (spread ms) ∙ ap (λ x. x ++ values (spread ms)) (values-counted m.offset (encode_utf8 m.ch)))
-    ∙ allowed-append (encode_utf8 m.ch) (values (spread ms)) (allowed-char m.ch (same-allowed m.ch g.0)) (spread-allowed (m.offset + len_utf8 m.ch) to ms g.3)
+    ∙ allowed-append (encode_utf8 m.ch) (values (spread ms)) (allowed-char m.ch g.0) (spread-allowed (m.offset + len_utf8 m.ch) to ms g.3)
 
 pub page-climbs : (b : List ℕ) → BytesClimb 0 (text_of b)
 page-climbs b = spread-climbs 0 (length b) (chars b) (page-in-order b)

@@ -1,4 +1,4 @@
-//! Why a construct isn't built in.
+//! Refusals, by which building a tree ends.
 use ix_base::{NoMemory, Rule};
 
 /// Why a construct isn't built in.

@@ -1,4 +1,4 @@
-//! What stays the same while a page's tree is built.
+//! The setting in which a tree is built.
 use bumpalo::Bump;
 use std::alloc::Global;
 

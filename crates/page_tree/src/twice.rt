@@ -4,7 +4,7 @@ ghost use Rattle.std.specs.List.{filter_map};
 ghost use Rattle.ix_base.specs.Trees.{Bound};
 ghost use Rattle.page_constructs.specs.Model.{attribute_of};
 ghost use Rattle.page_tree.specs.Expansions.{expansion, expansion_of, known_name as known_name_of, repeats_by, named_pair};
-ghost use Rattle.page_tree.specs.Tags as spec;
+ghost use Rattle.page_tree.specs.Tags as tags;
 
 use crate::names::{Expanded, PrefixState};
 use ix_base::NoMemory;
@@ -39,7 +39,7 @@ fn known_name<'a>(expanded: &Expanded<'a>) -> Option<(&'a str, &'a str)>
 
 /// Whether two attributes have bound prefixes and one expanded name.
 fn repeats_expanded(alloc: Global, expanded: &[Expanded<'_>]) -> Result<bool, NoMemory>
-    ensures { IfOk result (λ r. r ≡ repeats_by spec.same_name (filter_map known_name_of (map expansion expanded.now))) }
+    ensures { IfOk result (λ r. r ≡ repeats_by tags.same_name (filter_map known_name_of (map expansion expanded.now))) }
 {
     let mut seen = BTreeSet::new(alloc);
     for one in expanded {
@@ -61,7 +61,7 @@ pub(crate) fn repeats(
 ) -> Result<bool, NoMemory>
     ensures { IfOk result (λ r. (scope : List Bound)
         → map expansion expanded.now ≡ filter_map (expansion_of scope) (map attribute_of attrs.now)
-        → r ≡ spec.repeats scope (map attribute_of attrs.now)) }
+        → r ≡ tags.repeats scope (map attribute_of attrs.now)) }
 {
     if attrs.len() < 2 {
         return Ok(false);

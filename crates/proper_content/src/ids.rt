@@ -6,7 +6,7 @@ ghost use Rattle.ix_base.specs.NcName.{is_ncname as is_ncname_text};
 ghost use Rattle.ix_base.specs.PlainContents.{said_of};
 ghost use Rattle.proper_texts.specs.Model.{IsHeld};
 ghost use Rattle.proper_content.specs.Notes.{note_seen};
-ghost use Rattle.instance_out.specs.Proper as spec;
+ghost use Rattle.instance_out.specs.Proper as proper;
 ghost use Rattle.instance_out.specs.Proper.{all_ids, counted_once};
 ghost use Rattle.instance_out.specs.Tables.{values_of};
 
@@ -114,7 +114,7 @@ fn are_ncnames(ids: &[&str]) -> bool
 #[tactic(auto, unfolding(instance_out::specs::Proper::ids_fit))]
 pub fn ids_fit(alloc: Global, content: &Content, held: &Held) -> Result<bool, NoMemory>
     requires { IsHeld (said_of content.now) held.now }
-    ensures { IfOk result (λ b. b ≡ spec.ids_fit (said_of content.now)) }
+    ensures { IfOk result (λ b. b ≡ proper.ids_fit (said_of content.now)) }
 {
     let ids = ids_in(alloc, content, held)?;
     if !are_ncnames(ids.as_slice()) {

@@ -9,7 +9,7 @@ ghost use Rattle.std.specs.Prelude.{◌≡◌, IfOk};
 ghost use Rattle.ix_base.specs.PlainContents.{said_of};
 ghost use Rattle.proper_content.specs.ContentTests.{first_fit, last_fit, second_fit, third_fit};
 ghost use Rattle.proper_texts.specs.Model.{IsHeld};
-ghost use Rattle.instance_out.specs.Proper as spec;
+ghost use Rattle.instance_out.specs.Proper as proper;
 
 mod among;
 mod forms;
@@ -93,7 +93,7 @@ fn has_proper_links(alloc: Global, content: &Content, held: &Held) -> Result<boo
 /// go as deep.
 #[tactic(auto, using(crate::proofs::ToldLaws::proper_told, crate::proofs::ToldLaws::tuples_missed))]
 pub fn is_proper(alloc: Global, content: &Content) -> Result<bool, NoMemory>
-    ensures { IfOk result (λ b. b ≡ spec.is_proper (said_of content.now)) }
+    ensures { IfOk result (λ b. b ≡ proper.is_proper (said_of content.now)) }
 {
     if !tuples_fit(content) {
         return Ok(false);

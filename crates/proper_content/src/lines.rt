@@ -9,7 +9,7 @@ ghost use Rattle.proper_content.specs.InOrder.{notes_in_order, parts_in_order, r
 ghost use Rattle.instance_out.specs.Canonical.{arc_line_cmp, arcrole_markup, fact_markups, line_cmp, linkbase_markup, role_markup, schema_markup};
 ghost use Rattle.instance_out.specs.Holdings.{said_spaces};
 ghost use Rattle.instance_out.specs.Lists.{rises, strictly};
-ghost use Rattle.instance_out.specs.Proper as spec;
+ghost use Rattle.instance_out.specs.Proper as proper;
 
 use crate::gathered::{Named, names_of};
 use crate::order::{never_fall, rise};
@@ -111,7 +111,7 @@ fn arcs_rise(alloc: Global, arcs: &[Arc]) -> Result<bool, NoMemory>
 /// Whether the locators, footnotes and arcs of a footnote link are in order, and stand once.
 #[tactic(auto, using(crate::proofs::OrderLaws::link_told))]
 fn is_link_in_order(alloc: Global, link: &NoteLink) -> Result<bool, NoMemory>
-    ensures { IfOk result (λ b. b ≡ spec.link_in_order link.now) }
+    ensures { IfOk result (λ b. b ≡ proper.link_in_order link.now) }
 {
     if !names_rise(alloc, link.locs.as_slice())? {
         return Ok(false);
@@ -125,7 +125,7 @@ fn is_link_in_order(alloc: Global, link: &NoteLink) -> Result<bool, NoMemory>
 
 /// Whether what each of these footnote links has is in order.
 fn are_links_in_order(alloc: Global, links: &[NoteLink]) -> Result<bool, NoMemory>
-    ensures { IfOk result (λ b. b ≡ list_all spec.link_in_order links.now) }
+    ensures { IfOk result (λ b. b ≡ list_all proper.link_in_order links.now) }
 {
     for link in links {
         if !is_link_in_order(alloc, link)? {
@@ -182,7 +182,7 @@ fn links_never_fall(alloc: Global, content: &Content) -> Result<bool, NoMemory>
 /// that of writing the lines of references and facts and the texts of arcs, and of comparing neighbours.
 #[tactic(auto, using(crate::proofs::OrderLaws::lists_told))]
 pub fn lists_fit(alloc: Global, content: &Content) -> Result<bool, NoMemory>
-    ensures { IfOk result (λ b. b ≡ spec.lists_fit (said_of content.now)) }
+    ensures { IfOk result (λ b. b ≡ proper.lists_fit (said_of content.now)) }
 {
     if !references_rise(alloc, content)? {
         return Ok(false);

@@ -5,7 +5,7 @@ ghost use Rattle.ix_base.specs.Forms.{is_canonical_decimal as is_canonical};
 ghost use Rattle.ix_base.specs.PlainContents.{said_of};
 ghost use Rattle.proper_texts.specs.Model.{IsHeld};
 ghost use Rattle.instance_out.specs.Lists.{is_within};
-ghost use Rattle.instance_out.specs.Proper as spec;
+ghost use Rattle.instance_out.specs.Proper as proper;
 ghost use Rattle.instance_out.specs.Tables.{values_of};
 
 use crate::among::{Among, have_same};
@@ -28,7 +28,7 @@ fn ends_of(alloc: Global, arcs: &[Arc]) -> Result<Vec<&str>, NoMemory>
 
 /// The ids of the locators and footnotes of a link.
 fn known_in(alloc: Global, link: &NoteLink) -> Result<Vec<&str>, NoMemory>
-    ensures { IfOk result (λ v. values_of v.items ≡ link.now.locs ++ spec.note_ids link.now) }
+    ensures { IfOk result (λ v. values_of v.items ≡ link.now.locs ++ proper.note_ids link.now) }
 {
     let mut ids = names_of(alloc, link.locs.as_slice())?;
     let mut notes = names_of(alloc, link.footnotes.as_slice())?;
@@ -38,8 +38,8 @@ fn known_in(alloc: Global, link: &NoteLink) -> Result<Vec<&str>, NoMemory>
 
 /// Whether the arcs of a link name all that it has, and nothing else.
 fn has_ends(alloc: Global, link: &NoteLink) -> Result<bool, NoMemory>
-    ensures { IfOk result (λ b. b ≡ (is_within (spec.arc_ends link.now) (link.now.locs ++ spec.note_ids link.now)
-        && is_within (link.now.locs ++ spec.note_ids link.now) (spec.arc_ends link.now))) }
+    ensures { IfOk result (λ b. b ≡ (is_within (proper.arc_ends link.now) (link.now.locs ++ proper.note_ids link.now)
+        && is_within (link.now.locs ++ proper.note_ids link.now) (proper.arc_ends link.now))) }
 {
     let ends = ends_of(alloc, link.arcs.as_slice())?;
     let known = known_in(alloc, link)?;
@@ -48,7 +48,7 @@ fn has_ends(alloc: Global, link: &NoteLink) -> Result<bool, NoMemory>
 
 /// Whether a link has arcs, its locators and footnotes are what its arcs name, and its locators are among these facts.
 fn is_whole(alloc: Global, facts: &Among, link: &NoteLink) -> Result<bool, NoMemory>
-    ensures { IfOk result (λ b. b ≡ spec.is_whole_link facts.now link.now) }
+    ensures { IfOk result (λ b. b ≡ proper.is_whole_link facts.now link.now) }
 {
     if link.arcs.as_slice().is_empty() {
         return Ok(false);
@@ -62,7 +62,7 @@ fn is_whole(alloc: Global, facts: &Among, link: &NoteLink) -> Result<bool, NoMem
 
 /// Whether each of these links is whole, by these facts.
 fn are_whole(alloc: Global, facts: &Among, links: &[NoteLink]) -> Result<bool, NoMemory>
-    ensures { IfOk result (λ b. b ≡ list_all (spec.is_whole_link facts.now) links.now) }
+    ensures { IfOk result (λ b. b ≡ list_all (proper.is_whole_link facts.now) links.now) }
 {
     for link in links {
         if !is_whole(alloc, facts, link)? {
@@ -76,7 +76,7 @@ fn are_whole(alloc: Global, facts: &Among, links: &[NoteLink]) -> Result<bool, N
 /// of n facts, locators, footnotes and arcs is that of sorts and of n searches by halving: n log n comparisons.
 pub fn links_fit(alloc: Global, content: &Content, held: &Held) -> Result<bool, NoMemory>
     requires { IsHeld (said_of content.now) held.now }
-    ensures { IfOk result (λ b. b ≡ spec.links_fit (said_of content.now)) }
+    ensures { IfOk result (λ b. b ≡ proper.links_fit (said_of content.now)) }
 {
     let ids = Vec::from_slice(alloc, held.ids.as_slice())?;
     let facts = Among::of(ids);
@@ -88,7 +88,7 @@ pub fn links_fit(alloc: Global, content: &Content, held: &Held) -> Result<bool, 
 #[tactic(auto, unfolding(instance_out::specs::Proper::orders_fit))]
 pub fn orders_fit(content: &Content, held: &Held) -> bool
     requires { IsHeld (said_of content.now) held.now }
-    ensures { result ≡ spec.orders_fit (said_of content.now) }
+    ensures { result ≡ proper.orders_fit (said_of content.now) }
 {
     are_ordered(held.arcs.as_slice())
 }

@@ -3,7 +3,7 @@ ghost use Rattle.std.specs.Prelude.{◌≡◌};
 ghost use Rattle.std.specs.List.{list_all};
 ghost use Rattle.ix_base.specs.PlainContents.{said_of};
 ghost use Rattle.proper_texts.specs.Model.{IsHeld};
-ghost use Rattle.instance_out.specs.Proper as spec;
+ghost use Rattle.instance_out.specs.Proper as proper;
 ghost use Rattle.instance_out.specs.Tables.{values_of};
 
 use ix_base::namespaces::{LINK, XBRLI, XMLNS};
@@ -14,14 +14,14 @@ use scopes::is_ncname;
 /// Whether a name is an NCName in no namespace of declarations.
 #[tactic(auto, unfolding(ix_base::specs::Namespaces::xmlns_namespace))]
 fn is_name(name: &OwnName) -> bool
-    ensures { result ≡ spec.is_name name.now }
+    ensures { result ≡ proper.is_name name.now }
 {
     is_ncname(name.local.as_str()) && name.ns.as_str() != XMLNS
 }
 
 /// Whether names are NCNames in no namespace of declarations.
 fn are_names(names: &[&OwnName]) -> bool
-    ensures { result ≡ list_all spec.is_name (values_of names.now) }
+    ensures { result ≡ list_all proper.is_name (values_of names.now) }
 {
     for name in names {
         if !is_name(name) {
@@ -34,7 +34,7 @@ fn are_names(names: &[&OwnName]) -> bool
 /// Whether a name is in none of the namespaces of XBRL's instances and links.
 #[tactic(auto, unfolding(ix_base::specs::Namespaces::xbrli_namespace, ix_base::specs::Namespaces::link_namespace))]
 fn is_fact_name(name: &OwnName) -> bool
-    ensures { result ≡ spec.is_fact_name name.now }
+    ensures { result ≡ proper.is_fact_name name.now }
 {
     let ns = name.ns.as_str();
     ns != XBRLI && ns != LINK
@@ -42,7 +42,7 @@ fn is_fact_name(name: &OwnName) -> bool
 
 /// Whether names are in none of the namespaces of XBRL's instances and links.
 fn are_fact_names(names: &[&OwnName]) -> bool
-    ensures { result ≡ list_all spec.is_fact_name (values_of names.now) }
+    ensures { result ≡ list_all proper.is_fact_name (values_of names.now) }
 {
     for name in names {
         if !is_fact_name(name) {
@@ -56,7 +56,7 @@ fn are_fact_names(names: &[&OwnName]) -> bool
 #[tactic(auto, unfolding(instance_out::specs::Proper::names_fit))]
 pub fn names_fit(content: &Content, held: &Held) -> bool
     requires { IsHeld (said_of content.now) held.now }
-    ensures { result ≡ spec.names_fit (said_of content.now) }
+    ensures { result ≡ proper.names_fit (said_of content.now) }
 {
     are_names(held.names.as_slice()) && are_fact_names(held.fact_names.as_slice())
 }

@@ -3,7 +3,7 @@ ghost use Rattle.std.specs.Prelude.{◌≡◌, ◌&&◌, flat_map, map, IfOk};
 ghost use Rattle.ix_base.specs.PlainContents.{said_of};
 ghost use Rattle.proper_texts.specs.Model.{IsHeld};
 ghost use Rattle.instance_out.specs.Lists.{of_option};
-ghost use Rattle.instance_out.specs.Proper as spec;
+ghost use Rattle.instance_out.specs.Proper as proper;
 ghost use Rattle.instance_out.specs.Tables.{values_of};
 
 use crate::among::have_same;
@@ -41,7 +41,7 @@ fn units_named<'a>(alloc: Global, items: &[&'a Item]) -> Result<Vec<&'a str>, No
 #[tactic(auto, unfolding(instance_out::specs::Proper::parts_fit))]
 pub fn parts_fit(alloc: Global, content: &Content, held: &Held) -> Result<bool, NoMemory>
     requires { IsHeld (said_of content.now) held.now }
-    ensures { IfOk result (λ b. b ≡ spec.parts_fit (said_of content.now)) }
+    ensures { IfOk result (λ b. b ≡ proper.parts_fit (said_of content.now)) }
 {
     let items = held.items.as_slice();
     let contexts = names_of(alloc, content.contexts.as_slice())?;

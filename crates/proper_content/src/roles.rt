@@ -4,7 +4,7 @@ ghost use Rattle.ix_base.specs.PlainContents.{said_of};
 ghost use Rattle.proper_texts.specs.Model.{IsHeld};
 ghost use Rattle.instance_out.specs.Holdings.{all_arcs, all_notes};
 ghost use Rattle.instance_out.specs.Lists.{are_apart as are_apart_texts, is_within};
-ghost use Rattle.instance_out.specs.Proper as spec;
+ghost use Rattle.instance_out.specs.Proper as proper;
 ghost use Rattle.instance_out.specs.Tables.{values_of};
 
 use crate::among::are_within;
@@ -75,7 +75,7 @@ fn stand_apart(alloc: Global, roles: &[RoleRef]) -> Result<bool, NoMemory>
 #[tactic(auto, using(crate::proofs::ToldLaws::roles_told))]
 pub fn roles_fit(alloc: Global, content: &Content, held: &Held) -> Result<bool, NoMemory>
     requires { IsHeld (said_of content.now) held.now }
-    ensures { IfOk result (λ b. b ≡ spec.roles_fit (said_of content.now)) }
+    ensures { IfOk result (λ b. b ≡ proper.roles_fit (said_of content.now)) }
 {
     if !are_roles_used(alloc, content, held)? {
         return Ok(false);

@@ -2,7 +2,7 @@
 ghost use Rattle.std.specs.Prelude.{◌≡◌, nat_le};
 ghost use Rattle.ix_base.specs.Facts.{before, facts_of, none};
 ghost use Rattle.ix_base.specs.PlainContents.{said_of};
-ghost use Rattle.instance_out.specs.Proper as spec;
+ghost use Rattle.instance_out.specs.Proper as proper;
 ghost use Rattle.instance_out.specs.Writable.{depth};
 
 use ix_base::limits::DEEPEST_TUPLE;
@@ -37,7 +37,7 @@ fn are_shallow(facts: &[Fact], most: u32) -> bool
 #[tactic(auto, using(crate::proofs::FactLaws::nil_members, crate::proofs::FactLaws::members_not_nil))]
 #[cycle(empty)]
 fn is_nil_empty(fact: &Fact) -> bool
-    ensures { result ≡ spec.nil_is_empty (before fact.now none) }
+    ensures { result ≡ proper.nil_is_empty (before fact.now none) }
 {
     match fact {
         Fact::Item(_) => true,
@@ -56,7 +56,7 @@ fn is_nil_empty(fact: &Fact) -> bool
 #[tactic(auto, using(crate::proofs::FactLaws::nil_before))]
 #[cycle(empty)]
 fn are_nil_empty(facts: &[Fact]) -> bool
-    ensures { result ≡ spec.nil_is_empty (facts_of facts.now) }
+    ensures { result ≡ proper.nil_is_empty (facts_of facts.now) }
 {
     for fact in facts {
         if !is_nil_empty(fact) {
@@ -69,7 +69,7 @@ fn are_nil_empty(facts: &[Fact]) -> bool
 /// Whether no nil tuple has members, and tuples stand at most 100 deep. It goes at most 101 calls deep.
 #[tactic(auto, unfolding(instance_out::specs::Proper::tuples_fit))]
 pub fn tuples_fit(content: &Content) -> bool
-    ensures { result ≡ spec.tuples_fit (said_of content.now) }
+    ensures { result ≡ proper.tuples_fit (said_of content.now) }
 {
     let facts = content.facts.as_slice();
     are_shallow(facts, DEEPEST_TUPLE) && are_nil_empty(facts)

@@ -1,13 +1,13 @@
 //! Decimals in their canonical form.
 ghost use Rattle.std.specs.Prelude.{◌≡◌, ◌++◌, bytes_eq};
 ghost use Rattle.ix_base.specs.Decimals.{back_of, front_of, pointed};
-ghost use Rattle.ix_base.specs.Forms as spec;
+ghost use Rattle.ix_base.specs.Forms as forms;
 
 use scale_sign::{all_digits, is_digit, parts_of};
 
 /// Whether a text is digits, of which the first is no 0 where others follow it.
 fn is_whole(text: &[u8]) -> bool
-    ensures { result ≡ spec.is_whole_part text.now }
+    ensures { result ≡ forms.is_whole_part text.now }
 {
     match text {
         [] => false,
@@ -18,7 +18,7 @@ fn is_whole(text: &[u8]) -> bool
 
 /// Whether a text is digits that don't end in 0, or empty.
 fn is_fraction(text: &[u8]) -> bool
-    ensures { result ≡ spec.is_fraction_part text.now }
+    ensures { result ≡ forms.is_fraction_part text.now }
 {
     let [first, rest @ ..] = text else {
         return true;
@@ -45,7 +45,7 @@ fn is_spelled(text: &[u8], front: &[u8], back: &[u8]) -> bool
 
 /// Whether a text is a canonical decimal without a sign.
 fn is_canonical_unsigned(text: &[u8]) -> bool
-    ensures { result ≡ spec.is_canonical_unsigned text.now }
+    ensures { result ≡ forms.is_canonical_unsigned text.now }
 {
     let (front, back) = parts_of(text);
     is_whole(front) && is_fraction(back) && is_spelled(text, front, back)
@@ -53,13 +53,13 @@ fn is_canonical_unsigned(text: &[u8]) -> bool
 
 /// Whether a text is `0`.
 fn is_nothing(text: &[u8]) -> bool
-    ensures { result ≡ spec.is_zero text.now }
+    ensures { result ≡ forms.is_zero text.now }
 {
     text == b"0".as_slice()
 }
 
 fn is_canonical(text: &[u8]) -> bool
-    ensures { result ≡ spec.is_canonical_decimal text.now }
+    ensures { result ≡ forms.is_canonical_decimal text.now }
 {
     match text {
         [] => false,
@@ -70,21 +70,21 @@ fn is_canonical(text: &[u8]) -> bool
 
 /// Whether a text is a canonical decimal.
 pub fn is_canonical_decimal(text: &str) -> bool
-    ensures { result ≡ spec.is_canonical_decimal text.now }
+    ensures { result ≡ forms.is_canonical_decimal text.now }
 {
     is_canonical(text.as_bytes())
 }
 
 /// Whether a text is the canonical decimal of zero.
 pub fn is_zero(text: &str) -> bool
-    ensures { result ≡ spec.is_zero text.now }
+    ensures { result ≡ forms.is_zero text.now }
 {
     is_nothing(text.as_bytes())
 }
 
 /// Whether a text is a canonical decimal without a point.
 pub fn is_normal_integer(text: &str) -> bool
-    ensures { result ≡ spec.is_normal_integer text.now }
+    ensures { result ≡ forms.is_normal_integer text.now }
 {
     let (_, back) = parts_of(text.as_bytes());
     is_canonical_decimal(text) && back.is_empty()
@@ -92,7 +92,7 @@ pub fn is_normal_integer(text: &str) -> bool
 
 /// Whether a text is digits, of which the first is no 0 where others follow it.
 pub fn is_whole_part(text: &str) -> bool
-    ensures { result ≡ spec.is_whole_part text.now }
+    ensures { result ≡ forms.is_whole_part text.now }
 {
     is_whole(text.as_bytes())
 }

@@ -3,7 +3,7 @@ ghost use Rattle.std.specs.Prelude.{◌≡◌, ◌||◌, is_some};
 ghost use Rattle.std.specs.List.{list_all};
 ghost use Rattle.ix_base.specs.PlainContents.{said_of};
 ghost use Rattle.proper_texts.specs.Model.{IsHeld};
-ghost use Rattle.instance_out.specs.Proper as spec;
+ghost use Rattle.instance_out.specs.Proper as proper;
 ghost use Rattle.instance_out.specs.Tables.{values_of};
 
 use crate::decimals::{is_canonical_decimal, is_normal_integer, is_whole_part, is_zero};
@@ -12,7 +12,7 @@ use ix_base::{Accuracy, Content, Item, Value};
 
 /// Whether an accuracy is written in normal form.
 fn is_exact(accuracy: &Accuracy) -> bool
-    ensures { result ≡ spec.is_exact accuracy.now }
+    ensures { result ≡ proper.is_exact accuracy.now }
 {
     match accuracy {
         Accuracy::Decimals(digits) => {
@@ -25,8 +25,8 @@ fn is_exact(accuracy: &Accuracy) -> bool
 }
 
 /// Whether an item has an accuracy exactly where it is a number with a unit, and such a number is a canonical decimal.
-fn is_number(item: &Item) -> bool
-    ensures { result ≡ spec.is_number item.now.unit item.now.value item.now.accuracy }
+fn is_numeric(item: &Item) -> bool
+    ensures { result ≡ proper.is_numeric item.now.unit item.now.value item.now.accuracy }
 {
     match (&item.unit, &item.value, &item.accuracy) {
         (Some(_), Value::Plain(text), Some(accuracy)) => {
@@ -39,10 +39,10 @@ fn is_number(item: &Item) -> bool
 
 /// Whether each item has an accuracy exactly where it is a number with a unit, and such a number is a canonical decimal.
 fn are_numbers(items: &[&Item]) -> bool
-    ensures { result ≡ list_all (λ i. spec.is_number i.unit i.value i.accuracy) (values_of items.now) }
+    ensures { result ≡ list_all (λ i. proper.is_numeric i.unit i.value i.accuracy) (values_of items.now) }
 {
     for item in items {
-        if !is_number(item) {
+        if !is_numeric(item) {
             return false;
         }
     }
@@ -51,7 +51,7 @@ fn are_numbers(items: &[&Item]) -> bool
 
 /// Whether a value may stand without a unit.
 fn is_unitless(value: &Value) -> bool
-    ensures { result ≡ spec.is_unitless value.now }
+    ensures { result ≡ proper.is_unitless value.now }
 {
     match value {
         Value::Fraction(_, _) => false,
@@ -61,7 +61,7 @@ fn is_unitless(value: &Value) -> bool
 
 /// Whether each fraction has a unit.
 fn have_units(items: &[&Item]) -> bool
-    ensures { result ≡ list_all (λ i. is_some i.unit || spec.is_unitless i.value) (values_of items.now) }
+    ensures { result ≡ list_all (λ i. is_some i.unit || proper.is_unitless i.value) (values_of items.now) }
 {
     for item in items {
         if item.unit.is_none() && !is_unitless(&item.value) {
@@ -73,7 +73,7 @@ fn have_units(items: &[&Item]) -> bool
 
 /// Whether the parts of a fraction are canonical decimals, the one below not zero.
 fn is_ratio(value: &Value) -> bool
-    ensures { result ≡ spec.is_ratio value.now }
+    ensures { result ≡ proper.is_ratio value.now }
 {
     match value {
         Value::Fraction(above, below) => {
@@ -87,7 +87,7 @@ fn is_ratio(value: &Value) -> bool
 
 /// Whether the parts of each fraction are canonical decimals, the one below not zero.
 fn are_ratios(items: &[&Item]) -> bool
-    ensures { result ≡ list_all (λ i. spec.is_ratio i.value) (values_of items.now) }
+    ensures { result ≡ list_all (λ i. proper.is_ratio i.value) (values_of items.now) }
 {
     for item in items {
         if !is_ratio(&item.value) {
@@ -101,7 +101,7 @@ fn are_ratios(items: &[&Item]) -> bool
 #[tactic(auto, unfolding(instance_out::specs::Proper::numbers_fit))]
 pub fn numbers_fit(content: &Content, held: &Held) -> bool
     requires { IsHeld (said_of content.now) held.now }
-    ensures { result ≡ spec.numbers_fit (said_of content.now) }
+    ensures { result ≡ proper.numbers_fit (said_of content.now) }
 {
     are_numbers(held.items.as_slice())
 }
@@ -110,7 +110,7 @@ pub fn numbers_fit(content: &Content, held: &Held) -> bool
 #[tactic(auto, unfolding(instance_out::specs::Proper::unitless_fit))]
 pub fn unitless_fit(content: &Content, held: &Held) -> bool
     requires { IsHeld (said_of content.now) held.now }
-    ensures { result ≡ spec.unitless_fit (said_of content.now) }
+    ensures { result ≡ proper.unitless_fit (said_of content.now) }
 {
     have_units(held.items.as_slice())
 }
@@ -119,7 +119,7 @@ pub fn unitless_fit(content: &Content, held: &Held) -> bool
 #[tactic(auto, unfolding(instance_out::specs::Proper::fractions_fit))]
 pub fn fractions_fit(content: &Content, held: &Held) -> bool
     requires { IsHeld (said_of content.now) held.now }
-    ensures { result ≡ spec.fractions_fit (said_of content.now) }
+    ensures { result ≡ proper.fractions_fit (said_of content.now) }
 {
     are_ratios(held.items.as_slice())
 }

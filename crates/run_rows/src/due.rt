@@ -1,4 +1,4 @@
-//! What is due of a row.
+//! Comparing a row with what is due.
 use crate::written::{bytes_of, number_of};
 use anyhow::{Context, Result, bail};
 use std::alloc::Global;

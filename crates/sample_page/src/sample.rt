@@ -1,7 +1,7 @@
 //! The pages of a sample.
 ghost use Rattle.std.specs.Prelude.{◌≡◌, ◌++◌, ◌≤◌, map, IfOk, OnOk};
 ghost use Rattle.ix_base.specs.declared.limits.TheConstants.{MOST_FACTS};
-ghost use Rattle.sample_page.specs.Sample as spec;
+ghost use Rattle.sample_page.specs.Sample as sample;
 
 use ix_base::{List, MemPage, NoMemory, Text};
 use std::alloc::Global;
@@ -11,7 +11,7 @@ pub const SAMPLE_BASE: &str = "http://sample.example/";
 
 /// The names of the pages of a sample.
 pub fn sample_names(alloc: Global) -> Result<Vec<Text>, NoMemory>
-    ensures { IfOk result (λ v. v.items ≡ spec.sample_names) }
+    ensures { IfOk result (λ v. v.items ≡ sample.sample_names) }
 {
     let first = Text::of(alloc, "s0.html")?;
     let second = Text::of(alloc, "s1.html")?;
@@ -23,7 +23,7 @@ pub fn sample_names(alloc: Global) -> Result<Vec<Text>, NoMemory>
 /// The root's start tag.
 #[tactic(auto, unfolding(crate::specs::Sample::start_text))]
 fn start() -> &'static [u8]
-    ensures { result.now ≡ spec.start_text }
+    ensures { result.now ≡ sample.start_text }
 {
     b"<p xmlns:ix=\"http://www.xbrl.org/2013/inlineXBRL\" xmlns:link=\"http://www.xbrl.org/2003/linkbase\" \
 xmlns:xlink=\"http://www.w3.org/1999/xlink\" xmlns:xbrli=\"http://www.xbrl.org/2003/instance\" xmlns:s=\"http://sample.example/s\">"
@@ -32,7 +32,7 @@ xmlns:xlink=\"http://www.w3.org/1999/xlink\" xmlns:xbrli=\"http://www.xbrl.org/2
 /// A reference to a schema, and the context of all facts.
 #[tactic(auto, unfolding(crate::specs::Sample::header_text))]
 fn header() -> &'static [u8]
-    ensures { result.now ≡ spec.header_text }
+    ensures { result.now ≡ sample.header_text }
 {
     b"<ix:header><ix:references><link:schemaRef xlink:type=\"simple\" xlink:href=\"s.xsd\"/></ix:references>\
 <ix:resources><xbrli:context id=\"c\"><xbrli:entity><xbrli:identifier scheme=\"http://sample.example/\">1</xbrli:identifier>\
@@ -41,7 +41,7 @@ fn header() -> &'static [u8]
 
 /// Adds what stands in front of the facts of a page.
 fn push_front(text: &mut Vec<u8>, page: u32) -> Result<(), NoMemory>
-    ensures { OnOk result (text.new.items ≡ text.old.items ++ spec.front_text page) }
+    ensures { OnOk result (text.new.items ≡ text.old.items ++ sample.front_text page) }
 {
     text.extend_from_slice(start())?;
     if page == 0 {
@@ -53,7 +53,7 @@ fn push_front(text: &mut Vec<u8>, page: u32) -> Result<(), NoMemory>
 /// Adds the fact of this number, up to where it goes on.
 #[tactic(auto, unfolding(crate::specs::Sample::fact_text))]
 fn push_fact(alloc: Global, text: &mut Vec<u8>, number: u32) -> Result<(), NoMemory>
-    ensures { OnOk result (text.new.items ≡ text.old.items ++ spec.fact_text number) }
+    ensures { OnOk result (text.new.items ≡ text.old.items ++ sample.fact_text number) }
 {
     let fact = format!(in alloc;
         "<ix:nonNumeric name=\"s:T\" contextRef=\"c\" id=\"f{number}\" continuedAt=\"k{number}\">a{number}</ix:nonNumeric>"
@@ -65,7 +65,7 @@ fn push_fact(alloc: Global, text: &mut Vec<u8>, number: u32) -> Result<(), NoMem
 /// Adds what it goes on with.
 #[tactic(auto, unfolding(crate::specs::Sample::more_text))]
 fn push_more(alloc: Global, text: &mut Vec<u8>, number: u32) -> Result<(), NoMemory>
-    ensures { OnOk result (text.new.items ≡ text.old.items ++ spec.more_text number) }
+    ensures { OnOk result (text.new.items ≡ text.old.items ++ sample.more_text number) }
 {
     let more = format!(in alloc; "<ix:continuation id=\"k{number}\">b{number}</ix:continuation>")?;
     text.extend_from_slice(more.as_bytes())?;
@@ -75,7 +75,7 @@ fn push_more(alloc: Global, text: &mut Vec<u8>, number: u32) -> Result<(), NoMem
 /// Adds what a fact puts on a page: it begins on one page, and goes on on the next.
 fn put_on(alloc: Global, text: &mut Vec<u8>, page: u32, number: u32) -> Result<(), NoMemory>
     requires { number ≤ MOST_FACTS }
-    ensures { OnOk result (text.new.items ≡ text.old.items ++ spec.put_on page number) }
+    ensures { OnOk result (text.new.items ≡ text.old.items ++ sample.put_on page number) }
 {
     if number % 4 == page {
         push_fact(alloc, text, number)?;
@@ -90,7 +90,7 @@ fn put_on(alloc: Global, text: &mut Vec<u8>, page: u32, number: u32) -> Result<(
 #[tactic(auto, unfolding(crate::specs::Sample::all_put_on))]
 fn put_all_on(alloc: Global, text: &mut Vec<u8>, page: u32, facts: u32) -> Result<(), NoMemory>
     requires { facts ≤ MOST_FACTS }
-    ensures { OnOk result (text.new.items ≡ text.old.items ++ spec.all_put_on page facts) }
+    ensures { OnOk result (text.new.items ≡ text.old.items ++ sample.all_put_on page facts) }
 {
     for i in 0..facts {
         put_on(alloc, text, page, i + 1)?;
@@ -103,7 +103,7 @@ fn put_all_on(alloc: Global, text: &mut Vec<u8>, page: u32, facts: u32) -> Resul
 fn sample_page(alloc: Global, name: &str, page: u32, facts: u32) -> Result<MemPage, NoMemory>
     requires { facts ≤ MOST_FACTS }
     ensures name { IfOk result (λ p. p.name ≡ name.now) }
-    ensures bytes { IfOk result (λ p. p.bytes ≡ spec.sample_page facts page) }
+    ensures bytes { IfOk result (λ p. p.bytes ≡ sample.sample_page facts page) }
 {
     let mut text = Vec::new(alloc);
     push_front(&mut text, page)?;
@@ -118,8 +118,8 @@ fn sample_page(alloc: Global, name: &str, page: u32, facts: u32) -> Result<MemPa
 /// The four pages of the sample of so many facts.
 pub fn sample_pages(alloc: Global, facts: u32) -> Result<Vec<MemPage>, NoMemory>
     requires { facts ≤ MOST_FACTS }
-    ensures names { IfOk result (λ v. map (λ p. p.name) v.items ≡ spec.sample_names) }
-    ensures bytes { IfOk result (λ v. map (λ p. p.bytes) v.items ≡ spec.sample_bytes facts) }
+    ensures names { IfOk result (λ v. map (λ p. p.name) v.items ≡ sample.sample_names) }
+    ensures bytes { IfOk result (λ v. map (λ p. p.bytes) v.items ≡ sample.sample_bytes facts) }
 {
     let first = sample_page(alloc, "s0.html", 0, facts)?;
     let second = sample_page(alloc, "s1.html", 1, facts)?;

@@ -57,13 +57,13 @@ impl ParsedBase {
         })
     }
 
-    /// The text as it stands. It takes no memory.
-    pub fn as_str(&self) -> &str
-        ensures { result.now ≡ self.now }
+    /// A copy of its text.
+    pub fn to_text(&self, alloc: Global) -> Result<Text, NoMemory>
+        ensures { IfOk result (λ t. t ≡ self.now) }
     {
         match &self.origin {
-            Origin::Given(text, _) => text.as_str(),
-            Origin::Joined(url) => url.as_str(),
+            Origin::Given(text, _) => Text::of(alloc, text.as_str()),
+            Origin::Joined(url) => Text::of(alloc, url.as_str()),
         }
     }
 

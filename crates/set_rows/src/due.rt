@@ -1,4 +1,4 @@
-//! What is due after a run.
+//! Comparing a run with what is due.
 use crate::files::{bytes_of, text_of};
 use anyhow::{Context, Result};
 use std::alloc::Global;

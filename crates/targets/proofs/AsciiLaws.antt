@@ -18,7 +18,7 @@ use Rattle.ix_base.specs.Forms.{is_canonical_decimal, is_canonical_unsigned, is_
 use Rattle.ix_base.specs.NcName.{are_allowed, is_allowed}
 use Rattle.facts.proofs.PlainLaws.{digit-plain, is_plain, plain-append}
 use Rattle.instance_out.specs.Holdings.{accuracy_texts}
-use Rattle.instance_out.specs.Proper.{is_exact, is_number}
+use Rattle.instance_out.specs.Proper.{is_exact, is_numeric}
 use Rattle.targets.proofs.AllowedLaws.{allowed-from}
 
 plain-ascii : (t : List ℕ) → list_all is_plain t ≡ true → IsAscii t
@@ -117,7 +117,7 @@ exact-allowed (accuracy.Precision n) h =
     (All-nil IsAllowed)
 
 -- how exact a number is
-pub accuracy-allowed : (u : Option (List ℕ)) (v : Value) (a : Option Accuracy) → is_number u v a ≡ true → All IsAllowed (accuracy_texts a)
+pub accuracy-allowed : (u : Option (List ℕ)) (v : Value) (a : Option Accuracy) → is_numeric u v a ≡ true → All IsAllowed (accuracy_texts a)
 accuracy-allowed u v None h = All-nil IsAllowed
 accuracy-allowed None v (Some a) h = absurd (cc)
 accuracy-allowed (Some u) value.Nil (Some a) h = absurd (cc)

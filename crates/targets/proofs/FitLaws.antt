@@ -21,7 +21,7 @@ use Rattle.ix_base.specs.Readers.{attr}
 use Rattle.ix_base.specs.Rows.{row}
 use Rattle.ix_base.specs.Token.{token_of}
 use Rattle.ix_base.specs.Trees.{Tree}
-use Rattle.tuples.specs.OrderNumbers.{fits, is_number}
+use Rattle.tuples.specs.OrderNumbers.{fits, is_order_number}
 use Rattle.targets.specs.Faults.{faults_from}
 
 pub both-none : {X : Type 0} (xs ys : List X) → xs ++ ys ≡ [] → (xs ≡ []) × (ys ≡ [])
@@ -75,7 +75,7 @@ pub not-not : (b : Bool) → not b ≡ false → b ≡ true
 not-not true h = refl
 not-not false h = absurd (cc)
 
-number-of : (value : Option (List ℕ)) → option_map_or (λ v. not (is_order v)) value false ≡ false → is_number (option_map token_of value) ≡ true
+number-of : (value : Option (List ℕ)) → option_map_or (λ v. not (is_order v)) value false ≡ false → is_order_number (option_map token_of value) ≡ true
 number-of None h = refl
 number-of (Some v) h = not-not (is_order v) h
 
@@ -83,7 +83,7 @@ pub with-test : (b c : Bool) → b ≡ true → (b && c) ≡ false → c ≡ fal
 with-test true c h e = e
 with-test false c h e = absurd (cc)
 
-fits-by : (b : Bool) (o : Option (List ℕ)) → (b ≡ true → is_number o ≡ true) → (not b || is_number o) ≡ true
+fits-by : (b : Bool) (o : Option (List ℕ)) → (b ≡ true → is_order_number o ≡ true) → (not b || is_order_number o) ≡ true
 fits-by true o h = h refl
 fits-by false o h = refl
 

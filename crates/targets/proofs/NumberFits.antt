@@ -27,7 +27,7 @@ use Rattle.facts.specs.Exactness.{accuracy_by, accuracy_of, exact_form}
 use Rattle.facts.specs.FractionValue.{IsFractionValue, IsPart, fraction, over, part_in, part_number}
 use Rattle.facts.specs.ItemValue.{IsPlain, IsTextBy, IsValueBy, ItemText, item_text}
 use Rattle.facts.specs.NumberValue.{IsNumberValue, Number, number_by, number_text}
-use Rattle.instance_out.specs.Proper.{fractions_fit, is_exact, is_number, is_ratio, is_unitless, numbers_fit, unitless_fit}
+use Rattle.instance_out.specs.Proper.{fractions_fit, is_exact, is_numeric, is_ratio, is_unitless, numbers_fit, unitless_fit}
 use Rattle.ix_base.specs.PlainContents.{said_of}
 use Rattle.targets.specs.ValidSets.{IsClean}
 use Rattle.targets.specs.Contents.{IsContent}
@@ -87,11 +87,11 @@ unit-there t h =
 
 -- Values, by what says them.
 
-nil-number : (u : Option (List ℕ)) → is_number u value.Nil None ≡ true
+nil-number : (u : Option (List ℕ)) → is_numeric u value.Nil None ≡ true
 nil-number None = refl
 nil-number (Some u) = refl
 
-fraction-number : (u : Option (List ℕ)) (a b : List ℕ) → is_number u (value.Fraction a b) None ≡ true
+fraction-number : (u : Option (List ℕ)) (a b : List ℕ) → is_numeric u (value.Fraction a b) None ≡ true
 fraction-number None a b = refl
 fraction-number (Some u) a b = refl
 
@@ -113,7 +113,7 @@ fraction-is v (Err q) (Err r) e = absurd (cc)
 pub value-passes : (n : Number) (text : List ℕ) → IsNumberValue n (Ok text) → is_canonical_decimal text ≡ true
 value-passes n text h = number-passes h.0 n.scale n.negative text h.2
 
-pub ratio-of : (t : Tree) (v : Value) → IsFractionValue t (Ok v) → (is_ratio v ≡ true) × ((u : Option (List ℕ)) → is_number u v None ≡ true)
+pub ratio-of : (t : Tree) (v : Value) → IsFractionValue t (Ok v) → (is_ratio v ≡ true) × ((u : Option (List ℕ)) → is_numeric u v None ≡ true)
 ratio-of t v (n, (hn, (d, (hd, e)))) =
     let is = fraction-is v n d e in
     let a = is.0 in
@@ -121,14 +121,14 @@ ratio-of t v (n, (hn, (d, (hd, e)))) =
     let above = value-passes (part_number (part_in (codes "numerator") t.children)) a (subst (IsPart (codes "numerator") t) is.2 hn) in
     let below = value-passes (part_number (part_in (codes "denominator") t.children)) b (subst (IsPart (codes "denominator") t) is.3 hd) in (
       ap is_ratio is.4 ∙ and_from _ _ (and_from _ _ above below) (ap not is.5),
-      λ u. ap (λ w. is_number u w None) is.4 ∙ fraction-number u a b,
+      λ u. ap (λ w. is_numeric u w None) is.4 ∙ fraction-number u a b,
     )
 
 -- The three tests, by the kind of the element.
 
 -- a number with its unit and its accuracy
 exact-number : (u : List ℕ) (a : Accuracy) (n : Number) (text : List ℕ) → is_exact a ≡ true → IsNumberValue n (Ok text)
-    → is_number (Some u) (value.Plain text) (Some a) ≡ true
+    → is_numeric (Some u) (value.Plain text) (Some a) ≡ true
 exact-number u a n text e h = and_from (is_exact a) (is_canonical_decimal text) e (value-passes n text h)
 
 accuracy-there : (t : Tree) → is_nil t ≡ false → breaks_accuracy kind.NonFraction t ≡ false → (a : Accuracy) × (accuracy_of kind.NonFraction t ≡ Some a) × (is_exact a ≡ true)
@@ -149,25 +149,25 @@ accuracy-there t nil h =
 
 number-of : (t : Tree) (v : Value) (n : Number) → is_nil t ≡ false → IsPlain (IsNumberValue n) (Ok v)
     → list_any (misses t) (required kind.NonFraction) ≡ false → breaks_accuracy kind.NonFraction t ≡ false
-    → is_number (unit_of kind.NonFraction t) v (accuracy_of kind.NonFraction t) ≡ true
+    → is_numeric (unit_of kind.NonFraction t) v (accuracy_of kind.NonFraction t) ≡ true
 number-of t value.Nil n e h req acc = absurd h
 number-of t (value.Fraction a b) n e h req acc = absurd h
 number-of t (value.Plain text) n e h req acc =
     let u = unit-there t req in
     let a = accuracy-there t e acc in
-    ap (λ o. is_number o (value.Plain text) (accuracy_of kind.NonFraction t)) u.1
-    ∙ ap (λ o. is_number (Some u.0) (value.Plain text) o) a.1 ∙ exact-number u.0 a.0 n text a.2 h
+    ap (λ o. is_numeric o (value.Plain text) (accuracy_of kind.NonFraction t)) u.1
+    ∙ ap (λ o. is_numeric (Some u.0) (value.Plain text) o) a.1 ∙ exact-number u.0 a.0 n text a.2 h
 
 number-by : (k : Kind) (text : ItemText) (t : Tree) (v : Value) (nil : Bool) → is_nil t ≡ nil → IsValueBy nil k text t (Ok v) → breaks_required k t ≡ false
-    → breaks_accuracy k t ≡ false → is_number (unit_of k t) v (accuracy_of k t) ≡ true
+    → breaks_accuracy k t ≡ false → is_numeric (unit_of k t) v (accuracy_of k t) ≡ true
 number-by kind.NonFraction text t v true e h req acc =
     let is : v ≡ value.Nil = cc in
-    ap (λ w. is_number (unit_of kind.NonFraction t) w (accuracy_of kind.NonFraction t)) is
-    ∙ ap (λ b. is_number (unit_of kind.NonFraction t) value.Nil (accuracy_by b t)) e ∙ nil-number (unit_of kind.NonFraction t)
+    ap (λ w. is_numeric (unit_of kind.NonFraction t) w (accuracy_of kind.NonFraction t)) is
+    ∙ ap (λ b. is_numeric (unit_of kind.NonFraction t) value.Nil (accuracy_by b t)) e ∙ nil-number (unit_of kind.NonFraction t)
 number-by kind.NonFraction text t v false e h req acc = number-of t v (number_by (view t) (number_text t.children)) e h req acc
 number-by kind.Fraction text t v true e h req acc =
     let is : v ≡ value.Nil = cc in
-    ap (λ w. is_number (unit_of kind.Fraction t) w None) is ∙ nil-number (unit_of kind.Fraction t)
+    ap (λ w. is_numeric (unit_of kind.Fraction t) w None) is ∙ nil-number (unit_of kind.Fraction t)
 number-by kind.Fraction text t v false e h req acc = (ratio-of t v h).1 (unit_of kind.Fraction t)
 number-by k text t v nil e h req acc = refl
 
@@ -206,11 +206,11 @@ module _ (s : PageSet) (clean : IsClean s) where
   keeps : (e : Located) → Contains (elements s) e → (r : Rule) → Contains element_rules r → breaks e.placed r ≡ false
   keeps e at r which = none-broken 0 s.pages clean.elements e at r which
 
-  pub number-says : (i : Item) → Says i → is_number i.unit i.value i.accuracy ≡ true
+  pub number-says : (i : Item) → Says i → is_numeric i.unit i.value i.accuracy ≡ true
   number-says i (e, at, is, says) =
       let t = e.placed.tree in
       let k = kind_of e.placed in
-      subst (λ (j : Item). is_number j.unit j.value j.accuracy ≡ true) (sym says.1)
+      subst (λ (j : Item). is_numeric j.unit j.value j.accuracy ≡ true) (sym says.1)
       (number-by k (item_text (base_at s) (asks (elements s)) e) t i.value (is_nil t) refl says.0
       (keeps e at rule.N2 (1, omega arith, refl)) (keeps e at rule.N9 (8, omega arith, refl)))
 
@@ -228,7 +228,7 @@ module _ (s : PageSet) (clean : IsClean s) where
 pub numbers-fit : (s : PageSet) → IsClean s → (target : List ℕ) (c : Content) → IsContent (base_at s) (elements s) target c → numbers_fit (said_of c) ≡ true
 unfolding numbers_fit
 numbers-fit s clean target c is =
-    items-pass (base_at s) (elements s) (λ i. is_number i.unit i.value i.accuracy) (number-says s clean) target c is
+    items-pass (base_at s) (elements s) (λ i. is_numeric i.unit i.value i.accuracy) (number-says s clean) target c is
 
 -- an item without a unit is no fraction
 pub unitless-fit : (s : PageSet) → IsClean s → (target : List ℕ) (c : Content) → IsContent (base_at s) (elements s) target c → unitless_fit (said_of c) ≡ true

@@ -1,16 +1,18 @@
 //! What the pages of a set come to, class by class.
 ghost use Rattle.std.specs.Prelude.{◌≡◌, [], map, IfOk};
 ghost use Rattle.targets.specs.Faults.{element_faults, link_faults};
+ghost use Rattle.targets.specs.LinkedSets.{IsLinked, IsShallow, all_of, based, bases_of};
 ghost use Rattle.targets.specs.Model.{KeepsAll, set_of};
 ghost use Rattle.ix_base.specs.LocatedElements.{base_in};
+ghost use Rattle.ix_base.specs.Once.{SameMembers};
 ghost use Rattle.targets.specs.SetOutcomes.{AreAllTargets, CanBeWritten, ComesOfValues, ComesTo, FirstOf};
-ghost use Rattle.targets.specs.PageSet as spec;
+ghost use Rattle.targets.specs.PageSet as page_set;
 ghost use Rattle.targets.specs.PageSet.{elements, page_bases};
 
 use crate::contents::targets_of;
 use crate::groups::groups_of;
 use crate::linked::{LinkedSet, ValuedSet};
-use crate::links::link_all;
+use crate::links::{Linked, link_all};
 use crate::outcome::Outcome;
 use crate::values::value_faults;
 use bumpalo::Bump;
@@ -49,7 +51,7 @@ fn element_faults_of(alloc: Global, pages: &Pages<'_, '_>) -> Result<Breaches, N
 }
 
 /// All targets of a set.
-fn whole(alloc: Global, valued: &ValuedSet<'_, '_>) -> Result<Outcome, NoMemory>
+fn whole(alloc: Global, valued: &ValuedSet<'_, '_, '_>) -> Result<Outcome, NoMemory>
     ensures whole { IfOk result (AreAllTargets (base_in valued.now.bases) valued.now.elements) }
     ensures written { IfOk result CanBeWritten }
 {
@@ -61,13 +63,13 @@ fn whole(alloc: Global, valued: &ValuedSet<'_, '_>) -> Result<Outcome, NoMemory>
 fn comes_of_values(
     alloc: Global,
     pages: &Pages<'_, '_>,
-    set: LinkedSet<'_, '_>,
+    set: LinkedSet<'_, '_, '_>,
     names: &[Text],
 ) -> Result<Outcome, NoMemory>
     requires keeps { KeepsAll pages.now }
     requires elements { set.elements ≡ elements (set_of pages.now) }
     requires bases { set.bases ≡ page_bases (set_of pages.now) }
-    requires names { names.now ≡ spec.names (set_of pages.now) }
+    requires names { names.now ≡ page_set.names (set_of pages.now) }
     ensures comes { IfOk result (ComesOfValues (set_of pages.now)) }
     ensures written { IfOk result CanBeWritten }
 {
@@ -76,6 +78,30 @@ fn comes_of_values(
         let groups = groups_of(alloc, set.linked.index)?;
         let valued = ValuedSet { set, groups };
         return whole(alloc, &valued);
+    }
+    Outcome::broken(found, names)
+}
+
+/// What pages come to whose links break these rules.
+fn comes_of_linked(
+    alloc: Global,
+    pages: &Pages<'_, '_>,
+    linked: &Linked<'_, '_>,
+    found: Breaches,
+    names: &[Text],
+) -> Result<Outcome, NoMemory>
+    requires keeps { KeepsAll pages.now }
+    requires names { names.now ≡ page_set.names (set_of pages.now) }
+    requires faults { SameMembers found (link_faults (set_of pages.now)) }
+    requires elements { all_of linked.now ≡ elements (set_of pages.now) }
+    requires bases { bases_of linked.now ≡ page_bases (set_of pages.now) }
+    requires linked { found ≡ [] → IsLinked linked.now × IsShallow (based linked.now) }
+    ensures comes { IfOk result (FirstOf names.now (link_faults (set_of pages.now)) (ComesOfValues (set_of pages.now))) }
+    ensures written { IfOk result CanBeWritten }
+{
+    if found.is_empty() {
+        let set = LinkedSet { linked };
+        return comes_of_values(alloc, pages, set, names);
     }
     Outcome::broken(found, names)
 }
@@ -89,17 +115,13 @@ fn comes_of_links<'a>(
 ) -> Result<Outcome, NoMemory>
     requires keeps { KeepsAll pages.now }
     requires sound { element_faults (set_of pages.now) ≡ [] }
-    requires names { names.now ≡ spec.names (set_of pages.now) }
+    requires names { names.now ≡ page_set.names (set_of pages.now) }
     ensures comes { IfOk result (FirstOf names.now (link_faults (set_of pages.now)) (ComesOfValues (set_of pages.now))) }
     ensures written { IfOk result CanBeWritten }
 {
     let mut found = Breaches::new(alloc);
     let linked = link_all(alloc, arena, pages.index, pages.bases, &mut found)?;
-    if found.is_empty() {
-        let set = LinkedSet { linked };
-        return comes_of_values(alloc, pages, set, names);
-    }
-    Outcome::broken(found, names)
+    comes_of_linked(alloc, pages, &linked, found, names)
 }
 
 /// The names of pages.

@@ -10,7 +10,7 @@ ghost use Rattle.ix_base.specs.declared.limits.TheConstants.{DEEPEST_TUPLE};
 ghost use Rattle.id_table.specs.Tables.{all_located};
 ghost use Rattle.instance_out.specs.Writable.{IsWritable, depth};
 ghost use Rattle.tuples.specs.Model.{owner_in};
-ghost use Rattle.targets.specs.Contents as spec;
+ghost use Rattle.targets.specs.Contents as contents;
 ghost use Rattle.targets.specs.Contents.{IsContent, IsGathered, target_names};
 ghost use Rattle.targets.specs.LinkedSets.{SaysIn};
 ghost use Rattle.targets.specs.SetOutcomes.{AreTargets};
@@ -69,7 +69,7 @@ fn outer_of<'a>(
 /// The addresses of the schemas of a target.
 fn schemas_for<'a>(
     alloc: Global,
-    valued: &ValuedSet<'_, 'a>,
+    valued: &ValuedSet<'_, '_, 'a>,
     target: &str,
 ) -> Result<List<Text>, NoMemory>
     ensures { IfOk result (λ l. l
@@ -83,11 +83,11 @@ fn schemas_for<'a>(
 /// The references to linkbases of a target.
 fn linkbases_for<'a>(
     alloc: Global,
-    valued: &ValuedSet<'_, 'a>,
+    valued: &ValuedSet<'_, '_, 'a>,
     target: &str,
 ) -> Result<List<Linkbase>, NoMemory>
     ensures { IfOk result (λ l. l
-        ≡ map (spec.linkbase_at (base_in valued.now.bases)) (filter (spec.is_linkbase_for target.now) valued.now.elements)) }
+        ≡ map (contents.linkbase_at (base_in valued.now.bases)) (filter (contents.is_linkbase_for target.now) valued.now.elements)) }
 {
     let spots = at(alloc, &valued.groups.linkbases, target)?;
     let set = &valued.set;
@@ -97,10 +97,10 @@ fn linkbases_for<'a>(
 /// The contexts that the items of a target name.
 fn contexts_for<'a>(
     alloc: Global,
-    valued: &ValuedSet<'_, 'a>,
+    valued: &ValuedSet<'_, '_, 'a>,
     target: &str,
 ) -> Result<List<Context>, NoMemory>
-    ensures { IfOk result (λ l. l ≡ spec.contexts_of valued.now.elements target.now) }
+    ensures { IfOk result (λ l. l ≡ contents.contexts_of valued.now.elements target.now) }
 {
     let facts = at(alloc, &valued.groups.facts, target)?;
     let ids = ids_named(alloc, Ref::Context, facts.as_slice())?;
@@ -111,10 +111,10 @@ fn contexts_for<'a>(
 /// The units that the items of a target name.
 fn units_for<'a>(
     alloc: Global,
-    valued: &ValuedSet<'_, 'a>,
+    valued: &ValuedSet<'_, '_, 'a>,
     target: &str,
 ) -> Result<List<Unit>, NoMemory>
-    ensures { IfOk result (λ l. l ≡ spec.units_of valued.now.elements target.now) }
+    ensures { IfOk result (λ l. l ≡ contents.units_of valued.now.elements target.now) }
 {
     let facts = at(alloc, &valued.groups.facts, target)?;
     let ids = ids_named(alloc, Ref::Unit, facts.as_slice())?;
@@ -125,11 +125,11 @@ fn units_for<'a>(
 /// The facts of a target, members within their tuples.
 fn facts_for<'a>(
     alloc: Global,
-    valued: &ValuedSet<'_, 'a>,
+    valued: &ValuedSet<'_, '_, 'a>,
     target: &str,
 ) -> Result<List<Fact>, NoMemory>
     ensures facts { IfOk result (λ l. AreFacts (SaysIn valued.now) valued.now.elements deepest
-        (filter (spec.is_outer (asks valued.now.elements) target.now) valued.now.elements) (facts_of l)) }
+        (filter (contents.is_outer (asks valued.now.elements) target.now) valued.now.elements) (facts_of l)) }
     ensures shallow { IfOk result (λ l. depth (facts_of l) ≤ DEEPEST_TUPLE) }
 {
     let facts = at(alloc, &valued.groups.facts, target)?;
@@ -141,7 +141,7 @@ fn facts_for<'a>(
 /// What the elements of a set say of a target, each list as they come.
 fn gathered<'a>(
     alloc: Global,
-    valued: &ValuedSet<'_, 'a>,
+    valued: &ValuedSet<'_, '_, 'a>,
     target: &str,
 ) -> Result<Content, NoMemory>
     ensures gathered { IfOk result (IsGathered (base_in valued.now.bases) valued.now.elements target.now) }
@@ -170,7 +170,7 @@ fn gathered<'a>(
 /// The content of a target.
 fn content_of<'a>(
     alloc: Global,
-    valued: &ValuedSet<'_, 'a>,
+    valued: &ValuedSet<'_, '_, 'a>,
     target: &str,
 ) -> Result<Content, NoMemory>
     ensures content { IfOk result (IsContent (base_in valued.now.bases) valued.now.elements target.now) }
@@ -182,14 +182,14 @@ fn content_of<'a>(
 
 /// Whether an element has a target of its own.
 fn has_target(spot: &Spot<'_>) -> bool
-    ensures { result ≡ spec.has_target (located spot.now) }
+    ensures { result ≡ contents.has_target (located spot.now) }
 {
     is_fact(spot) || kind_of(spot) == Kind::References
 }
 
 /// The targets that elements have, as often as they do.
 fn each_target<'a>(alloc: Global, spots: &[&'a Spot<'a>]) -> Result<Vec<&'a str>, NoMemory>
-    ensures { IfOk result (λ v. values_of v.items ≡ flat_map spec.targets_at (all_located spots.now)) }
+    ensures { IfOk result (λ v. values_of v.items ≡ flat_map contents.targets_at (all_located spots.now)) }
 {
     let mut names = Vec::new(alloc);
     for spot in spots {
@@ -212,7 +212,7 @@ fn names_of<'a>(alloc: Global, index: &Index<'a>) -> Result<Vec<&'a str>, NoMemo
 /// A target with its content.
 fn target_named<'a>(
     alloc: Global,
-    valued: &ValuedSet<'_, 'a>,
+    valued: &ValuedSet<'_, '_, 'a>,
     name: &str,
 ) -> Result<Target, NoMemory>
     ensures name { IfOk result (λ t. t.name ≡ name.now) }
@@ -228,7 +228,7 @@ fn target_named<'a>(
 /// The targets of these names.
 fn targets_named<'a>(
     alloc: Global,
-    valued: &ValuedSet<'_, 'a>,
+    valued: &ValuedSet<'_, '_, 'a>,
     names: &[&str],
 ) -> Result<List<Target>, NoMemory>
     ensures targets { IfOk result (AreTargets (base_in valued.now.bases) valued.now.elements (values_of names.now)) }
@@ -245,7 +245,7 @@ fn targets_named<'a>(
 /// The targets of a set, each with its content.
 pub(crate) fn targets_of(
     alloc: Global,
-    valued: &ValuedSet<'_, '_>,
+    valued: &ValuedSet<'_, '_, '_>,
 ) -> Result<List<Target>, NoMemory>
     ensures targets { IfOk result (AreTargets (base_in valued.now.bases) valued.now.elements (target_names valued.now.elements)) }
     ensures written { IfOk result (All (λ t. IsWritable t.content)) }

@@ -4,7 +4,7 @@ ghost use Rattle.ix_base.specs.Facts.{Facts, before, facts_of, tuple};
 ghost use Rattle.ix_base.specs.Ids.{id_of};
 ghost use Rattle.ix_base.specs.LocatedElements as kinds;
 ghost use Rattle.ix_base.specs.LocatedElements.{located};
-ghost use Rattle.ix_base.specs.Membership as spec;
+ghost use Rattle.ix_base.specs.Membership as member;
 ghost use Rattle.id_table.specs.Tables.{all_located};
 ghost use Rattle.targets.specs.LinkedSets.{SaysIn};
 ghost use Rattle.targets.specs.Visits.{AreAmong};
@@ -22,7 +22,7 @@ use value_forms::is_nil;
 /// An item as a fact.
 fn item_fact<'a>(
     alloc: Global,
-    valued: &ValuedSet<'_, 'a>,
+    valued: &ValuedSet<'_, '_, 'a>,
     spot: &Spot<'a>,
 ) -> Result<Fact, NoMemory>
     requires among { Contains valued.now.elements (located spot.now) }
@@ -38,7 +38,7 @@ fn item_fact<'a>(
 
 /// A tuple with these facts within.
 fn tuple_of(alloc: Global, spot: &Spot<'_>, members: List<Fact>) -> Result<Tuple, NoMemory>
-    ensures name { IfOk result (λ t. t.name ≡ spec.fact_name (located spot.now)) }
+    ensures name { IfOk result (λ t. t.name ≡ member.fact_name (located spot.now)) }
     ensures id { IfOk result (λ t. t.id ≡ id_of (located spot.now)) }
     ensures nil { IfOk result (λ t. t.nil ≡ kinds.is_nil (located spot.now)) }
     ensures members { IfOk result (λ t. t.members ≡ members) }
@@ -56,7 +56,8 @@ fn tuple_of(alloc: Global, spot: &Spot<'_>, members: List<Fact>) -> Result<Tuple
 /// The same as a fact.
 fn tuple_fact(alloc: Global, spot: &Spot<'_>, members: List<Fact>) -> Result<Fact, NoMemory>
     ensures { IfOk result (λ f. (rest : Facts) → before f rest
-        ≡ tuple (spec.fact_name (located spot.now)) (id_of (located spot.now)) (kinds.is_nil (located spot.now)) (facts_of members) rest) }
+        ≡ tuple (member.fact_name (located spot.now)) (id_of (located spot.now)) (kinds.is_nil (located spot.now)) (facts_of members)
+        rest) }
 {
     let tuple = tuple_of(alloc, spot, members)?;
     Ok(Fact::Tuple(tuple))
@@ -66,7 +67,7 @@ fn tuple_fact(alloc: Global, spot: &Spot<'_>, members: List<Fact>) -> Result<Fac
 #[cycle(facts)]
 fn members_in<'a>(
     alloc: Global,
-    valued: &ValuedSet<'_, 'a>,
+    valued: &ValuedSet<'_, '_, 'a>,
     tuple: &Spot<'a>,
     depth: u32,
 ) -> Result<List<Fact>, NoMemory>
@@ -84,7 +85,7 @@ fn members_in<'a>(
 #[cycle(facts)]
 pub(crate) fn facts_at<'a>(
     alloc: Global,
-    valued: &ValuedSet<'_, 'a>,
+    valued: &ValuedSet<'_, '_, 'a>,
     spots: &[&'a Spot<'a>],
     depth: u32,
 ) -> Result<List<Fact>, NoMemory>

@@ -6,30 +6,30 @@ use std::marker::Model;
 
 /// A set whose links break no rule. Contracts see its elements, with the bases of their pages.
 #[derive(Drop)]
-pub(crate) struct LinkedSet<'s, 'a> {
-    pub(crate) linked: Linked<'s, 'a>,
+pub(crate) struct LinkedSet<'l, 's, 'a> {
+    pub(crate) linked: &'l Linked<'s, 'a>,
 }
 
-impl<'s, 'a> Model for LinkedSet<'s, 'a> {
+impl<'l, 's, 'a> Model for LinkedSet<'l, 's, 'a> {
     ghost use Rattle.targets.specs.LinkedSets.{BasedElements, IsLinked, IsShallow, based, based_code};
 
     ghost Value = { BasedElements };
 
     ghost coded = { based_code };
 
-    ghost view = { λ s. based s.linked };
+    ghost view = { λ s. based s.linked.now };
 
-    ghost invariant = { λ s. IsLinked s.linked × IsShallow (based s.linked) };
+    ghost invariant = { λ s. IsLinked s.linked.now × IsShallow (based s.linked.now) };
 }
 
 /// A set whose links and values break no rule, with its facts and references by their targets. Contracts see the same of it.
 #[derive(Drop)]
-pub(crate) struct ValuedSet<'s, 'a> {
-    pub(crate) set: LinkedSet<'s, 'a>,
+pub(crate) struct ValuedSet<'l, 's, 'a> {
+    pub(crate) set: LinkedSet<'l, 's, 'a>,
     pub(crate) groups: Groups<'a>,
 }
 
-impl<'s, 'a> Model for ValuedSet<'s, 'a> {
+impl<'l, 's, 'a> Model for ValuedSet<'l, 's, 'a> {
     ghost use Rattle.targets.specs.Groups.{AreGroups};
     ghost use Rattle.targets.specs.LinkedSets.{BasedElements, IsValued, based_code};
 

@@ -4,7 +4,7 @@ ghost use Rattle.std.specs.List.{filter_map, flat_map};
 ghost use Rattle.ix_base.specs.LocatedElements.{base_in};
 ghost use Rattle.ix_base.specs.declared.kind.Kind.TheVariants as kind;
 ghost use Rattle.footnotes.specs.FootnoteLinks as footnote_links;
-ghost use Rattle.targets.specs.Contents as spec;
+ghost use Rattle.targets.specs.Contents as contents;
 ghost use Rattle.targets.specs.RoleAddresses.{role_seen};
 ghost use Rattle.targets.specs.Visits.{values_of};
 
@@ -26,7 +26,7 @@ fn push_footnote_roles<'n>(notes: &'n [Footnote], uris: &mut Vec<&'n str>) -> Re
 
 /// Adds the role of a link, and those of its footnotes.
 fn push_roles<'n>(link: &'n NoteLink, uris: &mut Vec<&'n str>) -> Result<(), NoMemory>
-    ensures { OnOk result (values_of uris.new.items ≡ values_of uris.old.items ++ spec.roles_in link.now) }
+    ensures { OnOk result (values_of uris.new.items ≡ values_of uris.old.items ++ contents.roles_in link.now) }
 {
     uris.push(link.role.as_str())?;
     push_footnote_roles(link.footnotes.as_slice(), uris)
@@ -34,7 +34,7 @@ fn push_roles<'n>(link: &'n NoteLink, uris: &mut Vec<&'n str>) -> Result<(), NoM
 
 /// The roles that links use, as often as they do.
 fn each_role<'n>(alloc: Global, links: &'n [NoteLink]) -> Result<Vec<&'n str>, NoMemory>
-    ensures { IfOk result (λ v. values_of v.items ≡ flat_map spec.roles_in links.now) }
+    ensures { IfOk result (λ v. values_of v.items ≡ flat_map contents.roles_in links.now) }
 {
     let mut uris = Vec::new(alloc);
     for link in links {
@@ -55,7 +55,7 @@ fn push_arcroles<'n>(arcs: &'n [Arc], uris: &mut Vec<&'n str>) -> Result<(), NoM
 
 /// The arcroles that links use, as often as they do.
 fn each_arcrole<'n>(alloc: Global, links: &'n [NoteLink]) -> Result<Vec<&'n str>, NoMemory>
-    ensures { IfOk result (λ v. values_of v.items ≡ flat_map spec.arcroles_in links.now) }
+    ensures { IfOk result (λ v. values_of v.items ≡ flat_map contents.arcroles_in links.now) }
 {
     let mut uris = Vec::new(alloc);
     for link in links {
@@ -100,13 +100,13 @@ fn references_for(
 /// The footnote links of a target.
 pub(crate) fn notes_for(
     alloc: Global,
-    set: &LinkedSet<'_, '_>,
+    set: &LinkedSet<'_, '_, '_>,
     target: &str,
 ) -> Result<List<NoteLink>, NoMemory>
     ensures { IfOk result (λ l. l ≡ footnote_links.notes (base_in set.now.bases) set.now.elements target.now) }
 {
     chains_on_pages();
-    let linked = &set.linked;
+    let linked = set.linked;
     linked
         .relations
         .notes(alloc, target, &linked.chains, linked.bases)
@@ -115,11 +115,11 @@ pub(crate) fn notes_for(
 /// The references for the roles that links use.
 pub(crate) fn roles_for(
     alloc: Global,
-    set: &LinkedSet<'_, '_>,
+    set: &LinkedSet<'_, '_, '_>,
     links: &[NoteLink],
 ) -> Result<List<RoleRef>, NoMemory>
     ensures { IfOk result (λ l. l
-        ≡ spec.roles_for (base_in set.now.bases) set.now.elements kind.RoleRef (spec.uris_in spec.roles_in links.now)) }
+        ≡ contents.roles_for (base_in set.now.bases) set.now.elements kind.RoleRef (contents.uris_in contents.roles_in links.now)) }
 {
     let mut uris = each_role(alloc, links)?;
     each_once(&mut uris);
@@ -129,11 +129,11 @@ pub(crate) fn roles_for(
 /// The references for the arcroles that links use.
 pub(crate) fn arcroles_for(
     alloc: Global,
-    set: &LinkedSet<'_, '_>,
+    set: &LinkedSet<'_, '_, '_>,
     links: &[NoteLink],
 ) -> Result<List<RoleRef>, NoMemory>
     ensures { IfOk result (λ l.
-        l ≡ spec.roles_for (base_in set.now.bases) set.now.elements kind.ArcroleRef (spec.uris_in spec.arcroles_in links.now)) }
+        l ≡ contents.roles_for (base_in set.now.bases) set.now.elements kind.ArcroleRef (contents.uris_in contents.arcroles_in links.now)) }
 {
     let mut uris = each_arcrole(alloc, links)?;
     each_once(&mut uris);

@@ -3,7 +3,7 @@ ghost use Rattle.std.specs.Prelude.{◌≡◌, ◌<◌, length, map, IfOk};
 ghost use Rattle.ix_base.specs.LocatedElements.{base_in, located};
 ghost use Rattle.ix_base.specs.LinkRules as rules;
 ghost use Rattle.id_table.specs.Tables.{all_located};
-ghost use Rattle.targets.specs.Contents as spec;
+ghost use Rattle.targets.specs.Contents as contents;
 ghost use Rattle.targets.specs.Visits.{AreOnPages};
 
 use crate::addresses::{address_of, link_token};
@@ -29,7 +29,7 @@ pub(crate) fn addresses_at(
 
 /// A text that is owned, unless it is empty.
 fn own_unless_empty(alloc: Global, text: &str) -> Result<Option<Text>, NoMemory>
-    ensures { IfOk result (λ o. o ≡ spec.if_any text.now) }
+    ensures { IfOk result (λ o. o ≡ contents.if_any text.now) }
 {
     if text.is_empty() {
         return Ok(None);
@@ -40,7 +40,7 @@ fn own_unless_empty(alloc: Global, text: &str) -> Result<Option<Text>, NoMemory>
 /// What a linkbaseRef refers to.
 fn linkbase_of(alloc: Global, bases: &Bases, spot: &Spot<'_>) -> Result<Linkbase, NoMemory>
     requires { (located spot.now).page < length bases.now.pages }
-    ensures { IfOk result (λ l. l ≡ spec.linkbase_at (base_in bases.now.pages) (located spot.now)) }
+    ensures { IfOk result (λ l. l ≡ contents.linkbase_at (base_in bases.now.pages) (located spot.now)) }
 {
     Ok(Linkbase {
         href: address_of(alloc, bases, spot)?,
@@ -55,7 +55,7 @@ pub(crate) fn linkbases_at(
     spots: &[&Spot<'_>],
 ) -> Result<List<Linkbase>, NoMemory>
     requires { AreOnPages bases.now.pages spots.now }
-    ensures { IfOk result (λ l. l ≡ map (spec.linkbase_at (base_in bases.now.pages)) (all_located spots.now)) }
+    ensures { IfOk result (λ l. l ≡ map (contents.linkbase_at (base_in bases.now.pages)) (all_located spots.now)) }
 {
     let mut linkbases = List::new(alloc);
     for spot in spots {

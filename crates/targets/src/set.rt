@@ -1,4 +1,4 @@
-//! A set of pages.
+//! Adding pages to a set.
 ghost use Rattle.std.specs.Prelude.{◌≡◌, ◌++◌, ◌∷◌, [], length, true, false, IfOk, OnOk, OnErr, IsErr};
 ghost use Rattle.ix_base.specs.declared.limits.TheConstants.{DEEPEST_ELEMENT};
 ghost use Rattle.ix_base.specs.Sound.{IsSoundRoot};

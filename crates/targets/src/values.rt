@@ -1,7 +1,7 @@
 //! The items of a set, and the rules of values that they break.
 ghost use Rattle.std.specs.Prelude.{◌≡◌, ◌<◌, ◌++◌, ◌∷◌, List, [], All, Contains, length, option_map, true, filter, Some, IfOk, IfSome, OnOk};
 ghost use Rattle.ix_base.specs.Asks.{asks};
-ghost use Rattle.ix_base.specs.Chain as spec;
+ghost use Rattle.ix_base.specs.Chain as chains;
 ghost use Rattle.ix_base.specs.Elements.{place_of};
 ghost use Rattle.ix_base.specs.LocatedElements as kinds;
 ghost use Rattle.ix_base.specs.LocatedElements.{base_in, is_kind, located};
@@ -23,10 +23,10 @@ use std::alloc::Global;
 use value_forms::is_nil;
 
 /// The chain of a nonNumeric; for another item nothing.
-fn chain_of<'a>(set: &LinkedSet<'_, 'a>, spot: &Spot<'a>) -> &'a [&'a Spot<'a>]
+fn chain_of<'a>(set: &LinkedSet<'_, '_, 'a>, spot: &Spot<'a>) -> &'a [&'a Spot<'a>]
     requires { Contains set.now.elements (located spot.now) }
     ensures chain { is_kind kind.NonNumeric (located spot.now) ≡ true
-        → all_located result.now ≡ spec.chain (asks set.now.elements) (located spot.now) }
+        → all_located result.now ≡ chains.chain (asks set.now.elements) (located spot.now) }
     ensures pages { All (λ s. (place_of s.now).page < length set.now.bases) result.now }
     ensures own { AreOnOwnPages result.now }
 {
@@ -40,7 +40,7 @@ fn chain_of<'a>(set: &LinkedSet<'_, 'a>, spot: &Spot<'a>) -> &'a [&'a Spot<'a>]
 /// What an item says, or the lowest rule of values that it breaks.
 pub(crate) fn item_at<'a>(
     alloc: Global,
-    set: &LinkedSet<'_, 'a>,
+    set: &LinkedSet<'_, '_, 'a>,
     spot: &Spot<'a>,
 ) -> Result<Item, ItemFault>
     requires { Contains set.now.elements (located spot.now) }
@@ -79,7 +79,7 @@ fn is_faultless(spot: &Spot<'_>) -> bool
 /// Adds the rule of values that an item breaks, if it breaks one. No item is made where its attributes tell that it breaks none.
 fn add_value<'a>(
     alloc: Global,
-    set: &LinkedSet<'_, 'a>,
+    set: &LinkedSet<'_, '_, 'a>,
     spot: &Spot<'a>,
     found: &mut Breaches,
 ) -> Result<(), NoMemory>
@@ -101,7 +101,7 @@ fn add_value<'a>(
 /// The same of an element, where it is an item.
 fn add_if_item<'a>(
     alloc: Global,
-    set: &LinkedSet<'_, 'a>,
+    set: &LinkedSet<'_, '_, 'a>,
     found: &mut Breaches,
     spot: &Spot<'a>,
 ) -> Result<(), NoMemory>
@@ -119,7 +119,7 @@ fn add_if_item<'a>(
 /// The rules of values that these elements break.
 fn faults_among<'a>(
     alloc: Global,
-    set: &LinkedSet<'_, 'a>,
+    set: &LinkedSet<'_, '_, 'a>,
     spots: &[&'a Spot<'a>],
 ) -> Result<Breaches, NoMemory>
     requires { AreAmong set.now.elements spots.now }
@@ -134,7 +134,7 @@ fn faults_among<'a>(
 }
 
 /// The rules of values that the items of a set break.
-pub(crate) fn value_faults(alloc: Global, set: &LinkedSet<'_, '_>) -> Result<Breaches, NoMemory>
+pub(crate) fn value_faults(alloc: Global, set: &LinkedSet<'_, '_, '_>) -> Result<Breaches, NoMemory>
     ensures { IfOk result (AreOfItems (IsItem (base_in set.now.bases) (asks set.now.elements))
         (filter kinds.is_item set.now.elements)) }
 {

@@ -13,7 +13,7 @@ use Rattle.tr4_dates.specs.declared.part.Fields.{Fields}
 use Rattle.tr4_dates.specs.declared.format.Language.{Language}
 use Rattle.tr4_dates.specs.declared.part.Part.{Part}
 use Rattle.tr4_dates.specs.Parts.{nothing, put}
-use Rattle.tr4_dates.specs.Readers.{read, says, piece_at, separator, is_linked, closes, name_at, is_number, month_in, month_of}
+use Rattle.tr4_dates.specs.Readers.{read, says, piece_at, separator, is_linked, closes, name_at, is_number_part, month_in, month_of}
 use Rattle.tr4_dates.specs.declared.part.Part.TheVariants.{Day, Month, Year, Gap, Tail, Signs, Edge, Ordinal, Name}
 use Rattle.tr4_dates.proofs.Pieces.{separator_parted}
 use Rattle.tr4_dates.proofs.RunLemmas.{run_after, all_in-run}
@@ -146,7 +146,7 @@ name_more l t i within h = ap length (name_split l t i within ∙ cond-false _ _
 pub name_done : (l : Language) (t : List ℕ) (i : ℕ) → length t ≤ i → length (name_at l (drop i t)) ≡ 0
 name_done l t i past = ap (λ x. length (name_at l x)) (drop_all i t past) ∙ name_nil l
 
-pub piece_digits : (l : Language) (p : Part) (text : List ℕ) → is_number p ≡ true
+pub piece_digits : (l : Language) (p : Part) (text : List ℕ) → is_number_part p ≡ true
     → all_in digits (piece_at l p text) ≡ true
 unfolding piece_at
 piece_digits l Day text h = all_in-run digits text

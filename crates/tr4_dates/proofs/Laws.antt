@@ -16,7 +16,7 @@ use Rattle.tr4_dates.specs.declared.part.Part.TheVariants.{Day, Month, Year, Gap
 use Rattle.tr4_dates.specs.Languages.{names, ordinals, has_links}
 use Rattle.tr4_dates.specs.Runs.{Class, Digit, Letter, Sign, class_of, is_nil, digits, letters, others, signs, alphanumerics, all_in, begins_in, ends_in, run, after, number}
 use Rattle.tr4_dates.specs.Parts.{IsIn, IsSmall, IsYear, IsName, IsSeparator, Joins, put, year_of, is_year_size, is_ordinal, is_listed, is_link_word}
-use Rattle.tr4_dates.specs.Readers.{read, says, piece_at, small, is_within, when, month_of, month_in, is_number, is_linked, closes, separator, name_at}
+use Rattle.tr4_dates.specs.Readers.{read, says, piece_at, small, is_within, when, month_of, month_in, is_number_part, is_linked, closes, separator, name_at}
 use Rattle.tr4_dates.proofs.RunLemmas.{run_after, all_in-run, begins_in-after, run-append, run-whole}
 use Rattle.tr4_dates.proofs.KeyTests.{bytes_eq-true}
 use Rattle.tr4_dates.proofs.MonthKeys.{month_found, named_from}
@@ -205,7 +205,7 @@ record Closes (l : Language) (behind : List ℕ) : Type 0 where
   no_letter : begins_in letters behind ≡ false
   close : closes l behind ≡ true
 
-number_first : (l : Language) (p : Part) (before piece behind : List ℕ) (ns : Option ℕ) → is_number p ≡ true
+number_first : (l : Language) (p : Part) (before piece behind : List ℕ) (ns : Option ℕ) → is_number_part p ≡ true
     → IsIn l p before piece behind ns → begins_in digits piece ≡ true
 number_first l Day before piece behind ns h i = first_in digits piece i.2.digits i.2.some
 number_first l Month before piece behind ns h i = first_in digits piece i.2.digits i.2.some
@@ -266,7 +266,7 @@ value_next l (Signs ∷ ps) b before behind ns next row j = absurd (cc)
 value_next l (Edge ∷ ps) b before behind ns next row j = absurd (cc)
 value_next l (Ordinal ∷ ps) b before behind ns next row j = absurd (cc)
 value_next l (Name ∷ ps) b before behind ns next row j =
-    let told = (and_parts (is_name_end ps) _ (and_parts (not (is_number Name && b)) _ row).1).0 in
+    let told = (and_parts (is_name_end ps) _ (and_parts (not (is_number_part Name && b)) _ row).1).0 in
     let later = name_end l ps (before ++ j.0) j.1 j.3 told j.7 in
     let plain = plain_name l j.0 j.6.0 j.6.2 in
     subst (Follows l) (sym j.4) (record {
@@ -351,7 +351,7 @@ pub complete : (l : Language) (ps : List Part) (b : Bool) (before text : List �
 unfolding read
 complete l [] b before text ns row j = rw (j.0, j.1) refl
 complete l (p ∷ ps) b before text ns row j =
-    let parts = and_parts (not (is_number p && b)) _ row in
+    let parts = and_parts (not (is_number_part p && b)) _ row in
     let later = and_parts (is_told p ps) _ parts.1 in
     let piece = piece_again l p ps (may_end b p) before j.0 j.1 j.2 j.3 later.0 later.1 j.6 j.7 in
     let said = says_of l p before j.0 j.1 j.2 j.6 in
@@ -467,7 +467,7 @@ first_sign l text h =
     ∙ begins_whole signs (separator l text) (behind_separator l text) h
 
 in_from : (l : Language) (p : Part) (before text : List ℕ) (own : Option ℕ)
-    → says l p (piece_at l p text) ≡ Some own → (is_number p ≡ true → ends_in digits before ≡ false)
+    → says l p (piece_at l p text) ≡ Some own → (is_number_part p ≡ true → ends_in digits before ≡ false)
     → IsIn l p before (piece_at l p text) (drop (length (piece_at l p text)) text) own
 unfolding piece_at says
 in_from l Day before text own said front =
@@ -534,7 +534,7 @@ separator_other l piece (inr h) =
     ap (all_in others) linked.joined
     ∙ all_append others linked.front (linked.link ++ linked.back) front (all_append others linked.link linked.back link back)
 
-no_digit_of : (l : Language) (p : Part) (before piece behind : List ℕ) (ns : Option ℕ) → is_number p ≡ false
+no_digit_of : (l : Language) (p : Part) (before piece behind : List ℕ) (ns : Option ℕ) → is_number_part p ≡ false
     → IsIn l p before piece behind ns → all_in others piece ≡ true
 no_digit_of l Day before piece behind ns h i = absurd (true≢false h)
 no_digit_of l Month before piece behind ns h i = absurd (true≢false h)
@@ -550,10 +550,10 @@ next_front : (l : Language) (b : Bool) (p : Part) (before piece behind : List �
     → IsIn l p before piece behind ns → (b ≡ false → ends_in digits before ≡ false) → may_end b p ≡ false
     → ends_in digits (before ++ piece) ≡ false
 next_front l b p before piece behind ns i front no_end =
-    elim (cases_Bool (is_number p)) [
-      | inl yes_n ↦ absurd (true≢false (sym (cond-true (is_number p) true _ yes_n) ∙ no_end))
+    elim (cases_Bool (is_number_part p)) [
+      | inl yes_n ↦ absurd (true≢false (sym (cond-true (is_number_part p) true _ yes_n) ∙ no_end))
       | inr no_n ↦
-          let rest = sym (cond-false (is_number p) true (cond (may_be_empty p) b false) no_n) ∙ no_end in
+          let rest = sym (cond-false (is_number_part p) true (cond (may_be_empty p) b false) no_n) ∙ no_end in
           let all = no_digit_of l p before piece behind ns no_n i in
           elim (cases_Bool (may_be_empty p)) [
             | inl empty ↦ ends_in-append digits others before piece other_no_digit all (inl (front (sym (cond-true (may_be_empty p) b false empty) ∙ rest)))
@@ -562,7 +562,7 @@ next_front l b p before piece behind ns i front no_end =
     ]
 
 -- a digit stands before a number in no row
-is_open : (p : Part) (b : Bool) → not (is_number p && b) ≡ true → is_number p ≡ true → b ≡ false
+is_open : (p : Part) (b : Bool) → not (is_number_part p && b) ≡ true → is_number_part p ≡ true → b ≡ false
 is_open p b h n = grind arith
 
 pub sound : (l : Language) (ps : List Part) (b : Bool) (before text : List ℕ) (ns : Fields) → is_row b ps ≡ true
@@ -571,7 +571,7 @@ unfolding read
 sound l [] b before [] ns row front r = (refl, cc)
 sound l [] b before (c ∷ cs) ns row front r = absurd (cc)
 sound l (p ∷ ps) b before text ns row front r =
-    let parts = and_parts (not (is_number p && b)) _ row in
+    let parts = and_parts (not (is_number_part p && b)) _ row in
     let later = and_parts (is_told p ps) _ parts.1 in
     let piece = piece_at l p text in
     let behind = drop (length piece) text in

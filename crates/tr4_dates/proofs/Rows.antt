@@ -2,7 +2,7 @@
 use Rattle.std.proofs.Common.{Bool, true, false, not, ◌&&◌, ◌||◌, List, [], ◌∷◌, if◌then◌else◌}
 use Rattle.tr4_dates.specs.declared.part.Part.{Part}
 use Rattle.tr4_dates.specs.declared.part.Part.TheVariants.{Day, Month, Year, Gap, Tail, Signs, Edge, Ordinal, Name}
-use Rattle.tr4_dates.specs.Readers.{is_number}
+use Rattle.tr4_dates.specs.Readers.{is_number_part}
 use Rattle.tr4_dates.specs.Runs.{Class, Digit, Letter, Sign, digits, letters, others, signs}
 
 -- the set of the run that a part takes, or that its first byte is of
@@ -50,7 +50,7 @@ is_value_next (Ordinal ∷ ps) = false
 
 abbrev pub is_number_next : List Part → Bool
 is_number_next [] = false
-is_number_next (p ∷ ps) = is_number p
+is_number_next (p ∷ ps) = is_number_part p
 
 abbrev pub is_end : List Part → Bool
 is_end [] = true
@@ -82,8 +82,8 @@ is_told Name ps = is_name_end ps
 
 -- whether the text in front of what follows may end in a digit
 abbrev pub may_end : Bool → Part → Bool
-may_end before p = if is_number p then true else (if may_be_empty p then before else false)
+may_end before p = if is_number_part p then true else (if may_be_empty p then before else false)
 
 abbrev pub is_row : Bool → List Part → Bool
 is_row before [] = true
-is_row before (p ∷ ps) = not (is_number p && before) && (is_told p ps && is_row (may_end before p) ps)
+is_row before (p ∷ ps) = not (is_number_part p && before) && (is_told p ps && is_row (may_end before p) ps)

@@ -89,13 +89,13 @@ read l (p ∷ ps) text =
     (says l p (piece_at l p text))
 
 -- the part takes digits
-abbrev pub is_number : Part → Bool
-is_number Day = true
-is_number Month = true
-is_number Year = true
-is_number Gap = false
-is_number Tail = false
-is_number Signs = false
-is_number Edge = false
-is_number Ordinal = false
-is_number Name = false
+abbrev pub is_number_part : Part → Bool
+is_number_part Day = true
+is_number_part Month = true
+is_number_part Year = true
+is_number_part Gap = false
+is_number_part Tail = false
+is_number_part Signs = false
+is_number_part Edge = false
+is_number_part Ordinal = false
+is_number_part Name = false

@@ -1,4 +1,4 @@
-//! The names of the months.
+//! Months, and the words for them.
 ghost use Rattle.std.specs.Prelude.{◌≡◌, chars, IfOk};
 ghost use Rattle.caseless.specs.Caseless.{canonical_key};
 ghost use Rattle.tr4_dates.specs.Code.{rows_of};

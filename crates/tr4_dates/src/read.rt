@@ -3,7 +3,7 @@ ghost use Rattle.std.specs.Prelude.{◌+◌, ◌-◌, ◌≡◌, ◌≤◌, ◌&
 ghost use Rattle.std.specs.Char.{to_ascii_lowercase};
 ghost use Rattle.tr4_dates.specs.Languages.{has_links};
 ghost use Rattle.tr4_dates.specs.Parts.{is_link_word, is_ordinal, is_year_size};
-ghost use Rattle.tr4_dates.specs.Readers.{separator, closes, name_at, piece_at, says, read, small, year, when, is_number};
+ghost use Rattle.tr4_dates.specs.Readers.{separator, closes, name_at, piece_at, says, read, small, year, when, is_number_part};
 ghost use Rattle.tr4_dates.specs.Runs.{class_of, digits, letters, all_in, begins_in, number};
 
 use crate::format::Language;
@@ -192,7 +192,7 @@ fn said(
     part: Part,
     piece: &[u8],
 ) -> Result<Option<Option<u16>>, NoMemory>
-    requires { is_number part ≡ true → all_in digits piece.now ≡ true }
+    requires { is_number_part part ≡ true → all_in digits piece.now ≡ true }
     ensures { IfOk result (λ r. r ≡ says language part piece.now) }
 {
     match part {

@@ -11,7 +11,7 @@ use Rattle.text_map.specs.Texts.{Texts}
 use Rattle.ix_base.specs.Asks.{Asks, only}
 use Rattle.ix_base.specs.Ids.{one_tuple}
 use Rattle.ix_base.specs.LocatedElements.{Located, located}
-use Rattle.ix_base.specs.Membership as spec
+use Rattle.ix_base.specs.Membership as member
 use Rattle.ix_base.specs.declared.tree.Spot.{Spot}
 use Rattle.id_table.specs.declared.slice.Slice.{Slice}
 use Rattle.id_table.specs.Slices.{lists_in, slice_at}
@@ -38,7 +38,7 @@ pub tuple-is : (m : Texts (Vec (Bor Spot) Global)) (ls : List ((ℕ × ℕ) × L
 tuple-is m ls id = ap (λ o. only (option_map_or (λ l. l) o [])) (lookup-map_values (λ (w : Vec (Bor Spot) Global). all_located w.items) (bytes_eq id) m) ∙ one-of (lookup (bytes_eq id) m)
 
 -- owners by tables in which the one tuple stands at each tuple id
-pub owner-same : (k : Kept) (a : Asks Located) → ((id : List ℕ) → tuple_at k id ≡ one_tuple a id) → (e : Located) (o : Option (List ℕ)) → owner_by k e o ≡ spec.owner_by a e o
+pub owner-same : (k : Kept) (a : Asks Located) → ((id : List ℕ) → tuple_at k id ≡ one_tuple a id) → (e : Located) (o : Option (List ℕ)) → owner_by k e o ≡ member.owner_by a e o
 owner-same k a h e None = refl
 owner-same k a h e (Some id) = h id
 

@@ -5,10 +5,10 @@ use Rattle.ix_base.specs.LocatedElements.{Located, is_fact}
 use Rattle.ix_base.specs.Membership.{order_of}
 
 -- an order, where there is one, is a decimal
-abbrev pub is_number : Option (List ℕ) → Bool
-is_number None = true
-is_number (Some n) = is_decimal n
+abbrev pub is_order_number : Option (List ℕ) → Bool
+is_order_number None = true
+is_order_number (Some n) = is_decimal n
 
 -- the order of a fact is one
 abbrev pub fits : Located → Bool
-fits e = not (is_fact e) || is_number (order_of e)
+fits e = not (is_fact e) || is_order_number (order_of e)

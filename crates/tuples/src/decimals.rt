@@ -3,14 +3,14 @@ ghost use Rattle.std.specs.Prelude.{◌≡◌, ◌++◌, true};
 ghost use Rattle.ix_base.specs.Decimals.{front_of, back_of};
 ghost use Rattle.ix_base.specs.Forms as forms;
 ghost use Rattle.ix_base.specs.Orders as orders;
-ghost use Rattle.tuples.specs.DecimalOrder as spec;
+ghost use Rattle.tuples.specs.DecimalOrder as decimal_order;
 
 use scale_sign::{has_minus, is_negative, parts_of, stripped, trimmed, unsigned_of};
 use std::cmp::Ordering;
 
 /// Two decimals without a sign, by their digits in front of the point and behind it.
 fn size_cmp(front: &[u8], back: &[u8], other_front: &[u8], other_back: &[u8]) -> Ordering
-    ensures { result ≡ spec.size_cmp front.now back.now other_front.now other_back.now }
+    ensures { result ≡ decimal_order.size_cmp front.now back.now other_front.now other_back.now }
 {
     let front = stripped(front);
     let other_front = stripped(other_front);
@@ -28,7 +28,7 @@ fn signed_cmp(
     sizes: Ordering,
     turned: Ordering,
 ) -> Ordering
-    ensures { result ≡ spec.signed_cmp is_negative is_other_negative sizes turned }
+    ensures { result ≡ decimal_order.signed_cmp is_negative is_other_negative sizes turned }
 {
     match (is_negative, is_other_negative) {
         (false, false) => sizes,

@@ -4,7 +4,7 @@ ghost use Rattle.ix_base.specs.LocatedElements as kinds;
 ghost use Rattle.ix_base.specs.LocatedElements.{located};
 ghost use Rattle.ix_base.specs.Membership.{order_of};
 ghost use Rattle.ix_base.specs.Spots.{IsOnOnePage};
-ghost use Rattle.tuples.specs.OrderNumbers.{is_number};
+ghost use Rattle.tuples.specs.OrderNumbers.{is_order_number};
 
 use ix_base::Spot;
 
@@ -24,5 +24,5 @@ pub(crate) struct Fact<'a> {
     pub ghost on_page: { IsOnOnePage spot.now },
     pub ghost is_fact: { kinds.is_fact (located spot.now) ≡ true },
     pub ghost is_its: { option_map (λ s. s.now) order ≡ order_of (located spot.now) },
-    pub ghost is_decimal: { is_number (option_map (λ s. s.now) order) ≡ true },
+    pub ghost is_decimal: { is_order_number (option_map (λ s. s.now) order) ≡ true },
 }

@@ -2,7 +2,7 @@
 ghost use Rattle.std.specs.Prelude.{◌≡◌, ◌++◌, OnOk, IfOk, All, true, [], ◌∷◌, filter, option_map};
 ghost use Rattle.ix_base.specs.LocatedElements as kinds;
 ghost use Rattle.ix_base.specs.LocatedElements.{located};
-ghost use Rattle.ix_base.specs.Membership as spec;
+ghost use Rattle.ix_base.specs.Membership as member;
 ghost use Rattle.ix_base.specs.Spots.{IsOnOnePage};
 ghost use Rattle.id_table.specs.Model.{asked};
 ghost use Rattle.tuples.specs.OrderNumbers.{fits};
@@ -15,7 +15,7 @@ use ix_base::{NoMemory, Spot, is_fact, token_at};
 use std::alloc::Global;
 
 fn order_of<'a>(spot: &Spot<'a>) -> Option<&'a str>
-    ensures { option_map (λ s. s.now) result ≡ spec.order_of (located spot.now) }
+    ensures { option_map (λ s. s.now) result ≡ member.order_of (located spot.now) }
 {
     token_at(spot.element, "order")
 }

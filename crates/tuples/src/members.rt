@@ -5,7 +5,7 @@ ghost use Rattle.ix_base.specs.Asks.{only};
 ghost use Rattle.ix_base.specs.Elements.{placed};
 ghost use Rattle.ix_base.specs.Ids as ids;
 ghost use Rattle.ix_base.specs.LocatedElements.{is_fact, located, offset_of};
-ghost use Rattle.ix_base.specs.Membership as spec;
+ghost use Rattle.ix_base.specs.Membership as member;
 ghost use Rattle.ix_base.specs.Spots.{IsOnOnePage};
 ghost use Rattle.id_table.specs.Model.{asked};
 ghost use Rattle.id_table.specs.Slices.{slice_at};
@@ -80,9 +80,9 @@ fn place_of(spot: &Spot<'_>) -> (u32, u64)
 /// The nearest tuple around an element.
 fn tuple_around<'a>(spot: &Spot<'a>) -> Option<&'a Spot<'a>>
     ensures placed { option_map (λ s. placed s.now) result
-        ≡ option_map (λ o. o.placed) (spec.nearest_tuple (located spot.now).page (located spot.now).placed.above) }
+        ≡ option_map (λ o. o.placed) (member.nearest_tuple (located spot.now).page (located spot.now).placed.above) }
     ensures located { IsOnOnePage spot.now → option_map (λ s. located s.now) result
-        ≡ spec.nearest_tuple (located spot.now).page (located spot.now).placed.above }
+        ≡ member.nearest_tuple (located spot.now).page (located spot.now).placed.above }
     ensures page { IsOnOnePage spot.now → IfSome result (λ s. IsOnOnePage s.now) }
 {
     match nearest_tuple(spot.element.place.page, spot.up) {

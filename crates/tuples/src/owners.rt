@@ -3,7 +3,7 @@ ghost use Rattle.std.specs.Prelude.{◌≡◌, All, IfSome, option_map};
 ghost use Rattle.ix_base.specs.Elements.{placed, path_above};
 ghost use Rattle.ix_base.specs.Ids as ids;
 ghost use Rattle.ix_base.specs.LocatedElements.{located, on_page, offset_of};
-ghost use Rattle.ix_base.specs.Membership as spec;
+ghost use Rattle.ix_base.specs.Membership as member;
 ghost use Rattle.ix_base.specs.Spots.{IsOn, IsOnOnePage};
 ghost use Rattle.id_table.specs.Model.{asked};
 ghost use Rattle.id_table.specs.Tables.{elements_above};
@@ -24,7 +24,7 @@ pub(crate) fn place_of(owner: Owner<'_>) -> (u32, u64)
 
 /// The nearest tuple from an element up, on a page.
 pub(crate) fn nearest_tuple<'a>(page: u32, up: Option<&'a Spot<'a>>) -> Option<Owner<'a>>
-    ensures owner { option_map owner_seen result ≡ spec.nearest_tuple page (path_above up.entry) }
+    ensures owner { option_map owner_seen result ≡ member.nearest_tuple page (path_above up.entry) }
 
     // Where all above is of that page, so are the tuple and all above it.
     ensures located { All (IsOn page) (elements_above up.entry) → IfSome result (λ o. located o.spot.now ≡ owner_seen o) }
@@ -53,7 +53,7 @@ fn one_tuple<'a>(index: &Index<'a>, id: &str) -> Option<Owner<'a>>
 
 /// The owner of an element of this page.
 pub(crate) fn owner_on<'a>(index: &Index<'a>, page: u32, spot: &Spot<'a>) -> Option<Owner<'a>>
-    ensures { option_map owner_seen result ≡ spec.owner (asked index.now) (on_page page (placed spot.now)) }
+    ensures { option_map owner_seen result ≡ member.owner (asked index.now) (on_page page (placed spot.now)) }
 {
     match tuple_ref(spot) {
         Some(id) => one_tuple(index, id),
@@ -63,7 +63,7 @@ pub(crate) fn owner_on<'a>(index: &Index<'a>, page: u32, spot: &Spot<'a>) -> Opt
 
 /// The owner of a fact.
 pub(crate) fn owner_of<'a>(index: &Index<'a>, spot: &Spot<'a>) -> Option<Owner<'a>>
-    ensures { option_map owner_seen result ≡ spec.owner (asked index.now) (located spot.now) }
+    ensures { option_map owner_seen result ≡ member.owner (asked index.now) (located spot.now) }
 {
     owner_on(index, spot.element.place.page, spot)
 }

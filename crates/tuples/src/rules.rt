@@ -6,7 +6,7 @@ ghost use Rattle.ix_base.specs.Ids as ids;
 ghost use Rattle.ix_base.specs.LinkRules as rules_of;
 ghost use Rattle.ix_base.specs.LinkRules.{breaking, broken_at, breaks_link};
 ghost use Rattle.ix_base.specs.LocatedElements as kinds;
-ghost use Rattle.ix_base.specs.Membership as spec;
+ghost use Rattle.ix_base.specs.Membership as member;
 ghost use Rattle.id_table.specs.Model.{asked};
 ghost use Rattle.tuples.specs.MemberTables.{AreGrouped};
 ghost use Rattle.tuples.specs.OwnedFacts.{all_seen, owner_seen, seen, IsKnown};
@@ -57,7 +57,7 @@ impl Test {
 /// Whether a fact refers to a tuple id that isn't the one of a tuple.
 fn misses_tuple(index: &Index<'_>, fact: &Fact<'_>) -> bool
     requires { IsKnown (asked index.now) fact.now }
-    ensures { result ≡ option_map_or (λ id. is_none (ids.one_tuple (asked index.now) id)) (spec.tuple_ref_of (seen fact.now)) false }
+    ensures { result ≡ option_map_or (λ id. is_none (ids.one_tuple (asked index.now) id)) (member.tuple_ref_of (seen fact.now)) false }
 {
     tuple_ref(fact.spot).is_some() && fact.owner.is_none()
 }
@@ -65,7 +65,7 @@ fn misses_tuple(index: &Index<'_>, fact: &Fact<'_>) -> bool
 /// Whether the owner of a fact is nil.
 fn has_nil_owner(index: &Index<'_>, fact: &Fact<'_>) -> bool
     requires { IsKnown (asked index.now) fact.now }
-    ensures { result ≡ option_map_or kinds.is_nil (spec.owner (asked index.now) (seen fact.now)) false }
+    ensures { result ≡ option_map_or kinds.is_nil (member.owner (asked index.now) (seen fact.now)) false }
 {
     match fact.owner {
         Some(owner) => is_nil(owner.spot.element),
@@ -97,7 +97,7 @@ fn are_above<'a>(index: &Index<'a>, most: usize, first: Option<Owner<'a>>) -> bo
 
 fn has_many_owners<'a>(index: &Index<'a>, fact: &Fact<'a>) -> bool
     requires { IsKnown (asked index.now) fact.now }
-    ensures { result ≡ (length (spec.owners (asked index.now) spec.deepest (seen fact.now)) == spec.deepest) }
+    ensures { result ≡ (length (member.owners (asked index.now) member.deepest (seen fact.now)) == member.deepest) }
 {
     are_above(index, DEEPEST_TUPLE as usize, fact.owner)
 }

@@ -1,4 +1,4 @@
-//! Facts by rising order.
+//! Sorting members.
 ghost use Rattle.std.specs.Prelude.{◌≡◌, OnOk, IfOk};
 ghost use Rattle.std.specs.List.Sorted.{IsSortedBy, IsStableBy};
 ghost use Rattle.tuples.specs.FactGroups.{is_earlier};

@@ -1,4 +1,4 @@
-//! Pages in memory.
+//! The pages of a run, where they lie in memory.
 ghost use Rattle.std.specs.Prelude.{◌≡◌, ◌+◌, ◌^◌, ◌<◌, ◌≤◌, Some, None, true, false, IsTrue, MatchOption, take, drop, is_none, is_ok, OnOk, IfOk, vec_len, length};
 ghost use Rattle.ix_base.specs.declared.limits.TheConstants.{LONGEST_NAME};
 ghost use Rattle.ix_base.specs.Causes.{Shows};

@@ -1,4 +1,4 @@
-//! Targets that lie in one list of bytes.
+//! Where targets in memory lie.
 ghost use Rattle.std.specs.Prelude.{◌≡◌, ◌+◌, ◌<◌, ◌≤◌, ◌++◌, ◌∷◌, [], true, false, if◌then◌else◌, Some, None, MatchOption, bytes_eq, vec_len, vec_capacity, length};
 ghost use Rattle.std.specs.List.{list_all};
 ghost use Rattle.ix_base.specs.Outside.{begun, last_grown, last_finished, room_of};

@@ -19,7 +19,7 @@ use Rattle.targets.proofs.contents.facts_for.Goals as goal
 
 pub facts_at-requires : goal.facts_at-requires
 facts_at-requires c =
-    let l = c.set.inside.linked in
+    let l = c.set.inside.linked.now in
     let target = c.args.target.now in
     let groups = subst (λ (b : BasedElements). AreGroups c.valued.inside.groups b.elements) (sym c.set.view_is) c.valued.invariant.1 in
     let facts = ap all_located (c.as_slice.ensures.value ∙ c.in_ok-facts.ensures) ∙ groups.facts target in
@@ -36,7 +36,7 @@ facts_at-requires c =
 
 pub returns : goal.returns
 returns c =
-    let l = c.set.inside.linked in
+    let l = c.set.inside.linked.now in
     let target = c.args.target.now in
     let groups = subst (λ (b : BasedElements). AreGroups c.valued.inside.groups b.elements) (sym c.set.view_is) c.valued.invariant.1 in
     let facts = ap all_located (c.as_slice.ensures.value ∙ c.in_ok-facts.ensures) ∙ groups.facts target in

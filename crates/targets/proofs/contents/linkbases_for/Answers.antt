@@ -13,7 +13,7 @@ use Rattle.targets.proofs.contents.linkbases_for.Goals as goal
 
 pub linkbases_at-requires : goal.linkbases_at-requires
 linkbases_at-requires c =
-    let l = c.set.inside.linked in
+    let l = c.set.inside.linked.now in
     let es = all_of l in
     let p = is_linkbase_for c.args.target.now in
     let groups = subst (λ (b : BasedElements). AreGroups c.valued.inside.groups b.elements) (sym c.set.view_is) c.valued.invariant.1 in
@@ -23,7 +23,7 @@ linkbases_at-requires c =
 
 pub returns : goal.returns
 returns c =
-    let l = c.set.inside.linked in
+    let l = c.set.inside.linked.now in
     let target = c.args.target.now in
     let groups = subst (λ (b : BasedElements). AreGroups c.valued.inside.groups b.elements) (sym c.set.view_is) c.valued.invariant.1 in
     subst (λ (b : BasedElements). IfOk c.linkbases_at.result (λ found. found ≡ map (linkbase_at (base_in b.bases)) (filter (is_linkbase_for target) b.elements)))

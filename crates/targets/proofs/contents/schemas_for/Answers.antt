@@ -13,7 +13,7 @@ use Rattle.targets.proofs.contents.schemas_for.Goals as goal
 
 pub addresses_at-requires : goal.addresses_at-requires
 addresses_at-requires c =
-    let l = c.set.inside.linked in
+    let l = c.set.inside.linked.now in
     let es = all_of l in
     let p = is_schema_for c.args.target.now in
     let groups = subst (λ (b : BasedElements). AreGroups c.valued.inside.groups b.elements) (sym c.set.view_is) c.valued.invariant.1 in
@@ -23,7 +23,7 @@ addresses_at-requires c =
 
 pub returns : goal.returns
 returns c =
-    let l = c.set.inside.linked in
+    let l = c.set.inside.linked.now in
     let target = c.args.target.now in
     let groups = subst (λ (b : BasedElements). AreGroups c.valued.inside.groups b.elements) (sym c.set.view_is) c.valued.invariant.1 in
     subst (λ (b : BasedElements). IfOk c.addresses_at.result (λ found. found ≡ map (address_of (base_in b.bases)) (filter (is_schema_for target) b.elements)))

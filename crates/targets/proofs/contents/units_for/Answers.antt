@@ -17,7 +17,7 @@ use Rattle.targets.proofs.contents.units_for.Goals as goal
 
 pub returns : goal.returns
 returns c =
-    let es = all_of c.set.inside.linked in
+    let es = all_of c.set.inside.linked.now in
     let target = c.args.target.now in
     let groups = subst (λ (b : BasedElements). AreGroups c.valued.inside.groups b.elements) (sym c.set.view_is) c.valued.invariant.1 in
     let facts = ap all_located (c.as_slice.ensures.value ∙ c.in_ok-facts.ensures) ∙ groups.facts target in

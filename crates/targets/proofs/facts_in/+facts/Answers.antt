@@ -55,7 +55,7 @@ members_in-facts_at-requires t c =
     let es = c.args.valued.now.elements in
     let e = located c.args.tuple.now in
     let Both = λ (x : Located). Contains es x × (is_fact x ≡ true) in
-    let kept = subst (λ (b : BasedElements). AreMembersOf c.set.inside.linked.members b.elements) (c.set.view_is ∙ c.valued.view_is) c.set.invariant.0.members in
+    let kept = subst (λ (b : BasedElements). AreMembersOf c.set.inside.linked.now.members b.elements) (c.set.view_is ∙ c.valued.view_is) c.set.invariant.0.members in
     let are : all_located c.of.result.now ≡ members es e = c.of.ensures.members ∙ kept.members e in (
       omega (arith, c.decreases, c.if-depth-eq0.false),
       (
@@ -69,6 +69,6 @@ pub members_in-returns : goal.members_in-returns
 members_in-returns t c =
     let es = c.args.valued.now.elements in
     let e = located c.args.tuple.now in
-    let kept = subst (λ (b : BasedElements). AreMembersOf c.set.inside.linked.members b.elements) (c.set.view_is ∙ c.valued.view_is) c.set.invariant.0.members in
+    let kept = subst (λ (b : BasedElements). AreMembersOf c.set.inside.linked.now.members b.elements) (c.set.view_is ∙ c.valued.view_is) c.set.invariant.0.members in
     IfOk-weaker c.facts_at.result _ _ (λ l h. read-less (SaysIn c.args.valued.now) es c.args.depth (c.args.depth - 1) e (all_located c.of.result.now) (facts_of l)
     (omega (arith, c.if-depth-eq0.false)) (c.of.ensures.members ∙ kept.members e) h) c.facts_at.ensures

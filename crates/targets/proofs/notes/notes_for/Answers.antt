@@ -8,12 +8,12 @@ use Rattle.targets.proofs.notes.notes_for.Goals as goal
 
 pub notes-requires : goal.notes-requires
 notes-requires c =
-    let l = c.set.inside.linked in
+    let l = c.set.inside.linked.now in
     c.chains_on_pages.ensures l.chains (all_of l) (length (bases_of l)) c.set.invariant.0.chains c.set.invariant.0.pages
 
 pub returns : goal.returns
 returns c =
-    let es = all_of c.set.inside.linked in
+    let es = all_of c.set.inside.linked.now in
     let is = c.set.invariant.0 in
     subst (λ (b : BasedElements). IfOk c.notes.result (λ l. l ≡ notes (base_in b.bases) b.elements c.args.target.now)) c.set.view_is
     (c.notes.ensures es is.relations is.chains (λ e at start. starts-alone es is.apart e at))

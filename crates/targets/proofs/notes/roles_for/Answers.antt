@@ -6,7 +6,7 @@ use Rattle.ix_base.specs.declared.kind.Kind.TheVariants as kind
 use Rattle.ix_base.specs.LocatedElements.{base_in}
 use Rattle.ix_base.specs.Once.{in_order}
 use Rattle.ix_base.specs.SortedLists.{text_cmp}
-use Rattle.targets.specs.Contents as spec
+use Rattle.targets.specs.Contents as contents
 use Rattle.targets.specs.Contents.{roles_in, uris_in}
 use Rattle.targets.specs.LinkedSets.{BasedElements, all_of, bases_of}
 use Rattle.targets.specs.RoleAddresses.{role_seen}
@@ -16,10 +16,10 @@ use Rattle.targets.proofs.notes.roles_for.Goals as goal
 
 pub returns : goal.returns
 returns c =
-    let l = c.set.inside.linked in
+    let l = c.set.inside.linked.now in
     let m = l.seen_roles.roles in
     let uris = uris_in roles_in c.args.links.now in
     let used = ap values_of c.as_slice.ensures.value ∙ c.each_once.ensures ∙ ap (in_order text_cmp) c.in_ok-uris.ensures in
-    subst (λ (b : BasedElements). IfOk c.references_for.result (λ found. found ≡ spec.roles_for (base_in b.bases) b.elements kind.RoleRef uris)) c.set.view_is
+    subst (λ (b : BasedElements). IfOk c.references_for.result (λ found. found ≡ contents.roles_for (base_in b.bases) b.elements kind.RoleRef uris)) c.set.view_is
     (IfOk-weaker c.references_for.result _ _ (λ found is. is ∙ ap (filter_map (role_seen m)) used
     ∙ roles-are (base_in (bases_of l)) (all_of l) kind.RoleRef m c.set.invariant.0.seen_roles.roles uris) c.references_for.ensures)
