@@ -31,16 +31,29 @@ fn push_counts(set: &Set<'_>, counts: &mut String) -> Result<()> {
     Ok(())
 }
 
-/// Writes the numbers of pending and of doubled links behind each of these pages.
-fn push_all<'a>(alloc: Global, arena: &'a Bump, pages: &[Cell], counts: &mut String) -> Result<()> {
-    let mut set = Set::new(alloc, arena, "http://example.com/r/")?;
+/// Writes the numbers of pending and of doubled links behind each of these pages, which a set gets that has none yet.
+fn push_each<'a>(
+    alloc: Global,
+    arena: &'a Bump,
+    set: &mut Set<'a>,
+    pages: &[Cell],
+    counts: &mut String,
+) -> Result<()>
+    requires { length set.old.held.pages ≡ 0 }
+{
     let mut number = 0u32;
     for page in pages {
-        add(alloc, arena, &mut set, number, page)?;
-        push_counts(&set, counts)?;
+        add(alloc, arena, set, number, page)?;
+        push_counts(set, counts)?;
         number = number.checked_add(1).context("too many pages")?;
     }
     Ok(())
+}
+
+/// The same of a set that is made for them. It is held here alone, and lent to what asks it.
+fn push_all<'a>(alloc: Global, arena: &'a Bump, pages: &[Cell], counts: &mut String) -> Result<()> {
+    let mut set = Set::new(alloc, arena, "http://example.com/r/")?;
+    push_each(alloc, arena, &mut set, pages, counts)
 }
 
 /// The numbers of pending and of doubled links behind each of these pages, which are called by their numbers.

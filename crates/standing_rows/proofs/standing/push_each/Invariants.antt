@@ -1,5 +1,5 @@
 use Rattle.std.proofs.Common.{◌≡◌, length}
-use Rattle.standing_rows.proofs.standing.push_all.Given as goal
+use Rattle.standing_rows.proofs.standing.push_each.Given as goal
 
 abbrev pub invariant-loop-page : goal.invariant-loop-page
 invariant-loop-page l = length l.set.held.pages ≡ l.number
