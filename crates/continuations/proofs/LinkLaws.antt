@@ -13,7 +13,7 @@ use Rattle.ix_base.specs.Asks.{Asks, asks}
 use Rattle.ix_base.specs.declared.tree.Spot.{Spot}
 use Rattle.ix_base.specs.Chain.{continuation, continued_at}
 use Rattle.ix_base.specs.LinkRules.{breaking, breaks_link, broken_at, found_at, lacks_continuation}
-use Rattle.ix_base.specs.LocatedElements.{Located, located, is_continuation, is_start}
+use Rattle.ix_base.specs.LocatedElements.{Located, located, is_continuation, is_start, may_go_on}
 use Rattle.ix_base.specs.Rows.{row}
 use Rattle.ix_base.specs.Spots.{IsOnOnePage}
 use Rattle.id_table.specs.Tables.{all_located, AreOnOwnPages}
@@ -26,6 +26,7 @@ use Rattle.continuations.proofs.Inner.{any-in, in-any}
 use Rattle.continuations.proofs.Reaching.{same-bool}
 use Rattle.continuations.proofs.SeenLaws.{any-append}
 use Rattle.id_table.proofs.RowLemmas.{located-take}
+use Rattle.id_table.proofs.Sorting.{filter-within}
 
 or-false : (b : Bool) → (b || false) ≡ b
 or-false true = refl
@@ -144,3 +145,10 @@ pushed-pages p old new spots i all h before each =
     subst AreOnOwnPages (sym (h ∙ ap (λ (ss : List (Bor Spot)). old ++ kept p ss) (take_all i spots all)))
     (All-append (λ (s : Bor Spot). IsOnOnePage s.now) old (kept p spots) before
     (All-filter (λ (s : Bor Spot). p (located s.now)) (λ (s : Bor Spot). IsOnOnePage s.now) spots each))
+
+-- what begins chains and what goes on in them is found among the elements of chains
+pub continuations-of : (es : List Located) → filter is_continuation (filter may_go_on es) ≡ filter is_continuation es
+continuations-of = filter-within is_continuation may_go_on (λ e h. or_right (is_start e) (is_continuation e) h)
+
+pub starts-of : (es : List Located) → filter is_start (filter may_go_on es) ≡ filter is_start es
+starts-of = filter-within is_start may_go_on (λ e h. or_left (is_start e) (is_continuation e) h)

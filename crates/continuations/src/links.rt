@@ -115,7 +115,7 @@ fn push_continuations<'a>(index: &Index<'a>, spots: &mut Vec<&'a Spot<'a>>) -> R
         ≡ all_located spots.old.items ++ filter spec_is_continuation index.now.spots) }
     ensures pages { OnOk result (AreOnOwnPages spots.new.items) }
 {
-    for spot in index.spots() {
+    for spot in index.of_chains() {
         if is_continuation(*spot) {
             spots.push(*spot)?;
         }
@@ -130,7 +130,7 @@ fn push_starts<'a>(index: &Index<'a>, spots: &mut Vec<&'a Spot<'a>>) -> Result<(
         ≡ all_located spots.old.items ++ filter kinds.is_start index.now.spots) }
     ensures pages { OnOk result (AreOnOwnPages spots.new.items) }
 {
-    for spot in index.spots() {
+    for spot in index.of_chains() {
         if is_start(*spot) {
             spots.push(*spot)?;
         }

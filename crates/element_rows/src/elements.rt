@@ -57,7 +57,19 @@ fn add_prefixes<'a>(declared: &[Binding<'a>], prefixes: &mut BTreeSet<&'a str>) 
     Ok(())
 }
 
-/// What is bound in a scope, in byte order of the prefixes. The namespace of `xml` isn't shown.
+/// Appends what is bound to prefixes in a scope. The namespace of `xml` isn't shown.
+fn push_bound(scope: Scope<'_>, prefixes: &BTreeSet<&str>, text: &mut String) -> Result<()> {
+    for prefix in prefixes {
+        let Some(ns) = scope.namespace_of(prefix) else {
+            continue;
+        };
+        let ns = if *prefix == "xml" { "" } else { ns };
+        write!(text, "{prefix}={ns} ")?;
+    }
+    Ok(())
+}
+
+/// What is bound in a scope, in byte order of the prefixes.
 fn bound(alloc: Global, scope: Scope<'_>) -> Result<String> {
     let mut prefixes = BTreeSet::new(alloc);
     let mut at = scope.level;
@@ -66,13 +78,7 @@ fn bound(alloc: Global, scope: Scope<'_>) -> Result<String> {
         at = level.above;
     }
     let mut text = String::new(alloc);
-    for prefix in &prefixes {
-        let Some(ns) = scope.namespace_of(prefix) else {
-            continue;
-        };
-        let ns = if *prefix == "xml" { "" } else { ns };
-        write!(text, "{prefix}={ns} ")?;
-    }
+    push_bound(scope, &prefixes, &mut text)?;
     Ok(text)
 }
 

@@ -1,9 +1,11 @@
 //! Names, links and bases.
+ghost use Rattle.std.specs.Prelude.{◌≡◌, [], OnOk, length};
+
 use crate::elements::first_child;
 use crate::pages::root_of;
 use anyhow::{Result, bail, ensure};
 use bumpalo::Bump;
-use ix_base::{Element, NameFault, NoMemory, Spot};
+use ix_base::{Element, NameFault, NoMemory, Scope, Spot, Text};
 use row_tables::{Cell, owned, push_name, yes_or_no};
 use scopes::{Bases, is_ncname, resolve, resolved};
 use std::alloc::Global;
@@ -14,6 +16,16 @@ const BASE: &str = "http://example.com/r/";
 /// The number of a page behind another.
 const SECOND: u32 = 1;
 
+/// Appends the name for which a written one stands in a scope, or why it stands for none.
+fn push_resolved(written: &str, scope: Scope<'_>, text: &mut String) -> Result<()> {
+    match resolve(written, scope) {
+        Ok(name) => push_name(text, name.ns, name.local)?,
+        Err(NameFault::BadForm) => text.push_str("bad form")?,
+        Err(NameFault::Unbound) => text.push_str("unbound")?,
+    }
+    Ok(())
+}
+
 /// The name for which a written one stands in the scope of a page's root.
 pub(crate) fn qualified(alloc: Global, cells: &[Cell]) -> Result<String> {
     let [page, written] = cells else {
@@ -22,11 +34,7 @@ pub(crate) fn qualified(alloc: Global, cells: &[Cell]) -> Result<String> {
     let arena = Bump::new(alloc);
     let root = root_of(alloc, &arena, page.bytes(), 0)?;
     let mut text = String::new(alloc);
-    match resolve(written.text()?, root.scope) {
-        Ok(name) => push_name(&mut text, name.ns, name.local)?,
-        Err(NameFault::BadForm) => text.push_str("bad form")?,
-        Err(NameFault::Unbound) => text.push_str("unbound")?,
-    }
+    push_resolved(written.text()?, root.scope, &mut text)?;
     Ok(text)
 }
 
@@ -56,6 +64,55 @@ fn root_spot<'a>(arena: &'a Bump, root: &'a Element<'a>) -> Result<&'a Spot<'a>,
     Ok(spot)
 }
 
+/// The spot of a root, or of the first element in it.
+fn spot_of<'a>(arena: &'a Bump, root: &'a Element<'a>, which: &str) -> Result<Spot<'a>> {
+    match which {
+        "root" => Ok(Spot {
+            element: root,
+            up: None,
+        }),
+        "child" => Ok(Spot {
+            element: first_child(root)?,
+            up: Some(root_spot(arena, root)?),
+        }),
+        _ => bail!("neither the root nor the child"),
+    }
+}
+
+/// Adds a page of this name behind another, where there is none yet.
+fn add_second(bases: &mut Bases, name: &str, root: &Element<'_>) -> Result<(), NoMemory>
+    requires { bases.old.pages ≡ [] }
+    ensures { OnOk result (length bases.new.pages ≡ 2) }
+{
+    bases.add_page(BASE, "first.html", root)?;
+    bases.add_page(BASE, name, root)
+}
+
+/// The base of the root of the second of two pages, or of the first element in it.
+fn base_in<'a>(bases: &Bases, arena: &'a Bump, root: &'a Element<'a>, which: &str) -> Result<Text>
+    requires { length bases.now.pages ≡ 2 }
+{
+    let spot = spot_of(arena, root, which)?;
+    ensure!(
+        spot.element.place.page == SECOND,
+        "an element of another page"
+    );
+    Ok(bases.of(&spot)?)
+}
+
+/// The base of the root of a page of this name, or of the first element in it. The page is added behind another.
+fn second_base<'a>(
+    alloc: Global,
+    arena: &'a Bump,
+    root: &'a Element<'a>,
+    name: &str,
+    which: &Cell,
+) -> Result<Text> {
+    let mut bases = Bases::new(alloc);
+    add_second(&mut bases, name, root)?;
+    base_in(&bases, arena, root, which.text()?)
+}
+
 /// The base of the root of a page, or of the first element in it. The page is added behind another.
 pub(crate) fn base(alloc: Global, cells: &[Cell]) -> Result<String> {
     let [name, page, which] = cells else {
@@ -64,15 +121,6 @@ pub(crate) fn base(alloc: Global, cells: &[Cell]) -> Result<String> {
     let name = name.text()?;
     let arena = Bump::new(alloc);
     let root = root_of(alloc, &arena, page.bytes(), SECOND)?;
-    let mut bases = Bases::new(alloc);
-    bases.add_page(BASE, "first.html", root)?;
-    bases.add_page(BASE, name, root)?;
-    let (element, up) = match which.text()? {
-        "root" => (root, None),
-        "child" => (first_child(root)?, Some(root_spot(&arena, root)?)),
-        _ => bail!("neither the root nor the child"),
-    };
-    ensure!(element.place.page == SECOND, "an element of another page");
-    let base = bases.of(&Spot { element, up })?;
+    let base = second_base(alloc, &arena, root, name, which)?;
     owned(alloc, base.as_str())
 }

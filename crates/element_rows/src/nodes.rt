@@ -45,6 +45,24 @@ fn unnamed<'a>(call: &str, nodes: &'a [Node<'a>]) -> Result<&'a str> {
     }
 }
 
+/// What a call tells of an element or of its nodes, by a namespace and a local name, or several.
+fn told_by_name(
+    alloc: Global,
+    call: &str,
+    element: &Element<'_>,
+    ns: &str,
+    local: &str,
+) -> Result<String> {
+    match call {
+        "is_of" => owned(alloc, yes_or_no(is_of(&element.name, ns, local))),
+        "holds_only" => {
+            let locals = words_of(alloc, local)?;
+            owned(alloc, yes_or_no(holds_only(element.children, ns, &locals)))
+        }
+        _ => owned(alloc, named(call, element.children, ns, local)?),
+    }
+}
+
 /// What a call tells of the nodes of a page's root, by a namespace and a local name, or several.
 pub(crate) fn by_name(alloc: Global, cells: &[Cell]) -> Result<String> {
     let [call, page, ns, local] = cells else {
@@ -53,14 +71,15 @@ pub(crate) fn by_name(alloc: Global, cells: &[Cell]) -> Result<String> {
     let (call, ns, local) = (call.text()?, ns.text()?, local.text()?);
     let arena = Bump::new(alloc);
     let root = root_of(alloc, &arena, page.bytes(), PAGE)?;
-    if call == "is_of" {
-        return owned(alloc, yes_or_no(is_of(&root.name, ns, local)));
+    told_by_name(alloc, call, root, ns, local)
+}
+
+/// What a call tells of nodes.
+fn told_of(alloc: Global, call: &str, nodes: &[Node<'_>]) -> Result<String> {
+    match call {
+        "text_alone" => quoted(alloc, text_alone(nodes)),
+        _ => owned(alloc, unnamed(call, nodes)?),
     }
-    if call == "holds_only" {
-        let locals = words_of(alloc, local)?;
-        return owned(alloc, yes_or_no(holds_only(root.children, ns, &locals)));
-    }
-    owned(alloc, named(call, root.children, ns, local)?)
 }
 
 /// What a call tells of the nodes of a page's root.
@@ -71,10 +90,7 @@ pub(crate) fn told(alloc: Global, cells: &[Cell]) -> Result<String> {
     let call = call.text()?;
     let arena = Bump::new(alloc);
     let root = root_of(alloc, &arena, page.bytes(), PAGE)?;
-    if call == "text_alone" {
-        return quoted(alloc, text_alone(root.children));
-    }
-    owned(alloc, unnamed(call, root.children)?)
+    told_of(alloc, call, root.children)
 }
 
 /// Whether a text is blank.

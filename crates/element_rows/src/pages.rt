@@ -99,17 +99,25 @@ pub(crate) fn fault(alloc: Global, cells: &[Cell]) -> Result<String> {
     Ok(whole)
 }
 
-/// How many characters wait behind each of the pieces of a page.
-pub(crate) fn waiting(alloc: Global, cells: &[Cell]) -> Result<String> {
-    let arena = Bump::new(alloc);
-    let mut builder = TreeBuilder::new(alloc, &arena, PAGE, DEEPEST_ELEMENT);
-    let mut counts = String::new(alloc);
+/// Hands pieces of a page over, and appends how many characters wait behind each.
+fn push_waiting(builder: &mut TreeBuilder<'_>, pieces: &[Cell], counts: &mut String) -> Result<()>
+    requires { fed_bytes builder.old ≡ 0 }
+{
     let mut fed = 0u64;
-    for cell in cells {
+    for cell in pieces {
         let piece = cell.bytes();
         fed = fed.checked_add(piece.len() as u64).context("too long")?;
         builder.feed(piece)?;
         write!(counts, " {}", builder.pending())?;
     }
+    Ok(())
+}
+
+/// How many characters wait behind each of the pieces of a page.
+pub(crate) fn waiting(alloc: Global, cells: &[Cell]) -> Result<String> {
+    let arena = Bump::new(alloc);
+    let mut builder = TreeBuilder::new(alloc, &arena, PAGE, DEEPEST_ELEMENT);
+    let mut counts = String::new(alloc);
+    push_waiting(&mut builder, cells, &mut counts)?;
     Ok(counts)
 }

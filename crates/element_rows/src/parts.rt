@@ -62,26 +62,46 @@ fn push_period(period: &Period, text: &mut String) -> Result<()> {
     Ok(())
 }
 
+/// The id of a context, and whom it is about.
+fn push_whom(context: &Context, text: &mut String) -> Result<()> {
+    let (scheme, identifier) = (context.scheme.as_str(), context.identifier.as_str());
+    write!(text, "{}|{scheme}|{identifier}", context.id.as_str())?;
+    Ok(())
+}
+
+/// A part of a context.
+fn push_part(context: &Context, part: &str, text: &mut String) -> Result<()> {
+    match part {
+        "whom" => push_whom(context, text),
+        "period" => push_period(&context.period, text),
+        "segment" => push_dims(context.segment.as_slice(), text),
+        "scenario" => push_dims(context.scenario.as_slice(), text),
+        _ => bail!("no such part"),
+    }
+}
+
+/// The text of a part of a context.
+fn part_of(alloc: Global, context: &Context, part: &str) -> Result<String> {
+    let mut text = String::new(alloc);
+    push_part(context, part, &mut text)?;
+    Ok(text)
+}
+
+/// A part of a context, or `none` where there is no context.
+fn part_said(alloc: Global, context: Option<&Context>, part: &Cell) -> Result<String> {
+    match context {
+        Some(context) => part_of(alloc, context, part.text()?),
+        None => owned(alloc, "none"),
+    }
+}
+
 /// A part of the context of a page, or `none` where the context has no normal form.
 pub(crate) fn context(alloc: Global, cells: &[Cell]) -> Result<String> {
     let [part, page] = cells else {
         bail!("which part, and a page, are wanted");
     };
-    let Some(context) = context_in(alloc, page.text()?)? else {
-        return owned(alloc, "none");
-    };
-    let mut text = String::new(alloc);
-    match part.text()? {
-        "whom" => {
-            let (scheme, identifier) = (context.scheme.as_str(), context.identifier.as_str());
-            write!(text, "{}|{scheme}|{identifier}", context.id.as_str())?;
-        }
-        "period" => push_period(&context.period, &mut text)?,
-        "segment" => push_dims(context.segment.as_slice(), &mut text)?,
-        "scenario" => push_dims(context.scenario.as_slice(), &mut text)?,
-        _ => bail!("no such part"),
-    }
-    Ok(text)
+    let context = context_in(alloc, page.text()?)?;
+    part_said(alloc, context.as_ref(), part)
 }
 
 /// Names, each with `;` behind it.
@@ -93,17 +113,27 @@ fn push_names(names: &[OwnName], text: &mut String) -> Result<()> {
     Ok(())
 }
 
-/// The measures above and below of the unit of a page, parted by `/`, or `none` where it has no normal form.
+/// The measures above and below of a unit, parted by `/`.
+fn push_unit(unit: &Unit, text: &mut String) -> Result<()> {
+    push_names(unit.over.as_slice(), text)?;
+    text.push_str("/")?;
+    push_names(unit.under.as_slice(), text)
+}
+
+/// The text of a unit.
+fn measures_of(alloc: Global, unit: &Unit) -> Result<String> {
+    let mut text = String::new(alloc);
+    push_unit(unit, &mut text)?;
+    Ok(text)
+}
+
+/// The measures above and below of the unit of a page, or `none` where it has no normal form.
 pub(crate) fn unit(alloc: Global, cells: &[Cell]) -> Result<String> {
     let [page] = cells else {
         bail!("a page is wanted");
     };
-    let Some(unit) = unit_in(alloc, page.text()?)? else {
-        return owned(alloc, "none");
-    };
-    let mut text = String::new(alloc);
-    push_names(unit.over.as_slice(), &mut text)?;
-    text.push_str("/")?;
-    push_names(unit.under.as_slice(), &mut text)?;
-    Ok(text)
+    match unit_in(alloc, page.text()?)? {
+        Some(unit) => measures_of(alloc, &unit),
+        None => owned(alloc, "none"),
+    }
 }

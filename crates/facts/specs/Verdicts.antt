@@ -15,6 +15,11 @@ said (Ok v) = Some (Ok v)
 said (Err (fault.Breach rule)) = Some (Err rule)
 said (Err fault.NoMemory) = None
 
+-- the rule that something was said to break, if it breaks one
+abbrev pub rule_said : {X : Type 0} → Result X Rule → Option Rule
+rule_said (Ok v) = None
+rule_said (Err rule) = Some rule
+
 -- of a fraction, from what is said of its two parts
 abbrev pub said_both : Option (Result (List ℕ) Rule) → Option (Result (List ℕ) Rule) → Option (Result Value Rule)
 said_both None d = None

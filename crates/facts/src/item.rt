@@ -1,5 +1,5 @@
 //! Items.
-ghost use Rattle.std.specs.Prelude.{◌≡◌, ◌<◌, [], true, All, codes, length, map, option_map, unwrap_or, IfOk, IfSome};
+ghost use Rattle.std.specs.Prelude.{◌≡◌, ◌<◌, [], true, All, codes, length, map, option_map, unwrap_or, IfOk, IfSome, Some};
 ghost use Rattle.ix_base.specs.Asks.{Asks};
 ghost use Rattle.ix_base.specs.Chain as chains;
 ghost use Rattle.ix_base.specs.Elements.{place_of, placed};
@@ -13,7 +13,10 @@ ghost use Rattle.ix_base.specs.declared.kind.Kind.TheVariants as kinds;
 ghost use Rattle.facts.specs.ChainTexts.{raw_along, text_along};
 ghost use Rattle.facts.specs.ItemValue as item_value;
 ghost use Rattle.facts.specs.NumberValue as numbers;
-ghost use Rattle.facts.specs.Verdicts.{as_plain, said};
+ghost use Rattle.facts.specs.Verdicts.{as_plain, rule_said, said};
+ghost use Rattle.ix_base.specs.declared.content.Item.{Item as ItemOf};
+ghost use Rattle.ix_base.specs.declared.rule.Rule.{Rule as RuleOf};
+ghost use Rattle.std.specs.Prelude.{Result as ResultOf};
 ghost use Rattle.facts.specs.TextValue.{IsTransformed};
 
 use crate::exact::accuracy_of;
@@ -24,16 +27,21 @@ use crate::number::nested_value;
 use escape_text::{markup, plain};
 use fact_view::fact_name;
 use ix_base::namespaces::XHTML;
-use ix_base::{Element, Item, Kind, Name, NoMemory, OwnName, Spot, Text, Value, kind_of, token_at};
+use ix_base::{
+    Element, Item, Kind, Name, NoMemory, OwnName, Rule, Spot, Text, Value, kind_of, token_at,
+};
 use scopes::{Bases, name_at};
 use std::alloc::Global;
 use value_forms::{escapes, is_nil};
+
+/// How many bytes a value has room for at first.
+const VALUE: usize = 32;
 
 /// The plain text of a chain.
 fn plain_of(alloc: Global, chain: &[&Spot<'_>]) -> Result<Text, NoMemory>
     ensures { IfOk result (λ t. t ≡ plain_along (map (λ s. located s.now) chain.now)) }
 {
-    let mut text = Text::of(alloc, "")?;
+    let mut text = Text::with_room(alloc, VALUE)?;
     plain(chain, &mut text)?;
     Ok(text)
 }
@@ -248,4 +256,33 @@ pub fn item_of(
 {
     let value = value_of(alloc, spot, chain, bases);
     item_by(alloc, spot, value)
+}
+
+/// The rule that a value was said to break.
+fn rule_in(value: Result<Value, ItemFault>) -> Result<Option<Rule>, NoMemory>
+    ensures { IfOk result (λ o. option_map rule_said (said value) ≡ Some o) }
+{
+    match value {
+        Ok(_) => Ok(None),
+        Err(ItemFault::Breach(rule)) => Ok(Some(rule)),
+        Err(ItemFault::NoMemory) => Err(NoMemory),
+    }
+}
+
+/// The lowest rule of values that an item of a set breaks, if it breaks one: what [`item_of`] says of it. The item isn't made for
+/// that.
+pub fn value_rule(
+    alloc: Global,
+    spot: &Spot<'_>,
+    chain: &[&Spot<'_>],
+    bases: &Bases,
+) -> Result<Option<Rule>, NoMemory>
+    requires bases { All (λ s. (place_of s.now).page < length bases.now.pages) chain.now }
+    requires pages { All (λ s. IsOnOnePage s.now) chain.now }
+    ensures { (a : Asks Located)
+        → (is_kind kinds.NonNumeric (located spot.now) ≡ true → map (λ s. located s.now) chain.now ≡ chains.chain a (located spot.now))
+        → IfOk result (λ o. (r : ResultOf ItemOf RuleOf) × item_value.IsItem (base_in bases.now.pages) a (located spot.now) r
+        × (rule_said r ≡ o)) }
+{
+    rule_in(value_of(alloc, spot, chain, bases))
 }

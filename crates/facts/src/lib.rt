@@ -12,6 +12,6 @@ mod number;
 
 pub use fault::ItemFault;
 pub use fraction::part_in;
-pub use item::item_of;
+pub use item::{item_of, value_rule};
 pub use links::refs_of;
 pub use number::innermost;

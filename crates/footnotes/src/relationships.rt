@@ -185,7 +185,7 @@ pub(crate) fn relationships_of<'a>(
     ensures known { IfOk result (λ v. All (IsKnown (asked index.now)) v.items) }
 {
     let mut relationships = Vec::new(alloc);
-    for spot in index.spots() {
+    for spot in index.others() {
         push_if_relationship(alloc, arena, index, *spot, &mut relationships)?;
     }
     Ok(relationships)

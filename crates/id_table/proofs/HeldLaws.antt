@@ -1,5 +1,6 @@
 -- What an index gives for an id.
-use Rattle.std.proofs.Common.{◌≡◌, ◌∙◌, ◌++◌, Bool, true, false, cond, not, ◌&&◌, ◌||◌, ℕ, List, [], ◌∷◌, length, map, Vec, All, refl, sym, ap, subst, inl, inr, Option, Some, None, option_map, bytes_eq, is_none, is_some}
+use Rattle.std.proofs.Common.{◌≡◌, ◌∙◌, ◌++◌, Bool, true, false, cond, not, ◌&&◌, ◌||◌, ℕ, List, [], ◌∷◌, length, map, nat_lt, Vec, All, refl, sym, ap, subst, inl, inr, Option, Some, None, option_map, bytes_eq, is_none, is_some}
+use Rattle.std.proofs.lemmas.Bool.{le-ltb}
 use Rattle.std.proofs.lemmas.List.{length-map}
 use Rattle.std.proofs.lemmas.List.Elements.{All-filter, All-map, Contains-append_left}
 use Rattle.std.specs.Borrow.{Bor}
@@ -20,8 +21,9 @@ use Rattle.ix_base.specs.Spots.{IsOnOnePage}
 use Rattle.ix_base.proofs.OnceLemmas.{Contains-nil, Contains-first, Contains-later, Contains-cases}
 use Rattle.text_map.specs.Texts.{Texts}
 use Rattle.id_table.specs.declared.entries.Entry.{Entry}
-use Rattle.id_table.specs.Model.{AreChosen, Held, IsHolder, IsOfOthers, asked, chosen, chosen_in, doubled_at, one_held, repeats_held}
-use Rattle.id_table.specs.Tables.{AreChoicesOnPages, AreHolders, AreOnOwnPages, HasEntries, all_located, choice_at, choice_of, choices_of, entries_at, entry_for}
+use Rattle.id_table.specs.declared.entries.Sharers.{Sharers}
+use Rattle.id_table.specs.Model.{AreChosen, Held, IsApart, IsHolder, IsOfOthers, asked, chosen, chosen_in, doubled_at, one_held, repeats_held}
+use Rattle.id_table.specs.Tables.{AreApart, AreChoicesOnPages, AreHolders, AreOnOwnPages, HasEach, HasEntries, all_located, choice_at, choice_of, choices_of, entries_at, entry_for, spots_at}
 use Rattle.id_table.proofs.Asking.{map-filter, count-map, one-map}
 use Rattle.id_table.proofs.OnPages.{only-All}
 
@@ -127,7 +129,7 @@ only-entries [] = refl
 only-entries (x ∷ []) = refl
 only-entries (x ∷ y ∷ xs) = refl
 
-module _ (m : Texts (Vec Entry Global)) (spots : List (Bor Spot)) (has : HasEntries m spots) (id : List ℕ) where
+module _ (m : Texts Sharers) (spots : List (Bor Spot)) (has : HasEntries m spots) (id : List ℕ) where
   passed : List (Bor Spot)
   passed = filter (λ (s : Bor Spot). holds_id id (located s.now)) spots
 
@@ -173,7 +175,7 @@ kind-of-only [] = tt
 kind-of-only (x ∷ []) = refl
 kind-of-only (x ∷ y ∷ xs) = tt
 
-pub given-kind : (m : Texts (Vec Entry Global)) (spots : List (Bor Spot)) → HasEntries m spots → (id : List ℕ)
+pub given-kind : (m : Texts Sharers) (spots : List (Bor Spot)) → HasEntries m spots → (id : List ℕ)
     → (choice : Option (Bor Spot)) (o : Option Entry) → IfSome choice (λ s. o ≡ Some (entry_for s)) → (choice ≡ None → o ≡ only (entries_at m id))
     → IfSome o (λ e. e.kind ≡ kind_of (placed e.spot.now))
 given-kind m spots has id (Some s) o f g = subst (λ x. IfSome x (λ e. e.kind ≡ kind_of (placed e.spot.now))) (sym f) refl
@@ -182,7 +184,7 @@ given-kind m spots has id None o f g =
     (kind-of-only (filter (λ (s : Bor Spot). holds_id id (located s.now)) spots))
 
 -- all that stands above what is given is of its page
-pub given-page : (m : Texts (Vec Entry Global)) (spots : List (Bor Spot)) → HasEntries m spots → AreOnOwnPages spots → (id : List ℕ)
+pub given-page : (m : Texts Sharers) (spots : List (Bor Spot)) → HasEntries m spots → AreOnOwnPages spots → (id : List ℕ)
     → (choice : Option (Bor Spot)) (o : Option Entry) → IfSome choice (λ s. o ≡ Some (entry_for s)) → (choice ≡ None → o ≡ only (entries_at m id))
     → IfSome choice (λ s. IsOnOnePage s.now) → IfSome o (λ e. IsOnOnePage e.spot.now)
 given-page m spots has h id (Some s) o f g c = subst (λ x. IfSome x (λ (e : Entry). IsOnOnePage e.spot.now)) (sym f) c
@@ -245,3 +247,29 @@ repeats-same h a e = ap (λ b. b || option_map_or (λ id. are_many (asked h) (ho
 pub doubled-same : (h : Held) → AreChosen h → (es : List Located) → flat_map (doubled_at h) es ≡ flat_map (broken_at (asked h) L1) es
 doubled-same h a [] = refl
 doubled-same h a (e ∷ es) = λ i. row (repeats-same h a e i) (found_at e L1) ++ doubled-same h a es i
+
+-- Ids that no two elements share.
+
+pub held-apart : (ids : Texts Sharers) (tuples : Texts (Vec (Bor Spot) Global)) (spots : List (Bor Spot)) → HasEntries ids spots
+    → HasEach tuple_id_of tuples spots → AreApart ids tuples → (h : Held) → all_located spots ≡ h.spots → IsApart h
+held-apart ids tuples spots has each apart h e = record {
+  ids = λ id.
+      ap (λ (es : List Located). nat_lt 1 ((asks es).count (holds_id id))) (sym e) ∙ ap (nat_lt 1) (sym (held-count ids spots has id))
+      ∙ le-ltb 1 (length (entries_at ids id)) (apart.by_id id);
+  tuple_ids = λ id.
+      ap (λ (es : List Located). nat_lt 1 ((asks es).count (holds_tuple_id id))) (sym e)
+      ∙ ap (nat_lt 1) (sym (ap length (each id) ∙ count-map (λ (s : Bor Spot). located s.now) (holds_tuple_id id) spots))
+      ∙ le-ltb 1 (length (spots_at tuples id)) (apart.by_tuple_id id);
+}
+
+pub none-doubled : (h : Held) → IsApart h → (es : List Located) → flat_map (doubled_at h) es ≡ []
+none-doubled h apart [] = refl
+none-doubled h apart (e ∷ es) =
+    ap (λ b. row b (found_at e L1) ++ flat_map (doubled_at h) es) (never (id_of e) (tuple_id_of e)) ∙ none-doubled h apart es
+  where
+    never : (i t : Option (List ℕ)) → (option_map_or (λ id. are_many (asked h) (holds_id id) && is_none (chosen h id)) i false
+        || option_map_or (λ id. are_many (asked h) (holds_tuple_id id)) t false) ≡ false
+    never None None = refl
+    never None (Some t) = apart.tuple_ids t
+    never (Some i) None = ap (λ b. (b && is_none (chosen h i)) || false) (apart.ids i)
+    never (Some i) (Some t) = ap (λ b. (b && is_none (chosen h i)) || are_many (asked h) (holds_tuple_id t)) (apart.ids i) ∙ apart.tuple_ids t

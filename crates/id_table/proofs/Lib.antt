@@ -9,4 +9,6 @@ pub mod Rearranged
 pub mod Renumbered
 pub mod RowLemmas
 pub mod SliceLaws
+pub mod SortedKinds
+pub mod Sorting
 pub mod Stepping

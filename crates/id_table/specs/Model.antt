@@ -55,6 +55,11 @@ IsOfOthers p = (e : Located) → is_part e ≡ true → p e ≡ false
 abbrev pub AreChosen : Held → Type 0
 AreChosen h = (id : List ℕ) → is_some (chosen h id) ≡ (are_many (asked h) (holds_id id) && agree (asked h) id)
 
+-- no two elements have one id, and no two tuples one tuple id
+pub record IsApart (h : Held) : Type 0 where
+  pub ids : (id : List ℕ) → are_many (asked h) (holds_id id) ≡ false
+  pub tuple_ids : (id : List ℕ) → are_many (asked h) (holds_tuple_id id) ≡ false
+
 -- another element has the element's id, and none was chosen for it; or another tuple has its tuple id
 abbrev pub repeats_held : Held → Located → Bool
 repeats_held h e =

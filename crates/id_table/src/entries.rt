@@ -1,12 +1,15 @@
 //! Tables from an id to the elements that have it, each with its kind.
-ghost use Rattle.std.specs.Prelude.{◌≡◌, [], OnOk, option_map};
+ghost use Rattle.std.specs.Prelude.{◌≡◌, ◌++◌, ◌∷◌, [], IfOk, OnOk, false, option_map};
+ghost use Rattle.std.specs.Option.{option_map_or};
 ghost use Rattle.ix_base.specs.Asks.{only};
 ghost use Rattle.ix_base.specs.Ids as ids;
 ghost use Rattle.ix_base.specs.LocatedElements.{located};
-ghost use Rattle.id_table.specs.Tables.{IsEntered, entries_at, entry_for};
+ghost use Rattle.id_table.specs.Tables.{IsAlone, IsEntered, entries_at, entries_of, entry_for};
 
 use ix_base::{Kind, NoMemory, Spot, kind_of};
 use link_ids::id_at;
+use std::alloc::Global;
+use std::slice::from_ref;
 use text_map::TextMap;
 
 /// An element that was found, with its kind.
@@ -16,8 +19,42 @@ pub struct Entry<'a> {
     pub spot: &'a Spot<'a>,
 }
 
-/// The elements with each id, each with its kind, in the order in which they were met.
-pub type Entries<'a> = TextMap<'a, Vec<Entry<'a>>>;
+/// The elements with one id, in the order in which they were met. Hardly an id has more than one, and one takes no memory of its own.
+#[derive(Drop)]
+pub enum Sharers<'a> {
+    One(Entry<'a>),
+    Several(Vec<Entry<'a>>),
+}
+
+/// The elements with each id, each with its kind.
+pub type Entries<'a> = TextMap<'a, Sharers<'a>>;
+
+impl<'a> Sharers<'a> {
+    fn as_slice(&self) -> &[Entry<'a>]
+        ensures { result.now ≡ entries_of self.now }
+    {
+        match self {
+            Sharers::One(entry) => from_ref(entry),
+            Sharers::Several(entries) => entries.as_slice(),
+        }
+    }
+
+    /// They, and one more.
+    fn with(self, alloc: Global, entry: Entry<'a>) -> Result<Sharers<'a>, NoMemory>
+        ensures { IfOk result (λ s. entries_of s ≡ entries_of self.entry ++ entry.entry ∷ []) }
+    {
+        let mut entries = match self {
+            Sharers::One(first) => {
+                let mut entries = Vec::new(alloc);
+                entries.push(first)?;
+                entries
+            }
+            Sharers::Several(entries) => entries,
+        };
+        entries.push(entry)?;
+        Ok(Sharers::Several(entries))
+    }
+}
 
 /// An element with its kind.
 pub fn entry_of<'a>(spot: &'a Spot<'a>) -> Entry<'a>
@@ -29,14 +66,38 @@ pub fn entry_of<'a>(spot: &'a Spot<'a>) -> Entry<'a>
     }
 }
 
-/// Enters an element at its id, where it has one.
-pub fn enter_entry<'a>(entries: &mut Entries<'a>, spot: &'a Spot<'a>) -> Result<(), NoMemory>
-    ensures { OnOk result (IsEntered entries.old entries.new (ids.id_of (located spot.entry.now)) spot.entry) }
+/// An element behind those that have its id already, if any do.
+fn sharers_with<'a>(
+    alloc: Global,
+    before: Option<Sharers<'a>>,
+    entry: Entry<'a>,
+) -> Result<Sharers<'a>, NoMemory>
+    ensures { IfOk result (λ s. entries_of s ≡ option_map_or entries_of before.entry [] ++ entry.entry ∷ []) }
 {
-    if let Some(id) = id_at(spot) {
-        entries.push_at(id, entry_of(spot))?;
+    match before {
+        Some(sharers) => sharers.with(alloc, entry),
+        None => Ok(Sharers::One(entry)),
     }
-    Ok(())
+}
+
+/// Enters an element at its id, where it has one. Says whether another has it.
+pub fn enter_entry<'a>(
+    alloc: Global,
+    entries: &mut Entries<'a>,
+    spot: &'a Spot<'a>,
+) -> Result<bool, NoMemory>
+    ensures entered { OnOk result (IsEntered entries.old entries.new (ids.id_of (located spot.entry.now)) spot.entry) }
+    ensures alone { IfOk result (λ is_shared. is_shared ≡ false
+        → IsAlone (entries_at entries.new) (ids.id_of (located spot.entry.now))) }
+{
+    let Some(id) = id_at(spot) else {
+        return Ok(false);
+    };
+    let before = entries.remove(id);
+    let is_shared = before.is_some();
+    let sharers = sharers_with(alloc, before, entry_of(spot))?;
+    entries.insert(id, sharers)?;
+    Ok(is_shared)
 }
 
 /// The elements at an id; those of an id that no element has are `none`.
@@ -48,7 +109,10 @@ pub fn entries_in<'m, 'a>(
     requires { none.now.items ≡ [] }
     ensures { result.now ≡ entries_at entries.now id.now }
 {
-    entries.get(id).unwrap_or(none).as_slice()
+    match entries.get(id) {
+        Some(sharers) => sharers.as_slice(),
+        None => none.as_slice(),
+    }
 }
 
 /// The only one of some elements.

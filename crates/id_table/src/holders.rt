@@ -1,9 +1,12 @@
 //! Tables from an id to the elements that have it.
-ghost use Rattle.std.specs.Prelude.{◌≡◌, OnOk, OnErr, option_map, length};
+ghost use Rattle.std.specs.Prelude.{◌≡◌, OnOk, OnErr, IfOk, false, option_map, length};
 ghost use Rattle.ix_base.specs.Asks.{only};
-ghost use Rattle.id_table.specs.Tables.{Entered, SameSpots, spots_at};
+ghost use Rattle.ix_base.specs.Ids.{tuple_id_of};
+ghost use Rattle.ix_base.specs.LocatedElements.{located};
+ghost use Rattle.id_table.specs.Tables.{Entered, IsAlone, SameSpots, spots_at};
 
 use ix_base::{NoMemory, Spot};
+use link_ids::tuple_id_at;
 use text_map::TextMap;
 
 /// The elements with each id, in the order in which they were met.
@@ -22,6 +25,19 @@ pub fn enter<'a>(
         holders.push_at(id, spot)?;
     }
     Ok(())
+}
+
+/// Enters a tuple at its tuple id, where an element has one. Says whether another has it.
+pub fn enter_tuple<'a>(tuples: &mut Holders<'a>, spot: &'a Spot<'a>) -> Result<bool, NoMemory>
+    ensures entered { OnOk result (Entered tuples.old tuples.new (tuple_id_of (located spot.entry.now)) spot.entry) }
+    ensures alone { IfOk result (λ is_shared. is_shared ≡ false
+        → IsAlone (spots_at tuples.new) (tuple_id_of (located spot.entry.now))) }
+{
+    let Some(id) = tuple_id_at(spot) else {
+        return Ok(false);
+    };
+    enter(tuples, Some(id), spot)?;
+    Ok(count_in(tuples, id) > 1)
 }
 
 /// The one element at an id.

@@ -1,5 +1,5 @@
 //! The marked elements of the pages, found by id, and what was chosen for ids that several have.
-ghost use Rattle.std.specs.Prelude.{◌≡◌, ◌++◌, ◌∷◌, [], ℕ, List, OnOk, OnErr, IfOk, IfSome, IsErr, true, false, ◌&&◌, if◌then◌else◌, bytes_eq, is_none, is_some, option_map, map, flat_map, All, Bool};
+ghost use Rattle.std.specs.Prelude.{◌≡◌, ◌++◌, ◌∷◌, [], ℕ, List, OnOk, OnErr, IfOk, IfSome, IsErr, true, false, ◌&&◌, filter, if◌then◌else◌, bytes_eq, is_none, is_some, option_map, map, flat_map, All, Bool};
 ghost use Rattle.std.specs.Option.{option_map_or};
 ghost use Rattle.ix_base.specs.declared.kind.Kind.{Kind as KindOf};
 ghost use Rattle.ix_base.specs.declared.rule.Rule.TheVariants.{L1};
@@ -9,43 +9,22 @@ ghost use Rattle.ix_base.specs.Fronts.{AppendsFront};
 ghost use Rattle.ix_base.specs.Ids as ids;
 ghost use Rattle.ix_base.specs.Kinds as kinds;
 ghost use Rattle.ix_base.specs.LinkRules.{breaking};
-ghost use Rattle.ix_base.specs.LocatedElements.{Located, located, is_kind, page_marked};
+ghost use Rattle.ix_base.specs.LocatedElements.{Located, is_fact, is_kind, located, may_go_on, page_marked};
 ghost use Rattle.ix_base.specs.Spaces.{AreNumbered, spaces_of};
 ghost use Rattle.ix_base.specs.Spots.{IsOnOnePage};
 ghost use Rattle.ix_base.specs.Trees.{tree_of};
-ghost use Rattle.id_table.specs.Model.{AreChosen, IsHeldFor, IsHolder, IsOfOthers, asked, chosen, doubled_at, one_held, repeats_held};
-ghost use Rattle.id_table.specs.Tables.{AreOnOwnPages, AreWhole, all_located};
+ghost use Rattle.id_table.specs.Model.{AreChosen, IsApart, IsHeldFor, IsHolder, IsOfOthers, asked, chosen, doubled_at, one_held, repeats_held};
+ghost use Rattle.id_table.specs.Tables.{AreOnOwnPages, all_located, is_other};
 
-use crate::choices::{Choices, choice_in, chosen_or_only, set_choice};
+use crate::choices::{choice_in, chosen_or_only, set_choice};
 use crate::entries::{Entry, entries_in, entry_at};
 use crate::holders::{count_in, one_in};
-use crate::tables::Tables;
+use crate::kept::Kept;
 use bumpalo::Bump;
 use ix_base::{Breaches, Element, NoMemory, Rule, Spot};
 use link_ids::{id_at, tuple_id_at};
 use std::alloc::Global;
 use std::marker::Model;
-use text_map::TextMap;
-
-/// The tables, and what was chosen for ids.
-#[derive(Drop)]
-struct Kept<'a> {
-    tables: Tables<'a>,
-    choices: Choices<'a>,
-}
-
-impl<'a> Kept<'a> {
-    fn new(alloc: Global) -> Kept<'a>
-        ensures spots { result.tables.spots.items ≡ [] }
-        ensures whole { AreWhole result.tables.ids result.tables.tuples result.tables.spots.items }
-        ensures choices { result.choices ≡ [] }
-    {
-        Kept {
-            tables: Tables::new(alloc),
-            choices: TextMap::new(alloc),
-        }
-    }
-}
 
 /// The marked elements of the pages that were added, in order, with tables from their ids, and what was chosen for ids that several of
 /// them have.
@@ -76,7 +55,8 @@ impl<'a> Model for Index<'a> {
       is_spent = t.is_spent;
     } };
 
-    ghost invariant = { λ t. IsIndexed t.kept.tables.ids t.kept.tables.tuples t.kept.tables.spots.items t.kept.choices t.none };
+    ghost invariant = { λ t. IsIndexed t.kept.tables.ids t.kept.tables.tuples t.kept.tables.lists t.kept.tables.repeats
+        t.kept.tables.spots.items t.kept.choices t.none };
 }
 
 impl<'a> Index<'a> {
@@ -106,7 +86,7 @@ impl<'a> Index<'a> {
         ensures spent { self.old.is_spent ≡ true → IsErr result }
     {
         if self.is_spent || self.kept.tables.add_page(self.alloc, arena, root).is_err() {
-            self.kept = Kept::new(self.alloc);
+            self.kept.clear(self.alloc);
             self.is_spent = true;
             return Err(NoMemory);
         }
@@ -125,13 +105,13 @@ impl<'a> Index<'a> {
         ensures spent { self.old.is_spent ≡ true → IsErr result }
     {
         if self.is_spent {
-            self.kept = Kept::new(self.alloc);
+            self.kept.clear(self.alloc);
             return Err(NoMemory);
         }
         match set_choice(&mut self.kept.choices, id, choice) {
             Ok(()) => Ok(()),
             Err(_) => {
-                self.kept = Kept::new(self.alloc);
+                self.kept.clear(self.alloc);
                 self.is_spent = true;
                 Err(NoMemory)
             }
@@ -144,6 +124,31 @@ impl<'a> Index<'a> {
         ensures pages { AreOnOwnPages result.now }
     {
         self.kept.tables.spots.as_slice()
+    }
+
+    /// The items and tuples, in order. It takes no memory.
+    pub fn facts(&self) -> &[&'a Spot<'a>]
+        ensures elements { all_located result.now ≡ filter is_fact self.now.spots }
+        ensures pages { AreOnOwnPages result.now }
+    {
+        self.kept.tables.lists.facts.as_slice()
+    }
+
+    /// The elements with which chains begin and the continuations, in order. It takes no memory.
+    pub fn of_chains(&self) -> &[&'a Spot<'a>]
+        ensures elements { all_located result.now ≡ filter may_go_on self.now.spots }
+        ensures pages { AreOnOwnPages result.now }
+    {
+        self.kept.tables.lists.of_chains.as_slice()
+    }
+
+    /// The elements that are neither facts nor of chains, in order: contexts, units, references, relationships and what is around
+    /// them. It takes no memory.
+    pub fn others(&self) -> &[&'a Spot<'a>]
+        ensures elements { all_located result.now ≡ filter is_other self.now.spots }
+        ensures pages { AreOnOwnPages result.now }
+    {
+        self.kept.tables.lists.others.as_slice()
     }
 
     /// The marked elements with the id, as they were added, each with its kind. It takes no memory.
@@ -246,6 +251,13 @@ impl<'a> Index<'a> {
         breaches.add_if(spot.element.place, Rule::L1, self.repeats_id(spot))
     }
 
+    /// Whether an id or a tuple id was met again. It takes no memory.
+    pub fn has_repeats(&self) -> bool
+        ensures { result ≡ false → IsApart self.now }
+    {
+        self.kept.tables.repeats
+    }
+
     /// Adds exactly the elements of each id that several have and for which nothing was chosen, and the tuples that share a
     /// tuple id. Where the choices are those that the elements ask for, these are those that break the rule on doubled ids.
     /// After a refusal a front of them may have been added. An index for which memory was wanting refuses, and adds none.
@@ -257,6 +269,9 @@ impl<'a> Index<'a> {
     {
         if self.is_spent {
             return Err(NoMemory);
+        }
+        if !self.has_repeats() {
+            return Ok(());
         }
         for spot in self.spots() {
             self.add_if_doubled(spot, breaches)?;

@@ -8,71 +8,78 @@ ghost use Rattle.ix_base.specs.Trees.{tree_of};
 ghost use Rattle.id_table.specs.Tables.{AreOnOwnPages, AreWhole, all_located};
 
 use crate::entries::{Entries, enter_entry};
-use crate::holders::{Holders, enter};
+use crate::holders::{Holders, enter_tuple};
+use crate::lists::Lists;
 use crate::walk::walk;
 use bumpalo::Bump;
 use ix_base::{Element, Kind, NoMemory, Spot, kind_of};
-use link_ids::tuple_id_at;
 use std::alloc::Global;
 use text_map::TextMap;
 
-/// Elements in order, and for each id and tuple id those that have it.
+/// Elements in order, for each id and tuple id those that have it, and lists of them by what they are.
 #[derive(Drop)]
 pub struct Tables<'a> {
     pub spots: Vec<&'a Spot<'a>>,
     pub ids: Entries<'a>,
     pub tuples: Holders<'a>,
+    pub lists: Lists<'a>,
+    /// Whether an id or a tuple id was met again.
+    pub repeats: bool,
 }
 
 impl<'a> Tables<'a> {
     pub fn new(alloc: Global) -> Tables<'a>
         ensures spots { result.spots.items ≡ [] }
-        ensures whole { AreWhole result.ids result.tuples result.spots.items }
+        ensures whole { AreWhole result.ids result.tuples result.lists result.repeats result.spots.items }
     {
         Tables {
             spots: Vec::new(alloc),
             ids: TextMap::new(alloc),
             tuples: TextMap::new(alloc),
+            lists: Lists::new(alloc),
+            repeats: false,
         }
     }
 
     /// Adds an element at the end.
-    fn add(&mut self, spot: &'a Spot<'a>) -> Result<(), NoMemory>
-        requires whole { AreWhole self.old.ids self.old.tuples self.old.spots.items }
+    fn add(&mut self, alloc: Global, spot: &'a Spot<'a>) -> Result<(), NoMemory>
+        requires whole { AreWhole self.old.ids self.old.tuples self.old.lists self.old.repeats self.old.spots.items }
         requires page { IsOnOnePage spot.now }
         ensures spots { OnOk result (self.new.spots.items ≡ self.old.spots.items ++ spot.entry ∷ []) }
-        ensures whole { OnOk result (AreWhole self.new.ids self.new.tuples self.new.spots.items) }
+        ensures whole { OnOk result (AreWhole self.new.ids self.new.tuples self.new.lists self.new.repeats self.new.spots.items) }
     {
-        enter_entry(&mut self.ids, spot)?;
-        enter(&mut self.tuples, tuple_id_at(spot), spot)?;
+        let shares_id = enter_entry(alloc, &mut self.ids, spot)?;
+        let shares_tuple_id = enter_tuple(&mut self.tuples, spot)?;
+        self.repeats |= shares_id | shares_tuple_id;
+        self.lists.add(spot)?;
         self.spots.push(spot)?;
         Ok(())
     }
 
     /// Adds an element where it is a marked one.
-    fn add_marked(&mut self, spot: &'a Spot<'a>) -> Result<(), NoMemory>
-        requires whole { AreWhole self.old.ids self.old.tuples self.old.spots.items }
+    fn add_marked(&mut self, alloc: Global, spot: &'a Spot<'a>) -> Result<(), NoMemory>
+        requires whole { AreWhole self.old.ids self.old.tuples self.old.lists self.old.repeats self.old.spots.items }
         requires page { IsOnOnePage spot.now }
         ensures spots { OnOk result (all_located self.new.spots.items
             ≡ all_located self.old.spots.items ++ filter spec_is_marked (located spot.entry.now ∷ [])) }
-        ensures whole { OnOk result (AreWhole self.new.ids self.new.tuples self.new.spots.items) }
+        ensures whole { OnOk result (AreWhole self.new.ids self.new.tuples self.new.lists self.new.repeats self.new.spots.items) }
     {
         if is_marked(spot) {
-            return self.add(spot);
+            return self.add(alloc, spot);
         }
         Ok(())
     }
 
     /// Adds the marked elements among the spots of a page.
-    fn add_all(&mut self, spots: &[&'a Spot<'a>]) -> Result<(), NoMemory>
-        requires whole { AreWhole self.old.ids self.old.tuples self.old.spots.items }
+    fn add_all(&mut self, alloc: Global, spots: &[&'a Spot<'a>]) -> Result<(), NoMemory>
+        requires whole { AreWhole self.old.ids self.old.tuples self.old.lists self.old.repeats self.old.spots.items }
         requires pages { AreOnOwnPages spots.now }
         ensures spots { OnOk result (all_located self.new.spots.items
             ≡ all_located self.old.spots.items ++ filter spec_is_marked (all_located spots.now)) }
-        ensures whole { OnOk result (AreWhole self.new.ids self.new.tuples self.new.spots.items) }
+        ensures whole { OnOk result (AreWhole self.new.ids self.new.tuples self.new.lists self.new.repeats self.new.spots.items) }
     {
         for spot in spots {
-            self.add_marked(*spot)?;
+            self.add_marked(alloc, *spot)?;
         }
         Ok(())
     }
@@ -84,16 +91,16 @@ impl<'a> Tables<'a> {
         arena: &'a Bump,
         root: &'a Element<'a>,
     ) -> Result<(), NoMemory>
-        requires whole { AreWhole self.old.ids self.old.tuples self.old.spots.items }
+        requires whole { AreWhole self.old.ids self.old.tuples self.old.lists self.old.repeats self.old.spots.items }
         requires page { All (λ p. p ≡ root.now.place.page) (pages_of root.now) }
         requires spaces { AreNumbered (spaces_of root.now) }
         ensures spots { OnOk result (all_located self.new.spots.items
             ≡ all_located self.old.spots.items ++ page_marked root.now.place.page (tree_of root.now)) }
-        ensures whole { OnOk result (AreWhole self.new.ids self.new.tuples self.new.spots.items) }
+        ensures whole { OnOk result (AreWhole self.new.ids self.new.tuples self.new.lists self.new.repeats self.new.spots.items) }
     {
         let mut spots = Vec::new(alloc);
         walk(arena, root, None, &mut spots)?;
-        self.add_all(spots.as_slice())
+        self.add_all(alloc, spots.as_slice())
     }
 }
 

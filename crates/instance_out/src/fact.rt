@@ -17,6 +17,9 @@ use crate::sort::sort_texts;
 use ix_base::{Accuracy, Content, Fact, Item, NoMemory, Text, Tuple, Value, shown};
 use std::alloc::Global;
 
+/// How many bytes a line of a fact has room for at first.
+const LINE: usize = 64;
+
 /// The decimals of an item.
 fn decimals_of(item: &Item) -> Option<&str>
     ensures { option_map (λ t. t.now) result ≡ decimals item.now.accuracy }
@@ -186,7 +189,7 @@ fn push_facts(
 pub fn line_of(alloc: Global, prefixes: &Prefixes<'_>, fact: &Fact) -> Result<Text, NoMemory>
     ensures { IfOk result (λ t. t ≡ fact_line prefixes.now fact.now) }
 {
-    let mut out = Text::of(alloc, "")?;
+    let mut out = Text::with_room(alloc, LINE)?;
     push_fact(alloc, prefixes, fact, &mut out)?;
     out.push("\n")?;
     Ok(out)

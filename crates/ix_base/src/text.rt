@@ -1,5 +1,5 @@
 //! Texts that are owned.
-ghost use Rattle.std.specs.Prelude.{◌≡◌, ◌++◌, OnOk, OnErr, IfOk, bytes_eq, option_map};
+ghost use Rattle.std.specs.Prelude.{◌≡◌, ◌++◌, [], OnOk, OnErr, IfOk, bytes_eq, option_map};
 
 use crate::NoMemory;
 use std::alloc::Global;
@@ -34,6 +34,14 @@ impl Text {
         ensures { IfOk result (λ t. t ≡ s.now) }
     {
         let string = String::from_str(alloc, s)?;
+        Ok(Text { string })
+    }
+
+    /// An empty text with room for so many bytes, so that it grows only where more are pushed.
+    pub fn with_room(alloc: Global, bytes: usize) -> Result<Text, NoMemory>
+        ensures { IfOk result (λ t. t ≡ []) }
+    {
+        let string = String::with_capacity(alloc, bytes)?;
         Ok(Text { string })
     }
 

@@ -26,7 +26,7 @@ use Rattle.ixds_run.specs.PageReads.{IsRead}
 use Rattle.ixds_run.specs.declared.due.Due.{Due}
 use Rattle.ixds_run.specs.declared.read_pages.Forest.{Forest}
 use Rattle.ixds_run.specs.declared.due.DueTarget.{DueTarget}
-use Rattle.page_session.proofs.MadeLaws.{cut_at}
+use Rattle.targets.proofs.MadeLaws.{cut_at}
 use Rattle.targets.specs.declared.outcome.Target.{Target}
 
 abbrev under : List ℕ → InstanceLines → Begun

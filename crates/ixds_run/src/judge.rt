@@ -11,11 +11,10 @@ use crate::read_pages::Forest;
 use bumpalo::Bump;
 use ix_base::limits::{MOST_BYTES, MOST_TAGS};
 use ix_base::{Breaches, NoMemory, Place, Rule, Text};
-use page_session::made::made;
 use page_session::reading::Sums;
 use page_tree::laws::sound_tree;
 use std::alloc::Global;
-use targets::Outcome;
+use targets::{Outcome, made};
 
 /// The size rule that pages with these sums break.
 pub fn size_rule_of(sums: Sums) -> Option<Rule>

@@ -18,10 +18,9 @@ pub fn id_at<'a>(spot: &Spot<'a>) -> Option<&'a str>
 pub fn tuple_id_at<'a>(spot: &Spot<'a>) -> Option<&'a str>
     ensures { option_map (λ s. s.now) result ≡ ids.tuple_id_of (located spot.now) }
 {
-    if !is_tuple(spot) {
-        return None;
-    }
-    token_at(spot.element, "tupleID")
+    // Hardly an element has the attribute, and of those that have it the kind is asked.
+    let id = token_at(spot.element, "tupleID")?;
+    if is_tuple(spot) { Some(id) } else { None }
 }
 
 /// The tuple id to which an element refers.
@@ -35,8 +34,7 @@ pub fn tuple_ref<'a>(spot: &Spot<'a>) -> Option<&'a str>
 pub fn continued_at<'a>(spot: &Spot<'a>) -> Option<&'a str>
     ensures { option_map (λ s. s.now) result ≡ spec_continued_at (located spot.now) }
 {
-    if !may_go_on(spot) {
-        return None;
-    }
-    token_at(spot.element, "continuedAt")
+    // As with the tuple ids, the kind is asked only of those that have the attribute.
+    let id = token_at(spot.element, "continuedAt")?;
+    if may_go_on(spot) { Some(id) } else { None }
 }

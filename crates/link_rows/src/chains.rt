@@ -1,6 +1,8 @@
 //! Ids and continuations in sets of pages.
-ghost use Rattle.std.specs.Prelude.{◌≡◌, ◌<◌, All, length, nat_lt};
+ghost use Rattle.std.specs.Prelude.{◌≡◌, ◌<◌, ◌++◌, All, OnOk, length, nat_lt};
 ghost use Rattle.std.specs.List.{list_all};
+ghost use Rattle.ix_base.specs.declared.rule.Rule.TheVariants.{L4, L5, L6, L7};
+ghost use Rattle.ix_base.specs.LinkRules.{breaking};
 ghost use Rattle.ix_base.specs.LocatedElements.{located};
 
 use crate::sets::letters;
@@ -9,7 +11,7 @@ use bumpalo::Bump;
 use continuations::{Chains, link};
 use escape_text::plain;
 use id_table::Index;
-use ix_base::{Breach, Breaches, Spot, Text};
+use ix_base::{Breach, Breaches, NoMemory, Spot, Text};
 use row_tables::owned;
 use std::alloc::Global;
 
@@ -59,6 +61,20 @@ pub(crate) fn doubled(alloc: Global, index: &Index<'_>, count: usize) -> Result<
     doubled_in(alloc, index, names.as_slice())
 }
 
+/// Adds the breaches of the rules on continuations of an index.
+fn add_linked<'a>(
+    alloc: Global,
+    arena: &'a Bump,
+    index: &Index<'a>,
+    breaches: &mut Breaches,
+) -> Result<(), NoMemory>
+    ensures { OnOk result (breaches.new ≡ breaches.old ++ breaking L4 index.now.spots ++ breaking L5 index.now.spots
+        ++ breaking L6 index.now.spots ++ breaking L7 index.now.spots) }
+{
+    link(alloc, arena, index, breaches)?;
+    Ok(())
+}
+
 /// The report on the continuations of an index, on pages of these names.
 fn linked_in<'a>(
     alloc: Global,
@@ -68,7 +84,7 @@ fn linked_in<'a>(
 ) -> Result<String> {
     ensure!(are_within(index.spots(), names.len()), "another page");
     let mut breaches = Breaches::new(alloc);
-    let _ = link(alloc, arena, index, &mut breaches)?;
+    add_linked(alloc, arena, index, &mut breaches)?;
     lines_of(alloc, breaches, names)
 }
 
@@ -83,14 +99,32 @@ pub(crate) fn linked<'a>(
     linked_in(alloc, arena, index, names.as_slice())
 }
 
+/// The text of a chain.
+fn plain_of(alloc: Global, chain: &[&Spot<'_>]) -> Result<Text, NoMemory> {
+    let mut text = Text::of(alloc, "")?;
+    plain(chain, &mut text)?;
+    Ok(text)
+}
+
 /// The text of the chain that begins at an element; `none` where no chain begins there.
 fn text_from<'a>(alloc: Global, chains: &Chains<'a>, spot: &Spot<'a>) -> Result<String> {
     if !chains.has(spot) {
         return owned(alloc, "none");
     }
-    let mut text = Text::of(alloc, "")?;
-    plain(chains.of(spot), &mut text)?;
+    let text = plain_of(alloc, chains.of(spot))?;
     owned(alloc, text.as_str())
+}
+
+/// The text of the chain of an index that begins at an element. The breaches that are found are added.
+fn text_by<'a>(
+    alloc: Global,
+    arena: &'a Bump,
+    index: &Index<'a>,
+    spot: &Spot<'a>,
+    breaches: &mut Breaches,
+) -> Result<String> {
+    let chains = link(alloc, arena, index, breaches)?;
+    text_from(alloc, &chains, spot)
 }
 
 /// The text of the chain that begins at the element of an id.
@@ -102,6 +136,5 @@ pub(crate) fn text<'a>(
 ) -> Result<String> {
     let entry = index.one(id).context("no such element")?;
     let mut breaches = Breaches::new(alloc);
-    let chains = link(alloc, arena, index, &mut breaches)?;
-    text_from(alloc, &chains, entry.spot)
+    text_by(alloc, arena, index, entry.spot, &mut breaches)
 }

@@ -1,5 +1,6 @@
 //! What items say.
 ghost use Rattle.std.specs.Prelude.{◌≡◌, [], OnOk};
+ghost use Rattle.ix_base.specs.Sound.{IsSoundRoot};
 ghost use Rattle.id_table.specs.Model.{AreChosen};
 
 use anyhow::{Result, bail, ensure};
@@ -7,21 +8,27 @@ use bumpalo::Bump;
 use fact_view::{FactView, view};
 use facts::{ItemFault, item_of, refs_of};
 use id_table::Index;
-use ix_base::{Accuracy, Breaches, Item, Spot, Text, Value};
+use ix_base::{Accuracy, Breaches, Element, Item, NoMemory, Spot, Text, Value};
 use row_tables::{Cell, owned, push_name, quoted};
 use scopes::Bases;
 use sound_pages::sound_root;
 use std::alloc::Global;
 
 /// What the root of a page says, or the rule of values that it breaks.
-fn said(alloc: Global, page: &str) -> Result<Result<Item, ItemFault>> {
-    let arena = Bump::new(alloc);
-    let element = sound_root(alloc, &arena, 0, page)?;
+fn said_by<'a>(alloc: Global, element: &'a Element<'a>) -> Result<Result<Item, ItemFault>>
+    requires { IsSoundRoot element.now 0 256 }
+{
     ensure!(element.place.page == 0, "another page");
     let mut bases = Bases::new(alloc);
     bases.add_page("http://example.com/r/", "a.html", element)?;
     let spot = Spot { element, up: None };
     Ok(item_of(alloc, &spot, &[&spot], &bases))
+}
+
+/// What the root of a page of this text says, or the rule of values that it breaks.
+fn said(alloc: Global, page: &str) -> Result<Result<Item, ItemFault>> {
+    let arena = Bump::new(alloc);
+    said_by(alloc, sound_root(alloc, &arena, 0, page)?)
 }
 
 /// A value: a text in quotes, two numbers with `/` between them, or `nil`.
@@ -33,16 +40,22 @@ fn value_said(alloc: Global, value: &Value) -> Result<String> {
     }
 }
 
+/// The value of an item, or the rule that is broken.
+fn value_or_rule(alloc: Global, said: &Result<Item, ItemFault>) -> Result<String> {
+    match said {
+        Ok(item) => value_said(alloc, &item.value),
+        Err(ItemFault::Breach(rule)) => owned(alloc, rule.code()),
+        Err(ItemFault::NoMemory) => bail!("no memory"),
+    }
+}
+
 /// The value that the root of a page says, or the rule that it breaks.
 pub(crate) fn value(alloc: Global, cells: &[Cell]) -> Result<String> {
     let [page] = cells else {
         bail!("a page is wanted");
     };
-    match said(alloc, page.text()?)? {
-        Ok(item) => value_said(alloc, &item.value),
-        Err(ItemFault::Breach(rule)) => owned(alloc, rule.code()),
-        Err(ItemFault::NoMemory) => bail!("no memory"),
-    }
+    let said = said(alloc, page.text()?)?;
+    value_or_rule(alloc, &said)
 }
 
 /// A text, or a dash where there is none.
@@ -73,15 +86,21 @@ fn fields_of(alloc: Global, item: &Item) -> Result<String> {
     Ok(text)
 }
 
+/// What stands beside the value of an item, where no rule is broken.
+fn fields_said(alloc: Global, said: &Result<Item, ItemFault>) -> Result<String> {
+    match said {
+        Ok(item) => fields_of(alloc, item),
+        Err(_) => bail!("a rule is broken"),
+    }
+}
+
 /// What stands beside the value of what the root of a page says: its name, context, unit, accuracy and id.
 pub(crate) fn fields(alloc: Global, cells: &[Cell]) -> Result<String> {
     let [page] = cells else {
         bail!("a page is wanted");
     };
-    match said(alloc, page.text()?)? {
-        Ok(item) => fields_of(alloc, &item),
-        Err(_) => bail!("a rule is broken"),
-    }
+    let said = said(alloc, page.text()?)?;
+    fields_said(alloc, &said)
 }
 
 /// Refuses pages of which two elements have one id, or two tuples one tuple id.
@@ -95,28 +114,42 @@ pub(crate) fn ensure_apart(alloc: Global, index: &Index<'_>) -> Result<()>
     Ok(())
 }
 
+/// Adds a breach for each context and each unit that the elements of an index miss.
+fn add_missed(index: &Index<'_>, breaches: &mut Breaches) -> Result<(), NoMemory>
+    requires { AreChosen index.now }
+{
+    for spot in index.spots() {
+        refs_of(spot, index, breaches)?;
+    }
+    Ok(())
+}
+
 /// How many contexts and units the elements of an index miss.
 pub(crate) fn missed(alloc: Global, index: &Index<'_>) -> Result<String>
     requires { AreChosen index.now }
 {
     let mut breaches = Breaches::new(alloc);
-    for spot in index.spots() {
-        refs_of(spot, index, &mut breaches)?;
-    }
+    add_missed(index, &mut breaches)?;
     Ok(breaches.len().to_string(alloc)?)
+}
+
+/// Appends what the attributes of a fact say.
+fn push_view(seen: &FactView<'_>, text: &mut String) -> Result<()> {
+    push_name(text, seen.name.ns, seen.name.local)?;
+    write!(text, " target={} nil={}", seen.target, seen.nil)?;
+    write!(text, " scale={} negative={}", seen.scale, seen.negative)?;
+    write!(text, " escape={} format=", seen.escape)?;
+    match seen.format {
+        Some(format) => push_name(text, format.ns, format.local)?,
+        None => text.push_str("none")?,
+    }
+    Ok(())
 }
 
 /// What the attributes of a fact say.
 fn view_said(alloc: Global, seen: &FactView<'_>) -> Result<String> {
     let mut text = String::new(alloc);
-    push_name(&mut text, seen.name.ns, seen.name.local)?;
-    write!(text, " target={} nil={}", seen.target, seen.nil)?;
-    write!(text, " scale={} negative={}", seen.scale, seen.negative)?;
-    write!(text, " escape={} format=", seen.escape)?;
-    match seen.format {
-        Some(format) => push_name(&mut text, format.ns, format.local)?,
-        None => text.push_str("none")?,
-    }
+    push_view(seen, &mut text)?;
     Ok(text)
 }
 
@@ -125,7 +158,8 @@ pub(crate) fn viewed(alloc: Global, cells: &[Cell]) -> Result<String> {
     let [page] = cells else {
         bail!("a page is wanted");
     };
+    let page = page.text()?;
     let arena = Bump::new(alloc);
-    let element = sound_root(alloc, &arena, 0, page.text()?)?;
+    let element = sound_root(alloc, &arena, 0, page)?;
     view_said(alloc, &view(&Spot { element, up: None }))
 }

@@ -17,7 +17,7 @@ use anyhow::{Context, Result, bail};
 use bumpalo::Bump;
 use id_table::Index;
 use row_tables::{Cell, run_tables};
-use sets::index_of;
+use sets::add_pages;
 use std::alloc::Global;
 use std::process::ExitCode;
 
@@ -57,12 +57,29 @@ fn seen_in<'a>(
     }
 }
 
+/// What is seen of a call of a table on pages, which an index takes that has none.
+fn seen_with<'a>(
+    alloc: Global,
+    arena: &'a Bump,
+    index: &mut Index<'a>,
+    table: &str,
+    cells: &[Cell],
+) -> Result<String>
+    requires { index.old.choices ≡ [] }
+{
+    if table == "markups" {
+        return markups::text(alloc, arena, index, cells);
+    }
+    let (word, pages) = word_and_pages(table, cells)?;
+    add_pages(alloc, arena, pages, index)?;
+    seen_in(alloc, arena, index, pages.len(), table, word)
+}
+
 /// What is seen of a call of a table on pages. The index is held here alone, and each call is lent it.
 fn of_pages(alloc: Global, table: &str, cells: &[Cell]) -> Result<String> {
-    let (word, pages) = word_and_pages(table, cells)?;
     let arena = Bump::new(alloc);
-    let index = index_of(alloc, &arena, pages)?;
-    seen_in(alloc, &arena, &index, pages.len(), table, word)
+    let mut index = Index::new(alloc);
+    seen_with(alloc, &arena, &mut index, table, cells)
 }
 
 /// What is seen of a call of a table, which is given these cells.
@@ -70,7 +87,6 @@ fn seen(alloc: Global, table: &str, cells: &[Cell]) -> Result<String> {
     match table {
         "item_fields" => items::fields(alloc, cells),
         "items" => items::value(alloc, cells),
-        "markups" => markups::text(alloc, cells),
         "views" => items::viewed(alloc, cells),
         _ => of_pages(alloc, table, cells),
     }

@@ -27,18 +27,17 @@ fn first_in<'a>(index: &Index<'a>) -> Option<&'a Spot<'a>>
     None
 }
 
-/// The first nonNumeric of a page.
+/// The first nonNumeric of a page, which an index takes that has none.
 fn first_text<'a>(
-    alloc: Global,
     arena: &'a Bump,
     root: &'a Element<'a>,
-) -> Result<Option<&'a Spot<'a>>>
+    index: &mut Index<'a>,
+) -> Result<&'a Spot<'a>>
     requires { IsSoundRoot root.now 0 256 }
-    ensures { IfOk result (λ found. IfSome found (λ s. IsOnOnePage s.now)) }
+    ensures { IfOk result (λ s. IsOnOnePage s.now) }
 {
-    let mut index = Index::new(alloc);
     index.add_page(arena, root)?;
-    Ok(first_in(&index))
+    first_in(index).context("no text")
 }
 
 /// What the elements of a chain hold: the plain text, the markup within the namespace of xhtml, or the markup within none with links
@@ -61,17 +60,28 @@ fn text_of(alloc: Global, which: &str, chain: &[&Spot<'_>], bases: &Bases) -> Re
     Ok(text)
 }
 
-/// One of the three texts of a page's first nonNumeric.
-pub(crate) fn text(alloc: Global, cells: &[Cell]) -> Result<String> {
-    let [which, page] = cells else {
-        bail!("which text, and a page, are wanted");
-    };
-    let arena = Bump::new(alloc);
-    let root = sound_root(alloc, &arena, 0, page.text()?)?;
-    let spot = first_text(alloc, &arena, root)?.context("no text")?;
+/// What an element of a page holds, against the base of the page.
+fn text_on(alloc: Global, which: &Cell, spot: &Spot<'_>, root: &Element<'_>) -> Result<Text>
+    requires { IsOnOnePage spot.now }
+{
     ensure!(spot.element.place.page == 0, "another page");
     let mut bases = Bases::new(alloc);
     bases.add_page("http://example.com/r/", "a.html", root)?;
-    let text = text_of(alloc, which.text()?, &[spot], &bases)?;
+    text_of(alloc, which.text()?, &[spot], &bases)
+}
+
+/// One of the three texts of a page's first nonNumeric. The index takes the page, and has none before.
+pub(crate) fn text<'a>(
+    alloc: Global,
+    arena: &'a Bump,
+    index: &mut Index<'a>,
+    cells: &[Cell],
+) -> Result<String> {
+    let [which, page] = cells else {
+        bail!("which text, and a page, are wanted");
+    };
+    let root = sound_root(alloc, arena, 0, page.text()?)?;
+    let spot = first_text(arena, root, index)?;
+    let text = text_on(alloc, which, spot, root)?;
     owned(alloc, text.as_str())
 }

@@ -67,10 +67,20 @@ fn said_of<'a>(
     Ok(said)
 }
 
+/// What is said of the elements of the first page of an index, by the breaches that are found in it.
+fn said_by<'a>(
+    alloc: Global,
+    arena: &'a Bump,
+    index: &Index<'a>,
+    breaches: &mut Breaches,
+) -> Result<String> {
+    ensure!(are_fit(index.spots()), "an order that is no number");
+    let members = membership(alloc, arena, index, breaches)?;
+    said_of(alloc, &members, breaches.len(), index.spots())
+}
+
 /// How many breaches there are in an index, the pages of the members of the first page's root, and that of its owner.
 pub(crate) fn of_first<'a>(alloc: Global, arena: &'a Bump, index: &Index<'a>) -> Result<String> {
-    ensure!(are_fit(index.spots()), "an order that is no number");
     let mut breaches = Breaches::new(alloc);
-    let members = membership(alloc, arena, index, &mut breaches)?;
-    said_of(alloc, &members, breaches.len(), index.spots())
+    said_by(alloc, arena, index, &mut breaches)
 }

@@ -126,6 +126,37 @@ fn push_notes<'a>(
     Ok(())
 }
 
+/// How many breaches there are, and the links of a target of a set of so many pages.
+fn notes_said<'a>(
+    alloc: Global,
+    index: &Index<'a>,
+    relations: &Relations<'a>,
+    chains: &Chains<'a>,
+    breaches: usize,
+    count: usize,
+    target: &str,
+) -> Result<String>
+    requires { AreChainsOf chains.now index.now.spots }
+{
+    let mut said = breaches.to_string(alloc)?;
+    push_notes(alloc, index, relations, chains, count, target, &mut said)?;
+    Ok(said)
+}
+
+/// How many breaches there are, and the links of a target of a set in which no rule on continuations is broken.
+fn linked_notes<'a>(
+    alloc: Global,
+    arena: &'a Bump,
+    index: &Index<'a>,
+    relations: &Relations<'a>,
+    breaches: usize,
+    count: usize,
+    target: &str,
+) -> Result<String> {
+    let chains = chains_of(alloc, arena, index)?;
+    notes_said(alloc, index, relations, &chains, breaches, count, target)
+}
+
 /// How many rules on relationships the elements of so many pages break, and the links of a target.
 pub(crate) fn of_target<'a>(
     alloc: Global,
@@ -136,8 +167,13 @@ pub(crate) fn of_target<'a>(
 ) -> Result<String> {
     let mut breaches = Breaches::new(alloc);
     let relations = relate(alloc, arena, index, &mut breaches)?;
-    let chains = chains_of(alloc, arena, index)?;
-    let mut said = breaches.len().to_string(alloc)?;
-    push_notes(alloc, index, &relations, &chains, count, target, &mut said)?;
-    Ok(said)
+    linked_notes(
+        alloc,
+        arena,
+        index,
+        &relations,
+        breaches.len(),
+        count,
+        target,
+    )
 }

@@ -1,5 +1,5 @@
 //! Sets of pages: their elements, and their names.
-ghost use Rattle.std.specs.Prelude.{◌≡◌, [], IfOk, OnOk};
+ghost use Rattle.std.specs.Prelude.{◌≡◌, [], OnOk};
 
 use anyhow::{Context, Result};
 use bumpalo::Bump;
@@ -10,7 +10,7 @@ use sound_pages::sound_root;
 use std::alloc::Global;
 
 /// Adds pages to an index that has none, in this order. Nothing is chosen.
-fn add_pages<'a>(
+pub(crate) fn add_pages<'a>(
     alloc: Global,
     arena: &'a Bump,
     pages: &[Cell],
@@ -26,15 +26,6 @@ fn add_pages<'a>(
         number = number.checked_add(1).context("too many pages")?;
     }
     Ok(())
-}
-
-/// The index of pages that are added in this order, in which nothing is chosen.
-pub(crate) fn index_of<'a>(alloc: Global, arena: &'a Bump, pages: &[Cell]) -> Result<Index<'a>>
-    ensures { IfOk result (λ i. i.choices ≡ []) }
-{
-    let mut index = Index::new(alloc);
-    add_pages(alloc, arena, pages, &mut index)?;
-    Ok(index)
 }
 
 /// The names of pages that have none: `a`, `b` and so on.

@@ -3,7 +3,6 @@ pub mod AnswerLaws
 pub mod CopyLaws
 pub mod CourseLaws
 pub mod KeptLaws
-pub mod MadeLaws
 pub mod ReadLaws
 pub mod ScriptLaws
 pub mod SessionLaws

@@ -8,12 +8,11 @@ ghost use Rattle.targets.specs.Forest.{AreSoundRoots, page_set, trees_of};
 ghost use Rattle.targets.specs.SetOutcomes.{CanBeWritten, ComesTo};
 
 use crate::kept::{Held, Kept};
-use crate::made::made;
 use crate::root::SoundRoot;
 use bumpalo::Bump;
 use ix_base::{Breaches, Element, NoMemory, Place, Text};
 use std::alloc::Global;
-use targets::Outcome;
+use targets::{Outcome, made};
 
 /// The names of pages.
 fn copied_names(alloc: Global, kept: &[Kept<'_>]) -> Result<Vec<Text>, NoMemory>

@@ -12,7 +12,6 @@
 mod answer;
 mod kept;
 pub mod laws;
-pub mod made;
 mod put;
 pub mod reading;
 mod renumbering;
@@ -28,3 +27,4 @@ pub use renumbering::renumbered;
 pub use script::{Line, Script, ScriptLine, parse};
 pub use script_reading::read_script;
 pub use session::Session;
+pub use targets::made;

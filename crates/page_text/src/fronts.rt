@@ -8,6 +8,7 @@ ghost use Rattle.page_text.specs.Fronts.{front};
 
 use bstr::decode_utf8;
 use ix_base::is_allowed;
+use ix_base::limits::PIECE;
 
 /// What stands at the front of some bytes.
 #[derive(Clone, Copy, Debug, PartialEq, Eq)]
@@ -51,16 +52,13 @@ fn is_clear(byte: u8) -> bool
     matches!(byte, 0x20..=0xEE) || matches!(byte, b'\t' | b'\n' | 0xF0..=0xFF)
 }
 
-/// How many bytes are taken in one go.
-const MOST_TAKEN: usize = 65_536;
-
 /// How many bytes at the front are clear, as far as they are taken in one go.
 fn clear_size(bytes: &[u8]) -> usize
     ensures within { result ≤ length bytes.now }
     ensures clear { list_all is_clear (take result bytes.now) ≡ true }
 {
     for (at, byte) in bytes.iter().enumerate() {
-        if at == MOST_TAKEN || !is_clear(*byte) {
+        if at == PIECE || !is_clear(*byte) {
             return at;
         }
     }

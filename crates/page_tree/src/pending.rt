@@ -5,11 +5,9 @@ ghost use Rattle.page_tree.specs.TextPlaces.{offset_at};
 ghost use Rattle.page_constructs.specs.Searches.{IsSought};
 
 use ix_base::NoMemory;
+use ix_base::limits::PIECE;
 use page_constructs::{Sought, unsought};
 use std::alloc::Global;
-
-/// How many bytes are taken at most before it is tried to build them in.
-const MOST_UNSEEN: usize = 65_536;
 
 /// Where the bytes of a text stand in the page: the first has an offset of its own, and from a place on each stands right
 /// behind the one before it. What lies between is never the start of a construct.
@@ -90,9 +88,9 @@ impl Pending {
             && offset == self.places.base + (self.text.len() - self.places.even) as u64
     }
 
-    /// Whether little of the text wasn't looked at.
+    /// Whether less of the text than is taken in one go wasn't looked at.
     pub(crate) fn is_short(&self) -> bool {
-        self.text.len().saturating_sub(self.sought.at) < MOST_UNSEEN
+        self.text.len().saturating_sub(self.sought.at) < PIECE
     }
 
     /// The next byte stands at this offset. No construct ends in the text, whatever follows.

@@ -27,6 +27,31 @@ fn due_line(alloc: Global, name: &str, bytes: &[u8]) -> Result<String> {
     }
 }
 
+/// The front of a page, as a source in memory takes it.
+fn held_front(alloc: Global, page: &Page, front: &[u8]) -> Result<Vec<MemPage>> {
+    let mut held = Vec::new(alloc);
+    held.push(MemPage {
+        name: Text::of(alloc, page.name.as_str())?,
+        bytes: List::of(front.to_vec(alloc)?),
+    })?;
+    Ok(held)
+}
+
+/// How the end of a run over the front of a page of this name differs from what is due, where it does.
+fn end_difference(
+    alloc: Global,
+    name: &str,
+    front: &[u8],
+    status: Status,
+    taken: &[u8],
+) -> Result<Option<String>> {
+    if status != Status::Broken {
+        return Ok(Some(format!(in alloc; "status {}", status.code())?));
+    }
+    let due = due_line(alloc, name, front)?;
+    differing_line(alloc, "the text", due.as_bytes(), taken)
+}
+
 /// How a run over the front of a page differs from what is due, where it does.
 fn front_difference(
     alloc: Global,
@@ -34,20 +59,12 @@ fn front_difference(
     page: &Page,
     front: &[u8],
 ) -> Result<Option<String>> {
-    let mut held = Vec::new(alloc);
-    held.push(MemPage {
-        name: Text::of(alloc, page.name.as_str())?,
-        bytes: List::of(front.to_vec(alloc)?),
-    })?;
+    let held = held_front(alloc, page, front)?;
     let mut pages = MemPages::new(held, 65_536, Vec::new(alloc));
     let mut sink = MemTargets::new(alloc, 1, 1000, Vec::new(alloc))?;
     let mut out = MemText::new(alloc, 1000, Vec::new(alloc))?;
     let status = run(alloc, words, &mut pages, &mut sink, &mut out);
-    let due = due_line(alloc, page.name.as_str(), front)?;
-    if status != Status::Broken {
-        return Ok(Some(format!(in alloc; "status {}", status.code())?));
-    }
-    differing_line(alloc, "the text", due.as_bytes(), out.taken())
+    end_difference(alloc, page.name.as_str(), front, status, out.taken())
 }
 
 /// How the first front of a row's page that isn't as it is due differs from that.

@@ -27,13 +27,10 @@
 #![tactic(auto)]
 
 mod command;
-mod counted;
 mod cuts;
 mod due;
 mod row;
 mod runs;
-#[cfg(test)]
-mod tests;
 mod written;
 
 use anyhow::{Context, Result};

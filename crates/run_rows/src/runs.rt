@@ -2,12 +2,12 @@
 ghost use Rattle.std.specs.Prelude.{◌≡◌};
 
 use crate::command::command_text;
-use crate::counted::watched;
 use crate::cuts;
 use crate::due::{Calls, Due, End, Target};
 use crate::row::{Fails, Page, Row};
 use anyhow::{Result, ensure};
 use compare_rows::differing_line;
+use counted_calls::watched;
 use ix_base::{List, MemPage, MemPages, MemTargets, MemText, Text};
 use ixds_run::{Status, run};
 use std::alloc::Global;
@@ -121,14 +121,26 @@ fn run_difference(alloc: Global, due: &Due, ended: &Ended) -> Result<Option<Stri
     }
 }
 
-/// How a row differs from what is due, where it does.
-pub(crate) fn difference(alloc: Global, mut row: Row) -> Result<Option<String>> {
+/// How a row's words or its pages differ from what is due, where they do.
+fn given_difference(alloc: Global, row: &Row) -> Result<Option<String>> {
     if let Some(due) = &row.due.command
         && let Some(text) = command_difference(alloc, &row.words, due.as_str())?
     {
         return Ok(Some(text));
     }
-    if let Some(text) = end_difference(alloc, &row.pages, &row.due.ends)? {
+    end_difference(alloc, &row.pages, &row.due.ends)
+}
+
+/// How the run of a row differs from what is due, where it does.
+fn ended_difference(alloc: Global, mut row: Row) -> Result<Option<String>> {
+    let due = mem::replace(&mut row.due, Due::none(alloc));
+    let ended = run_of(alloc, row)?;
+    run_difference(alloc, &due, &ended)
+}
+
+/// How a row differs from what is due, where it does.
+pub(crate) fn difference(alloc: Global, row: Row) -> Result<Option<String>> {
+    if let Some(text) = given_difference(alloc, &row)? {
         return Ok(Some(text));
     }
     if row.is_cut {
@@ -137,7 +149,5 @@ pub(crate) fn difference(alloc: Global, mut row: Row) -> Result<Option<String>> 
     if row.due.status.is_none() {
         return Ok(None);
     }
-    let due = mem::replace(&mut row.due, Due::none(alloc));
-    let ended = run_of(alloc, row)?;
-    run_difference(alloc, &due, &ended)
+    ended_difference(alloc, row)
 }

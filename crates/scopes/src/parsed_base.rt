@@ -6,6 +6,7 @@ ghost use Rattle.ix_base.specs.Address as address;
 use crate::link::{accepted, link_or, parsed_url, stands_alone};
 use ix_base::{NoMemory, Text};
 use std::alloc::Global;
+use std::convert::AsStr;
 use std::marker::Model;
 use url::Url;
 
@@ -34,6 +35,18 @@ impl Model for ParsedBase {
     ghost invariant = { λ b. IsParsed b.origin };
 }
 
+/// The text as it stands. It takes no memory.
+impl AsStr for ParsedBase {
+    ghost text = { λ b. b };
+
+    fn as_str(&self) -> &str {
+        match &self.origin {
+            Origin::Given(text, _) => text.as_str(),
+            Origin::Joined(url) => url.as_str(),
+        }
+    }
+}
+
 /// The base that a URL is.
 fn base_at(url: Url) -> ParsedBase
     requires back { address.url_of (serialize url) ≡ Some url }
@@ -55,16 +68,6 @@ impl ParsedBase {
         Ok(ParsedBase {
             origin: Origin::Given(text, url),
         })
-    }
-
-    /// A copy of its text.
-    pub fn to_text(&self, alloc: Global) -> Result<Text, NoMemory>
-        ensures { IfOk result (λ t. t ≡ self.now) }
-    {
-        match &self.origin {
-            Origin::Given(text, _) => Text::of(alloc, text.as_str()),
-            Origin::Joined(url) => Text::of(alloc, url.as_str()),
-        }
     }
 
     /// What the text is by itself.

@@ -1,18 +1,20 @@
 -- Choosing for the ids of some elements, one after another.
 use Rattle.std.proofs.Common.{◌≡◌, ◌∙◌, ◌⊎◌, ap, refl, sym, subst, inl, inr, ℕ, zero, suc, ◌+◌, ◌<◌, ◌≤◌, Bool, true, false, cond, nat_lt, List, [], ◌∷◌, ◌++◌, length, map, drop, get_or, take, Option, Some, None, option_map, arith, append-nil}
 use Rattle.std.specs.Borrow.{Bor}
+use Rattle.std.specs.Prelude.{◌&&◌}
 use Rattle.std.specs.List.{filter, slice_get}
 use Rattle.std.specs.Option.{IfSome, option_map_or}
-use Rattle.std.proofs.lemmas.List.{length-map, take-append-drop}
+use Rattle.std.proofs.lemmas.List.{length-append, length-map, take-append-drop}
 use Rattle.std.proofs.lemmas.List.Elements.{filter-append}
-use Rattle.std.proofs.lemmas.Bool.{ltb-false, ltb-true}
+use Rattle.std.proofs.lemmas.Bool.{le-ltb, ltb-false, ltb-true}
 use Rattle.std.proofs.lemmas.Option.{slice_get-get_or, slice_get-map}
 use Rattle.ix_base.specs.declared.tree.Spot.{Spot}
 use Rattle.ix_base.specs.Alike.{alike}
-use Rattle.ix_base.specs.Ids.{holders, holds_id}
+use Rattle.ix_base.specs.Asks.{are_many, asks}
+use Rattle.ix_base.specs.Ids.{agree, foremost_of, holders, holds_id}
 use Rattle.ix_base.specs.LocatedElements.{Located, located}
 use Rattle.id_table.specs.declared.entries.Entry.{Entry}
-use Rattle.id_table.specs.Model.{Held, IsHolder, chosen}
+use Rattle.id_table.specs.Model.{Held, IsApart, IsHolder, chosen}
 use Rattle.id_table.proofs.AgreeLaws.{many-two}
 use Rattle.targets.specs.Choices.{HasChoices, choice}
 use Rattle.targets.specs.LinkTables.{none, first_kept, kept_from}
@@ -96,3 +98,22 @@ chosen-all names es first at h whole are q = by (are q)
     by (inr k) =
         k.0 ∙ choice-by names (take first es) q
         ∙ ap (λ (hs : List Located). cond (nat_lt 1 (length hs)) (first_kept (kept_from alike names none hs)) None) (same k.1) ∙ sym (choice-by names es q)
+
+-- where no two elements have one id, nothing is to be chosen, with fewer elements as with all
+count-front : (p : Located → Bool) (n : ℕ) (es : List Located) → length (filter p (take n es)) ≤ length (filter p es)
+count-front p n es =
+    let all : length (filter p es) ≡ length (filter p (take n es)) + length (filter p (drop n es)) =
+    ap (λ xs. length (filter p xs)) (sym (take-append-drop n es)) ∙ ap length (filter-append p (take n es) (drop n es))
+    ∙ length-append (filter p (take n es)) (filter p (drop n es)) in
+    omega arith
+
+alone-choice : (names : ℕ → List ℕ) (es : List Located) (id : List ℕ) → are_many (asks es) (holds_id id) ≡ false → choice names es id ≡ None
+alone-choice names es id h = ap (λ b. cond (b && agree (asks es) id) (foremost_of names (holders es id)) None) h
+
+pub apart-choices : (names : ℕ → List ℕ) (h : Held) (n : ℕ) → IsApart h → HasChoices names (take n h.spots) h → HasChoices names h.spots h
+apart-choices names h n apart has id =
+    let front : are_many (asks (take n h.spots)) (holds_id id) ≡ false =
+    let few : length (filter (holds_id id) h.spots) ≤ 1 = ltb-false 1 (length (filter (holds_id id) h.spots)) (apart.ids id) in
+    let less = count-front (holds_id id) n h.spots in
+    le-ltb 1 (length (filter (holds_id id) (take n h.spots))) (omega arith) in
+    has id ∙ alone-choice names (take n h.spots) id front ∙ sym (alone-choice names h.spots id (apart.ids id))

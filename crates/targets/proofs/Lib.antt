@@ -41,10 +41,12 @@ mod LinkLaws
 mod LinkStandLaws
 pub mod LinksFit
 mod LinksKept
+mod ListLaws
 pub mod ListsFit
 pub mod LocatorFit
 pub mod MarkupTexts
 pub mod MemberLaws
+pub mod MadeLaws
 mod MembersSame
 mod MetLaws
 pub mod NameFits

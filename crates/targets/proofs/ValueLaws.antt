@@ -9,7 +9,8 @@ use Rattle.ix_base.specs.declared.breach.Found.{Found}
 use Rattle.ix_base.specs.declared.content.Item.{Item}
 use Rattle.ix_base.specs.declared.rule.Rule.{Rule}
 use Rattle.ix_base.specs.LocatedElements.{Located}
-use Rattle.targets.specs.Faults.{AreOfItems, fault_by, rule_said, value_fault}
+use Rattle.facts.specs.Verdicts.{rule_said}
+use Rattle.targets.specs.Faults.{AreOfItems, fault_by, value_fault}
 use Rattle.targets.proofs.FitLaws.{both-none}
 
 -- one item
@@ -44,15 +45,8 @@ all-say Says (x ∷ es) found h none e at =
     (λ (same : x ≡ e). let said = fault-none x h.0 both.0 in (said.0, subst (λ y. Says y (Ok said.0)) same (subst (Says x) said.1 h.1)))
     (λ later. all-say Says es h.2.0 h.2.1 both.1 e later) (Contains-cases x es e at)
 
-says-in : (Says : Result Item Rule → Type 0) (s : Option (Result Item Rule)) (o : Option Rule) → IfSome s Says → option_map rule_said s ≡ Some o
-    → (r : Result Item Rule) × Says r × (rule_said r ≡ o)
-says-in Says None o h e = absurd (cc)
-says-in Says (Some r) o h e = (r, h, some-inj (rule_said r) o e)
-
--- what was said of an item, with the rule that is added
-pub value-added : (Says : Result Item Rule → Type 0) (e : Located) (s : Option (Result Item Rule)) (o : Option Rule) (found more : List Found)
-    → IfSome s Says → option_map rule_said s ≡ Some o → more ≡ found ++ fault_by e o
+-- what an item says, with the rule that is added
+pub value-added : (Says : Result Item Rule → Type 0) (e : Located) (o : Option Rule) (found more : List Found)
+    → (r : Result Item Rule) × Says r × (rule_said r ≡ o) → more ≡ found ++ fault_by e o
     → (r : Result Item Rule) × Says r × (more ≡ found ++ value_fault e r)
-value-added Says e s o found more h is n =
-    let said = says-in Says s o h is in
-    (said.0, said.1, n ∙ ap (λ (k : Option Rule). found ++ fault_by e k) (sym said.2))
+value-added Says e o found more said n = (said.0, said.1, n ∙ ap (λ (k : Option Rule). found ++ fault_by e k) (sym said.2))

@@ -10,7 +10,8 @@ use Rattle.ix_base.specs.LocatedElements.{Located}
 use Rattle.ix_base.proofs.ExchangeLemmas.{by_exchanges}
 use Rattle.footnotes.proofs.NotesSame.{swap_parts}
 use Rattle.id_table.specs.Renumbering.{moved}
-use Rattle.targets.specs.Faults.{AreOfItems, fault_by, rule_said, value_fault}
+use Rattle.facts.specs.Verdicts.{rule_said}
+use Rattle.targets.specs.Faults.{AreOfItems, fault_by, value_fault}
 use Rattle.targets.proofs.FaultsMoved.{found_moved}
 
 fault-moved : (r : ℕ → ℕ) (e : Located) (o : Option Rule) → fault_by (moved r e) o ≡ map (found_moved r) (fault_by e o)

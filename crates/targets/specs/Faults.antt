@@ -1,5 +1,5 @@
 -- The rules that a set breaks, class by class.
-use Rattle.std.specs.Prelude.{◌≡◌, ℕ, suc, Bool, ◌&&◌, ◌||◌, List, [], ◌∷◌, ◌++◌, filter, Option, None, Some, is_none, Result, Ok, Err, codes}
+use Rattle.std.specs.Prelude.{◌≡◌, ℕ, suc, Bool, ◌&&◌, ◌||◌, List, [], ◌∷◌, ◌++◌, filter, Option, None, Some, is_none, Result, codes}
 use Rattle.ix_base.specs.declared.breach.Found.{Found}
 use Rattle.ix_base.specs.declared.content.Item.{Item}
 use Rattle.ix_base.specs.declared.kind.Kind.TheVariants as kind
@@ -12,6 +12,7 @@ use Rattle.ix_base.specs.LocatedElements.{Located, Paged, is_item, is_kind, is_n
 use Rattle.ix_base.specs.Readers.{attr}
 use Rattle.ix_base.specs.Rows.{row}
 use Rattle.facts.specs.ItemValue.{IsItem}
+use Rattle.facts.specs.Verdicts.{rule_said}
 use Rattle.targets.specs.PageSet.{PageSet, asked, base_at, elements}
 
 -- the rules of elements that pages break, of which the first has this number
@@ -33,11 +34,6 @@ redirected_at bases a e = row (has_two_addresses bases a e) (found_at e rule.L17
 -- the rules on links that a set breaks
 abbrev pub link_faults : PageSet → List Found
 link_faults s = broken (base_at s) (elements s)
-
--- the rule that an item was said to break, if it breaks one
-abbrev pub rule_said : Result Item Rule → Option Rule
-rule_said (Ok i) = None
-rule_said (Err r) = Some r
 
 abbrev pub fault_by : Located → Option Rule → List Found
 fault_by e None = []

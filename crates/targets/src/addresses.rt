@@ -215,8 +215,8 @@ pub(crate) fn add_redirected<'a>(
     ensures faults { OnOk result (found.new
         ≡ found.old ++ flat_map (redirected_at (base_in bases.now.pages) (asked index.now)) index.now.spots) }
 {
-    let seen_roles = seen_roles_of(alloc, bases, index.spots())?;
-    for spot in index.spots() {
+    let seen_roles = seen_roles_of(alloc, bases, index.others())?;
+    for spot in index.others() {
         add_if_redirected(spot, is_redirected(&seen_roles, spot), found)?;
     }
     Ok(seen_roles)

@@ -50,6 +50,9 @@ pub(crate) fn choose_from<'a>(
     ensures choices { (names : ℕ → List ℕ) → AreLinks names index.old.spots links.now
         → HasChoices names (take first index.old.spots) index.old → OnOk result (HasChoices names index.old.spots index.new) }
 {
+    if !index.has_repeats() {
+        return Ok(());
+    }
     for at in first..index.spots().len() {
         let spot = index.spots()[at];
         choose_at(index, links, spot)?;

@@ -29,8 +29,7 @@ use id_table::Index;
 use instance_out::arrange;
 use ix_base::limits::DEEPEST_TUPLE;
 use ix_base::{
-    Content, Context, Fact, Kind, Linkbase, List, NoMemory, Spot, Text, Unit, each_once, is_fact,
-    kind_of,
+    Content, Context, Fact, Kind, Linkbase, List, NoMemory, Spot, Text, Unit, each_once, kind_of,
 };
 use std::alloc::Global;
 use tuples::Members;
@@ -180,20 +179,14 @@ fn content_of<'a>(
     arrange(alloc, content)
 }
 
-/// Whether an element has a target of its own.
-fn has_target(spot: &Spot<'_>) -> bool
-    ensures { result ≡ contents.has_target (located spot.now) }
-{
-    is_fact(spot) || kind_of(spot) == Kind::References
-}
-
 /// The targets that elements have, as often as they do.
 fn each_target<'a>(alloc: Global, spots: &[&'a Spot<'a>]) -> Result<Vec<&'a str>, NoMemory>
     ensures { IfOk result (λ v. values_of v.items ≡ flat_map contents.targets_at (all_located spots.now)) }
 {
     let mut names = Vec::new(alloc);
     for spot in spots {
-        if has_target(spot) {
+        let kind = kind_of(spot);
+        if kind.is_fact() || kind == Kind::References {
             names.push(target_of(spot.element))?;
         }
     }

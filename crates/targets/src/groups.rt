@@ -89,8 +89,8 @@ fn references_of<'a>(
     ensures linkbases { IfOk result (λ r. (target : List ℕ) → all_located (spots_at r.1 target)
         ≡ filter (is_linkbase_for target) index.now.spots) }
 {
-    let schemas = grouped(alloc, Group::Schemas, index.spots())?;
-    let linkbases = grouped(alloc, Group::Linkbases, index.spots())?;
+    let schemas = grouped(alloc, Group::Schemas, index.others())?;
+    let linkbases = grouped(alloc, Group::Linkbases, index.others())?;
     Ok((schemas, linkbases))
 }
 
@@ -99,7 +99,7 @@ pub(crate) fn groups_of<'a>(alloc: Global, index: &Index<'a>) -> Result<Groups<'
     ensures { IfOk result (λ g. AreGroups g index.now.spots) }
 {
     let (schemas, linkbases) = references_of(alloc, index)?;
-    let facts = grouped(alloc, Group::Facts, index.spots())?;
+    let facts = grouped(alloc, Group::Facts, index.facts())?;
     Ok(Groups {
         facts,
         schemas,

@@ -10,6 +10,7 @@
 
 mod addresses;
 mod agreeing;
+mod at_once;
 mod choosing;
 mod closing;
 mod contents;
@@ -27,5 +28,6 @@ mod set;
 mod standing;
 mod values;
 
+pub use at_once::made;
 pub use outcome::{Outcome, Target};
 pub use set::Set;

@@ -44,7 +44,7 @@ fn add_refs(index: &Index<'_>, found: &mut Breaches) -> Result<(), NoMemory>
     requires { AreChosen index.now }
     ensures { OnOk result (found.new ≡ found.old ++ flat_map (refs_at (asked index.now)) index.now.spots) }
 {
-    for spot in index.spots() {
+    for spot in index.facts() {
         refs_of(spot, index, found)?;
     }
     Ok(())
@@ -58,13 +58,6 @@ fn lacks_schema(index: &Index<'_>, schemas: &Holders<'_>, spot: &Spot<'_>) -> bo
     is_fact(spot) && count_in(schemas, target_of(spot.element)) == 0
 }
 
-/// The schemas by their targets.
-fn schemas_of<'a>(alloc: Global, index: &Index<'a>) -> Result<Holders<'a>, NoMemory>
-    ensures { IfOk result (λ m. (target : List ℕ) → all_located (spots_at m target) ≡ filter (rules.is_schema_for target) index.now.spots) }
-{
-    grouped(alloc, Group::Schemas, index.spots())
-}
-
 /// Adds the facts whose targets have no schema.
 fn add_lacking_schema(
     alloc: Global,
@@ -73,8 +66,8 @@ fn add_lacking_schema(
 ) -> Result<(), NoMemory>
     ensures { OnOk result (found.new ≡ found.old ++ breaking rule.L14 index.now.spots) }
 {
-    let schemas = schemas_of(alloc, index)?;
-    for spot in index.spots() {
+    let schemas = grouped(alloc, Group::Schemas, index.others())?;
+    for spot in index.facts() {
         found.add_if(
             spot.element.place,
             Rule::L14,

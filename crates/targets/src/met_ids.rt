@@ -17,17 +17,6 @@ pub(crate) struct Named<'a> {
 /// The ids that were met.
 pub(crate) type Names<'a> = TextMap<'a, Named<'a>>;
 
-/// What is known of an id that wasn't met.
-pub(crate) fn unmet<'a>() -> Named<'a>
-    ensures known { named_of result ≡ tables.nothing }
-    ensures page { IsFirstOnPage result.standing }
-{
-    Named {
-        standing: Standing::Pending,
-        links: 0,
-    }
-}
-
 /// What is known of an id.
 pub(crate) fn known<'a>(names: &Names<'a>, id: &str) -> Named<'a>
     ensures named { named_of result ≡ named_in names.now id.now }
@@ -35,7 +24,10 @@ pub(crate) fn known<'a>(names: &Names<'a>, id: &str) -> Named<'a>
 {
     match names.get(id) {
         Some(named) => *named,
-        None => unmet(),
+        None => Named {
+            standing: Standing::Pending,
+            links: 0,
+        },
     }
 }
 

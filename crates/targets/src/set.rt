@@ -119,26 +119,6 @@ impl<'a> Set<'a> {
         self.links.doubled()
     }
 
-    /// What the pages come to, as they are lent.
-    fn come(&self) -> Result<Outcome, NoMemory>
-        ensures comes { IfOk result (ComesTo self.now.held) }
-        ensures rearranged { IfOk result (ComesToAlways self.now.held) }
-        ensures written { IfOk result CanBeWritten }
-        ensures proper { IfOk result AreProper }
-        ensures spent { self.now.is_spent ≡ true → IsErr result }
-    {
-        if self.is_spent {
-            return Err(NoMemory);
-        }
-        let pages = Pages {
-            base: self.base.as_str(),
-            pages: self.pages.as_slice(),
-            index: &self.index,
-            bases: &self.bases,
-        };
-        closed(self.alloc, self.arena, &pages)
-    }
-
     /// What the pages come to: the rules that they break, of the first class that has any, or the targets, each with its
     /// content. The same pages come to the same in every order. Each content is proper, so that its instance can be read back.
     pub fn close(self) -> Result<Outcome, NoMemory>
@@ -148,6 +128,17 @@ impl<'a> Set<'a> {
         ensures proper { IfOk result AreProper }
         ensures spent { self.entry.is_spent ≡ true → IsErr result }
     {
-        self.come()
+        if self.is_spent {
+            return Err(NoMemory);
+        }
+        // No page comes any more, so what was kept for that is given back first.
+        drop(self.links);
+        let pages = Pages {
+            base: self.base.as_str(),
+            pages: self.pages.as_slice(),
+            index: &self.index,
+            bases: &self.bases,
+        };
+        closed(self.alloc, self.arena, &pages)
     }
 }

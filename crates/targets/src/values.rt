@@ -11,13 +11,13 @@ ghost use Rattle.ix_base.specs.declared.rule.Rule.{Rule as RuleOf};
 ghost use Rattle.std.specs.Prelude.{Result as ResultOf};
 ghost use Rattle.ix_base.specs.declared.breach.Found.{Found};
 ghost use Rattle.facts.specs.ItemValue.{IsItem};
-ghost use Rattle.facts.specs.Verdicts.{said};
+ghost use Rattle.facts.specs.Verdicts.{rule_said, said};
 ghost use Rattle.id_table.specs.Tables.{all_located, AreOnOwnPages};
-ghost use Rattle.targets.specs.Faults.{AreOfItems, fault_by, rule_said, faultless, value_fault};
+ghost use Rattle.targets.specs.Faults.{AreOfItems, fault_by, faultless, value_fault};
 ghost use Rattle.targets.specs.Visits.{AreAmong};
 
 use crate::linked::LinkedSet;
-use facts::{ItemFault, item_of};
+use facts::{ItemFault, item_of, value_rule};
 use ix_base::{Breaches, Item, Kind, NoMemory, Rule, Spot, attr_of, is_item, kind_of};
 use std::alloc::Global;
 use value_forms::is_nil;
@@ -49,15 +49,17 @@ pub(crate) fn item_at<'a>(
     item_of(alloc, spot, chain_of(set, spot), set.linked.bases)
 }
 
-/// The rule that an item was said to break.
-fn rule_in(said_of: Result<Item, ItemFault>) -> Result<Option<Rule>, NoMemory>
-    ensures { IfOk result (λ o. option_map rule_said (said said_of) ≡ Some o) }
+/// The lowest rule of values that an item breaks, if it breaks one.
+fn rule_at<'a>(
+    alloc: Global,
+    set: &LinkedSet<'_, '_, 'a>,
+    spot: &Spot<'a>,
+) -> Result<Option<Rule>, NoMemory>
+    requires { Contains set.now.elements (located spot.now) }
+    ensures { IfOk result (λ o. (r : ResultOf ItemOf RuleOf) × IsItem (base_in set.now.bases) (asks set.now.elements) (located spot.now) r
+        × (rule_said r ≡ o)) }
 {
-    match said_of {
-        Ok(_) => Ok(None),
-        Err(ItemFault::Breach(rule)) => Ok(Some(rule)),
-        Err(ItemFault::NoMemory) => Err(NoMemory),
-    }
+    value_rule(alloc, spot, chain_of(set, spot), set.linked.bases)
 }
 
 /// Adds a rule of values that an item breaks.
@@ -91,8 +93,7 @@ fn add_value<'a>(
     if is_faultless(spot) {
         return Ok(());
     }
-    let rule = rule_in(item_at(alloc, set, spot))?;
-    match rule {
+    match rule_at(alloc, set, spot)? {
         Some(rule) => add_at(spot, rule, found),
         None => Ok(()),
     }
@@ -138,5 +139,5 @@ pub(crate) fn value_faults(alloc: Global, set: &LinkedSet<'_, '_, '_>) -> Result
     ensures { IfOk result (AreOfItems (IsItem (base_in set.now.bases) (asks set.now.elements))
         (filter kinds.is_item set.now.elements)) }
 {
-    faults_among(alloc, set, set.linked.index.spots())
+    faults_among(alloc, set, set.linked.index.facts())
 }

@@ -60,7 +60,7 @@ pub(crate) fn facts_of<'a>(alloc: Global, index: &Index<'a>) -> Result<Vec<Fact<
     ensures known { IfOk result (λ v. All (IsKnown (asked index.now)) v.items) }
 {
     let mut facts = Vec::new(alloc);
-    for spot in index.spots() {
+    for spot in index.facts() {
         push_if_fact(index, *spot, &mut facts)?;
     }
     Ok(facts)

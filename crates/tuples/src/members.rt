@@ -54,7 +54,7 @@ fn tuples_of<'a>(alloc: Global, index: &Index<'a>) -> Result<Holders<'a>, NoMemo
     ensures pages { IfOk result (λ m. AreAllOnOwnPages m) }
 {
     let mut tuples = Holders::new(alloc);
-    for spot in index.spots() {
+    for spot in index.facts() {
         enter(&mut tuples, tuple_id_at(spot), *spot)?;
     }
     Ok(tuples)

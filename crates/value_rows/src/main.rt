@@ -34,6 +34,7 @@ fn seen(alloc: Global, table: &str, cells: &[Cell]) -> Result<String> {
         "rules" => reports::rule(alloc, cells),
         "scaled" => numbers::moved(alloc, cells),
         "texts" => texts::pushed(alloc, cells),
+        "texts_in_room" => texts::roomy(alloc, cells),
         "texts_in_order" => texts::in_order(alloc, cells),
         "tokens" => texts::trimmed(alloc, cells),
         "unsigned" => numbers::unsigned(alloc, cells),

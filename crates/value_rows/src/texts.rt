@@ -14,6 +14,16 @@ pub(crate) fn pushed(alloc: Global, cells: &[Cell]) -> Result<String> {
     owned(alloc, text.as_str())
 }
 
+/// A text that is pushed into one with room for three bytes.
+pub(crate) fn roomy(alloc: Global, cells: &[Cell]) -> Result<String> {
+    let [pushed] = cells else {
+        bail!("a text is wanted");
+    };
+    let mut text = Text::with_room(alloc, 3)?;
+    text.push(pushed.text()?)?;
+    owned(alloc, text.as_str())
+}
+
 /// Words, parted by spaces.
 fn joined(alloc: Global, words: &[&str]) -> Result<String> {
     let mut text = String::new(alloc);

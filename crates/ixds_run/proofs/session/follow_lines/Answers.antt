@@ -4,7 +4,7 @@ use Rattle.page_session.specs.Sources.{source_told}
 use Rattle.page_session.specs.declared.script.ScriptLine.{ScriptLine}
 use Rattle.ixds_run.specs.ScriptRuns.{HasFollowed, IsShort}
 use Rattle.ixds_run.proofs.LineLaws.{extract_behind, followed_none, line_end, line_next, line_starts, line_stopped, none_behind, nothing_started}
-use Rattle.page_session.proofs.MadeLaws.{cut_at}
+use Rattle.targets.proofs.MadeLaws.{cut_at}
 use Rattle.ixds_run.proofs.session.follow_lines.Goals as goal
 
 pub loop-line-init : goal.loop-line-init

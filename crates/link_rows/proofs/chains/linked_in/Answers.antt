@@ -17,7 +17,7 @@ lines_of-requires c =
     let es = c.args.index.now.spots in
     let is : c.are_within.result ≡ true = search rules in
     let within = subst (All (λ e. e.page < count)) c.spots.ensures.elements (all-within count c.spots.result.now (sym c.are_within.ensures ∙ is)) in
-    let found : c.link.new.breaches ≡ [] ++ breaking L4 es ++ breaking L5 es ++ breaking L6 es ++ breaking L7 es = c.in_ok-link.ensures.breaches ∙ ap (λ (b : List Found). b ++ breaking L4 es ++ breaking L5 es ++ breaking L6 es ++ breaking L7 es) c.new-breaches.ensures in
+    let found : c.add_linked.new.breaches ≡ [] ++ breaking L4 es ++ breaking L5 es ++ breaking L6 es ++ breaking L7 es = c.in_ok-add_linked.ensures ∙ ap (λ (b : List Found). b ++ breaking L4 es ++ breaking L5 es ++ breaking L6 es ++ breaking L7 es) c.new-breaches.ensures in
     subst P (sym found)
     (both-within count ([] ++ breaking L4 es ++ breaking L5 es ++ breaking L6 es) (breaking L7 es)
     (both-within count ([] ++ breaking L4 es ++ breaking L5 es) (breaking L6 es)

@@ -4,7 +4,7 @@ use Rattle.ix_base.specs.LocatedElements.{Located, located}
 use Rattle.id_table.specs.Model.{chosen}
 use Rattle.targets.specs.Choices.{choice}
 use Rattle.targets.specs.LinkTables.{AreLinks}
-use Rattle.targets.proofs.ChoosingLaws.{chosen-all, chosen-next, spot-at}
+use Rattle.targets.proofs.ChoosingLaws.{apart-choices, chosen-all, chosen-next, spot-at}
 use Rattle.targets.proofs.choosing.choose_from.Goals as goal
 
 pub loop-at-preserved : goal.loop-at-preserved
@@ -40,3 +40,7 @@ returns-clause-choices c = λ names are has.
     let end : length c.spots-at-end.result.now ≡ length es = c.loop-at.invariant.end in
     let test : length c.spots-at-end.result.now ≤ at = c.loop-at-test.false in
     chosen-all names es c.args.first at c.loop-at.index (omega arith) (c.loop-at.invariant.choices names are has)
+
+pub returns-then-not-has_repeats-clause-choices : goal.returns-then-not-has_repeats-clause-choices
+returns-then-not-has_repeats-clause-choices c = λ names are has.
+    apart-choices names c.args.index.now c.args.first (c.has_repeats.ensures c.if-not-has_repeats.true) has

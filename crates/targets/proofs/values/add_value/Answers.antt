@@ -1,14 +1,11 @@
-use Rattle.std.proofs.Common.{◌∙◌, sym, append-nil}
-use Rattle.std.proofs.Common.{None, Some}
+use Rattle.std.proofs.Common.{◌∙◌, None, Some, sym, append-nil}
 use Rattle.std.specs.Prelude.{Ok}
 use Rattle.ix_base.specs.Asks.{asks}
 use Rattle.ix_base.specs.LocatedElements.{base_in, located}
 use Rattle.facts.specs.ItemValue.{IsItem}
-use Rattle.facts.specs.Verdicts.{said}
 use Rattle.targets.proofs.FaultlessLaws.{faultless-says}
 use Rattle.targets.proofs.ValueLaws.{value-added}
 use Rattle.indexmap.proofs.MapLemmas.{OnOk-map}
-use Rattle.std.proofs.Common.{ap}
 use Rattle.targets.proofs.values.add_value.Goals as goal
 
 pub returns-then-is_faultless : goal.returns-then-is_faultless
@@ -19,12 +16,15 @@ returns-then-is_faultless c =
 
 pub returns-in-Some : goal.returns-in-Some
 returns-in-Some c =
-    OnOk-map c.add_at.result _ _ (λ n. value-added (IsItem (base_in c.args.set.now.bases) (asks c.args.set.now.elements) (located c.args.spot.now))
-    (located c.args.spot.now) (said c.item_at.result) (Some c.in-Some.rule) c.args.found.now c.add_at.new.found c.item_at.ensures
-    (c.in_ok-rule.ensures ∙ ap Some c.in-Some.is) n) c.add_at.ensures
+    let e = located c.args.spot.now in
+    let said = c.in_ok-rule.ensures in
+    OnOk-map c.add_at.result _ _
+    (value-added (IsItem (base_in c.args.set.now.bases) (asks c.args.set.now.elements) e) e (Some c.in-Some.rule) c.args.found.now c.add_at.new.found
+    (said.0, said.1, said.2 ∙ c.in-Some.is)) c.add_at.ensures
 
 pub returns-in-None : goal.returns-in-None
 returns-in-None c =
-    value-added (IsItem (base_in c.args.set.now.bases) (asks c.args.set.now.elements) (located c.args.spot.now)) (located c.args.spot.now)
-    (said c.item_at.result) None c.args.found.now c.args.found.now c.item_at.ensures (c.in_ok-rule.ensures ∙ ap Some c.in-None.is)
-    (sym (append-nil c.args.found.now))
+    let e = located c.args.spot.now in
+    let said = c.in_ok-rule.ensures in
+    value-added (IsItem (base_in c.args.set.now.bases) (asks c.args.set.now.elements) e) e None c.args.found.now c.args.found.now
+    (said.0, said.1, said.2 ∙ c.in-None.is) (sym (append-nil c.args.found.now))

@@ -10,17 +10,19 @@ use Rattle.std.proofs.lemmas.List.Elements.{All-filter, All-take}
 use Rattle.ix_base.specs.Spots.{IsOnOnePage}
 use Rattle.id_table.specs.Tables.{AreOnOwnPages}
 use Rattle.id_table.proofs.Asking.{one-map}
+use Rattle.id_table.proofs.SortedKinds.{tuple-ids-of}
 use Rattle.tuples.proofs.members.tuples_of.Goals as goal
 
 pub returns-clause-tuples : goal.returns-clause-tuples
 returns-clause-tuples c = λ q.
     ap (λ (xs : List (Bor Spot)). option_map (λ (s : Bor Spot). located s.now) (only xs))
-    (c.loop-spot.invariant q ∙ ap (λ (xs : List (Bor Spot)). filter (λ s. holds_tuple_id q (located s.now)) xs) (take_all c.loop-spot.spot-index c.spots-spot-items.result.now c.loop-spot-test.false))
-    ∙ one-map (λ (s : Bor Spot). located s.now) (holds_tuple_id q) c.spots-spot-items.result.now
-    ∙ ap (λ (es : List Located). (asks es).one (holds_tuple_id q)) c.spots-spot-items.ensures.elements
+    (c.loop-spot.invariant q ∙ ap (λ (xs : List (Bor Spot)). filter (λ s. holds_tuple_id q (located s.now)) xs) (take_all c.loop-spot.spot-index c.facts-spot-items.result.now c.loop-spot-test.false))
+    ∙ one-map (λ (s : Bor Spot). located s.now) (holds_tuple_id q) c.facts-spot-items.result.now
+    ∙ ap (λ (es : List Located). (asks es).one (holds_tuple_id q)) c.facts-spot-items.ensures.elements
+    ∙ ap only (tuple-ids-of q c.args.index.now.spots)
 
 pub returns-clause-pages : goal.returns-clause-pages
 returns-clause-pages c = λ q.
     let on = λ (s : Bor Spot). IsOnOnePage s.now in
-    let met = take c.loop-spot.spot-index c.spots-spot-items.result.now in
-    subst AreOnOwnPages (sym (c.loop-spot.invariant q)) (All-filter _ on met (All-take on c.loop-spot.spot-index c.spots-spot-items.result.now c.spots-spot-items.ensures.pages))
+    let met = take c.loop-spot.spot-index c.facts-spot-items.result.now in
+    subst AreOnOwnPages (sym (c.loop-spot.invariant q)) (All-filter _ on met (All-take on c.loop-spot.spot-index c.facts-spot-items.result.now c.facts-spot-items.ensures.pages))

@@ -1,11 +1,14 @@
 use Rattle.std.proofs.Common.{subst, sym}
+use Rattle.std.proofs.lemmas.Bool.{or_parts}
 use Rattle.std.proofs.lemmas.List.Elements.{All-push}
 use Rattle.std.specs.Borrow.{Bor}
 use Rattle.ix_base.specs.declared.tree.Spot.{Spot}
-use Rattle.ix_base.specs.Ids.{tuple_id_of}
+use Rattle.ix_base.specs.Ids.{id_of, tuple_id_of}
+use Rattle.ix_base.specs.LocatedElements.{located}
 use Rattle.ix_base.specs.Spots.{IsOnOnePage}
-use Rattle.id_table.specs.Tables.{AreOnOwnPages, Entered}
-use Rattle.id_table.proofs.Entering.{each-entered, entries-entered}
+use Rattle.id_table.specs.Tables.{AreOnOwnPages}
+use Rattle.id_table.proofs.Entering.{each-alone, each-entered, entries-alone, entries-entered}
+use Rattle.id_table.proofs.Sorting.{sorted-more}
 use Rattle.id_table.proofs.tables.Tables.add.Goals as goal
 
 pub returns-clause-whole : goal.returns-clause-whole
@@ -13,8 +16,19 @@ returns-clause-whole c =
     let spots = c.args.self.now.spots.items in
     let now = c.push.new.self.items in
     let more = c.in_ok-push.ensures.items in record {
-      by_id = entries-entered spots now c.args.spot more c.args.self.now.ids c.enter_entry.new.entries c.requires.whole.by_id c.in_ok-enter_entry.ensures;
-      by_tuple_id = each-entered spots now c.args.spot more tuple_id_of c.args.self.now.tuples c.enter.new.holders c.requires.whole.by_tuple_id
-          (subst (λ id. Entered c.args.self.now.tuples c.enter.new.holders id c.args.spot) c.tuple_id_at.ensures c.in_ok-enter.ensures.ok);
+      by_id = entries-entered spots now c.args.spot more c.args.self.now.ids c.enter_entry.new.entries c.requires.whole.by_id c.in_ok-shares_id.ensures.entered;
+      by_tuple_id = each-entered spots now c.args.spot more tuple_id_of c.args.self.now.tuples c.enter_tuple.new.tuples c.requires.whole.by_tuple_id
+          c.in_ok-shares_tuple_id.ensures.entered;
+      by_sort = sorted-more c.args.self.now.lists c.add.new.self spots now c.args.spot more c.requires.whole.by_sort c.in_ok-add.ensures.facts
+          c.in_ok-add.ensures.chains c.in_ok-add.ensures.others;
+      apart = λ none.
+          let parts = or_parts c.args.self.now.repeats _ none in
+          let shared = or_parts c.in_ok-shares_id.shares_id c.in_ok-shares_tuple_id.shares_tuple_id parts.1 in
+          let before = c.requires.whole.apart parts.0 in record {
+            by_id = entries-alone c.args.self.now.ids c.enter_entry.new.entries (id_of (located c.args.spot.now)) c.args.spot
+                c.in_ok-shares_id.ensures.entered (c.in_ok-shares_id.ensures.alone shared.0) before.by_id;
+            by_tuple_id = each-alone c.args.self.now.tuples c.enter_tuple.new.tuples (tuple_id_of (located c.args.spot.now)) c.args.spot
+                c.in_ok-shares_tuple_id.ensures.entered (c.in_ok-shares_tuple_id.ensures.alone shared.1) before.by_tuple_id;
+          };
       on_pages = subst AreOnOwnPages (sym more) (All-push (λ (s : Bor Spot). IsOnOnePage s.now) spots c.args.spot c.requires.whole.on_pages c.requires.page);
     }

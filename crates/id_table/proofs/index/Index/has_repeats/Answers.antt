@@ -1,0 +1,10 @@
+use Rattle.std.proofs.Common.{◌≡◌, ap}
+use Rattle.id_table.specs.Model.{Held}
+use Rattle.id_table.proofs.HeldLaws.{held-apart}
+use Rattle.id_table.proofs.index.Index.has_repeats.Goals as goal
+
+pub returns : goal.returns
+returns c = λ none.
+    let t = c.self.inside.kept.tables in
+    let whole = c.self.invariant.whole in
+    held-apart t.ids t.tuples t.spots.items whole.by_id whole.by_tuple_id (whole.apart none) c.args.self.now (ap (λ (h : Held). h.spots) c.self.view_is)

@@ -1,0 +1,16 @@
+use Rattle.std.proofs.Common.{◌∙◌, ap, subst, sym}
+use Rattle.std.specs.List.{filter}
+use Rattle.id_table.specs.Model.{Held}
+use Rattle.id_table.specs.Tables.{AreOnOwnPages, all_located, is_other}
+use Rattle.id_table.proofs.Sorting.{such-located, such-on_pages}
+use Rattle.id_table.proofs.index.Index.others.Goals as goal
+
+pub returns-clause-elements : goal.returns-clause-elements
+returns-clause-elements c =
+    ap all_located (c.as_slice.ensures.value ∙ c.self.invariant.whole.by_sort.others) ∙ such-located is_other c.self.inside.kept.tables.spots.items
+    ∙ ap (λ (h : Held). filter is_other h.spots) c.self.view_is
+
+pub returns-clause-pages : goal.returns-clause-pages
+returns-clause-pages c =
+    subst AreOnOwnPages (sym (c.as_slice.ensures.value ∙ c.self.invariant.whole.by_sort.others))
+    (such-on_pages is_other c.self.inside.kept.tables.spots.items c.self.invariant.whole.on_pages)
