@@ -2,6 +2,7 @@
 use Rattle.std.proofs.Common.{◌≡◌, sym, refl, ℕ, ◌≤◌, ◌&&◌, Bool, true, false, not, nat_le, nat_lt, List, [], ◌∷◌, length, Option, Some, None, cond, bytes_eq, codes, Result, Ok, Err, IfOk, IfSome, option_map, subst}
 use Rattle.std.specs.List.{list_all}
 use Rattle.std.specs.Option.{option_and_then}
+use Rattle.ix_base.specs.declared.limits.TheConstants.{LONGEST_NAME, MOST_FACTS, MOST_PAGES}
 use Rattle.ix_base.specs.declared.NoMemory.{NoMemory}
 use Rattle.std.proofs.lemmas.Bool.{leb-true, ltb-true}
 use Rattle.std.proofs.lemmas.List.Elements.{All-weaker}
@@ -30,19 +31,19 @@ not_false false e = refl
 le_is : (m n : ℕ) → nat_le m n ≡ true → m ≤ n
 le_is m n e = leb-true m n e
 
-name_is_short : (n : List ℕ) → is_page_name n ≡ true → length n ≤ 4096
+name_is_short : (n : List ℕ) → is_page_name n ≡ true → length n ≤ LONGEST_NAME
 name_is_short n e =
-    le_is (length n) 4096 (both (nat_lt 0 (length n)) _ (both (nat_lt 0 (length n) && nat_le (length n) 4096) (list_all may_stand_in_name n) e).0).1
+    le_is (length n) LONGEST_NAME (both (nat_lt 0 (length n)) _ (both (nat_lt 0 (length n) && nat_le (length n) LONGEST_NAME) (list_all may_stand_in_name n) e).0).1
 
 are_names : (names : List (List ℕ)) → are_pages names ≡ true → AreNames names
 are_names names e =
-    let all = both (nat_lt 0 (length names) && nat_le (length names) 64 && list_all is_page_name names) (not (has_repeat names)) e in
-    let two = both (nat_lt 0 (length names) && nat_le (length names) 64) (list_all is_page_name names) all.0 in
-    let sizes = both (nat_lt 0 (length names)) (nat_le (length names) 64) two.0 in
+    let all = both (nat_lt 0 (length names) && nat_le (length names) MOST_PAGES && list_all is_page_name names) (not (has_repeat names)) e in
+    let two = both (nat_lt 0 (length names) && nat_le (length names) MOST_PAGES) (list_all is_page_name names) all.0 in
+    let sizes = both (nat_lt 0 (length names)) (nat_le (length names) MOST_PAGES) two.0 in
     record {
       some = ltb-true 0 (length names) sizes.0;
-      few = le_is (length names) 64 sizes.1;
-      short = All-weaker (λ n. is_page_name n ≡ true) (λ n. length n ≤ 4096) name_is_short names (AllPass-from_list_all is_page_name names two.1);
+      few = le_is (length names) MOST_PAGES sizes.1;
+      short = All-weaker (λ n. is_page_name n ≡ true) (λ n. length n ≤ LONGEST_NAME) name_is_short names (AllPass-from_list_all is_page_name names two.1);
       once = not_false (has_repeat names) all.1;
     }
 
@@ -97,7 +98,7 @@ given_made make good None c all e = cc
 given_made make good (Some q) c all e = subst IsGiven (let f : Some (make q) ≡ Some c = e in let g : make q ≡ c = cc in g) (good q (all q refl))
 
 -- a sample has a base, pages and a number that it may have
-sample_given : (n : ℕ) → 1 ≤ n → n ≤ 200000 → IsGiven (Sample n)
+sample_given : (n : ℕ) → 1 ≤ n → n ≤ MOST_FACTS → IsGiven (Sample n)
 unfolding url_on_literals is_web_scheme has_repeat
 sample_given n some most = record { base = refl; dir = tt; pages = are_names sample_names refl; number = (some, most) }
 
@@ -114,8 +115,8 @@ sample_by (Some n) c h e = subst IsGiven (let f : Some (Sample n) ≡ Some c = e
 given_sample : (rest : List (List ℕ)) (c : Command) → sample_in rest ≡ Some c → IsGiven c
 given_sample [] c e = cc
 given_sample (word ∷ []) c e = sample_by (sample_number word) c (λ n is.
-    let h = number_by (is_count word) (nat_le 1 (number_in word)) (nat_le (number_in word) 200000) (number_in word) n is in
-    subst (λ (k : ℕ). IsGiven (Sample k)) h.2 (sample_given (number_in word) (le_is 1 (number_in word) h.0) (le_is (number_in word) 200000 h.1))) e
+    let h = number_by (is_count word) (nat_le 1 (number_in word)) (nat_le (number_in word) MOST_FACTS) (number_in word) n is in
+    subst (λ (k : ℕ). IsGiven (Sample k)) h.2 (sample_given (number_in word) (le_is 1 (number_in word) h.0) (le_is (number_in word) MOST_FACTS h.1))) e
 given_sample (word ∷ next ∷ rest) c e = cc
 
 given_plain : (rest : List (List ℕ)) (c : Command) → plain_in rest ≡ Some c → IsGiven c

@@ -4,6 +4,7 @@ use Rattle.std.specs.List.{list_all}
 use Rattle.std.specs.Str.Parse.{ParsesUnsigned}
 use Rattle.std.proofs.lemmas.Bool.{cases_lt, le-leb, lt-leb}
 use Rattle.std.proofs.lemmas.Str.Parse.{IsNumeralModel, numerals_by_weight, parse_digits}
+use Rattle.ix_base.specs.declared.limits.TheConstants.{MOST_FACTS}
 use Rattle.ix_base.specs.Decimals.{number_in}
 use Rattle.ix_base.specs.Forms.{is_digit}
 use Rattle.command_words.specs.Numbers.{is_count, sample_number}
@@ -28,7 +29,7 @@ is_read : (word : List ℕ) (n : ℕ) → is_count word ≡ true → ParsesUnsig
 is_read word n e h = (parse_digits own {E = Unit {0}} 32 word (Ok n) h (all_digits word e)).1
 
 -- or that number is too large
-is_over : (word : List ℕ) → is_count word ≡ true → ParsesUnsigned {E = Unit {0}} 32 10 word (Err tt) → 200000 < number_in word
+is_over : (word : List ℕ) → is_count word ≡ true → ParsesUnsigned {E = Unit {0}} 32 10 word (Err tt) → MOST_FACTS < number_in word
 is_over word e h =
     let other = parse_digits own {E = Unit {0}} 32 word (Err tt) h (all_digits word e) in
     elim (cases_lt (number_in word) (2 ^ 32)) [ inl less ↦ absurd (other (some_digit word e, less)) | inr more ↦ omega arith ]
@@ -37,12 +38,12 @@ pick : (a b c : Bool) (n : ℕ) → a ≡ true → b ≡ true → c ≡ true →
 pick a b c n d e f = rw (d, e, f) refl
 
 -- a number of a sample
-pub found : (word : List ℕ) (n : ℕ) → is_count word ≡ true → ParsesUnsigned {E = Unit {0}} 32 10 word (Ok n) → 1 ≤ n → n ≤ 200000
+pub found : (word : List ℕ) (n : ℕ) → is_count word ≡ true → ParsesUnsigned {E = Unit {0}} 32 10 word (Ok n) → 1 ≤ n → n ≤ MOST_FACTS
     → Some n ≡ sample_number word
 found word n e h some most =
     let is = is_read word n e h in
-    ap Some is ∙ pick (is_count word) (nat_le 1 (number_in word)) (nat_le (number_in word) 200000) (number_in word) e
-    (le-leb 1 (number_in word) (omega arith)) (le-leb (number_in word) 200000 (omega arith))
+    ap Some is ∙ pick (is_count word) (nat_le 1 (number_in word)) (nat_le (number_in word) MOST_FACTS) (number_in word) e
+    (le-leb 1 (number_in word) (omega arith)) (le-leb (number_in word) MOST_FACTS (omega arith))
 
 none_behind : (a b c : Bool) (n : ℕ) → c ≡ false → None ≡ cond (a && b && c) (Some n) None
 none_behind true true c n e = rw e refl
@@ -53,11 +54,11 @@ none_within : (a b c : Bool) (n : ℕ) → b ≡ false → None ≡ cond (a && b
 none_within true b c n e = rw e refl
 none_within false b c n e = refl
 
-over : (word : List ℕ) → 200000 < number_in word → None ≡ sample_number word
-over word more = none_behind (is_count word) (nat_le 1 (number_in word)) (nat_le (number_in word) 200000) (number_in word)
-    (lt-leb (number_in word) 200000 more)
+over : (word : List ℕ) → MOST_FACTS < number_in word → None ≡ sample_number word
+over word more = none_behind (is_count word) (nat_le 1 (number_in word)) (nat_le (number_in word) MOST_FACTS) (number_in word)
+    (lt-leb (number_in word) MOST_FACTS more)
 
-pub too_large : (word : List ℕ) (n : ℕ) → is_count word ≡ true → ParsesUnsigned {E = Unit {0}} 32 10 word (Ok n) → 200000 < n
+pub too_large : (word : List ℕ) (n : ℕ) → is_count word ≡ true → ParsesUnsigned {E = Unit {0}} 32 10 word (Ok n) → MOST_FACTS < n
     → None ≡ sample_number word
 too_large word n e h more = let is = is_read word n e h in over word (omega arith)
 
@@ -68,7 +69,7 @@ pub too_small : (word : List ℕ) (n : ℕ) → is_count word ≡ true → Parse
     → None ≡ sample_number word
 too_small word n e h none =
     let is = is_read word n e h in
-    none_within (is_count word) (nat_le 1 (number_in word)) (nat_le (number_in word) 200000) (number_in word)
+    none_within (is_count word) (nat_le 1 (number_in word)) (nat_le (number_in word) MOST_FACTS) (number_in word)
     (lt-leb 1 (number_in word) (omega arith))
 
 pub no_number : (word : List ℕ) → is_count word ≡ false → None ≡ sample_number word

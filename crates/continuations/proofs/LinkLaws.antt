@@ -1,8 +1,9 @@
 -- What the numbered elements of a set say of all of it.
-use Rattle.std.proofs.Common.{◌≡◌, ◌∙◌, ◌++◌, ◌+◌, ◌<◌, ◌≤◌, ℕ, Bool, true, false, cond, List, [], ◌∷◌, length, get_or, take, refl, ap, sym, subst, append-nil, Option, Some, None, option_map}
+use Rattle.std.proofs.Common.{◌≡◌, ◌∙◌, ◌++◌, ◌+◌, ◌<◌, ◌≤◌, ℕ, Bool, true, false, cond, List, [], ◌∷◌, length, get_or, take, refl, ap, sym, subst, append_assoc, append-nil, Option, Some, None, option_map}
 use Rattle.std.proofs.lemmas.Bool.{true≢false, or_left, or_right}
-use Rattle.std.proofs.lemmas.List.{length-map, map-append, take_all}
-use Rattle.std.proofs.lemmas.List.Elements.{All-append, All-filter}
+use Rattle.std.proofs.Math.Seq.{take-append_seam}
+use Rattle.std.proofs.lemmas.List.{length-map, map-append, take_all, take_more, take-map}
+use Rattle.std.proofs.lemmas.List.Elements.{All-append, All-filter, filter-append}
 use Rattle.std.specs.Borrow.{Bor}
 use Rattle.std.specs.Prelude.{◌&&◌, ◌||◌, is_some, is_none, option_and_then}
 use Rattle.std.specs.List.{filter, flat_map, list_any, slice_get}
@@ -128,9 +129,33 @@ linked es both spots count ns all n same names len =
 pub first-spots : (es : List Located) (none first : List (Bor Spot)) → none ≡ [] → all_located first ≡ all_located none ++ filter is_continuation es → all_located first ≡ filter is_continuation es
 first-spots es none first e f = f ∙ ap (λ (xs : List (Bor Spot)). all_located xs ++ filter is_continuation es) e
 
+-- so many in front are the continuations
+pub first-numbers : (es : List Located) (spots : List (Bor Spot)) (count : ℕ) → all_located spots ≡ filter is_continuation es ++ filter is_start es
+    → count ≡ length (filter is_continuation es) → all_located (take count spots) ≡ filter is_continuation es
+first-numbers es spots count all n =
+    sym (take-map (λ (s : Bor Spot). located s.now) count spots) ∙ ap (take count) all ∙ ap (λ k. take k (filter is_continuation es ++ filter is_start es)) n
+    ∙ take-append_seam (filter is_continuation es) (filter is_start es)
+
 -- those of some kind of the elements of a set are added
 abbrev kept : (Located → Bool) → List (Bor Spot) → List (Bor Spot)
 kept p spots = filter (λ (s : Bor Spot). p (located s.now)) spots
+
+kept-more : (p : Located → Bool) (spots : List (Bor Spot)) (i : ℕ) (s : Bor Spot) (b : Bool) → i < length spots → s ≡ get_or spots i s → p (located s.now) ≡ b
+    → kept p (take i spots) ++ cond b (s ∷ []) [] ≡ kept p (take (i + 1) spots)
+kept-more p spots i s b l e is =
+    ap (λ c. kept p (take i spots) ++ cond c (s ∷ []) []) (sym is) ∙ sym (filter-append (λ (t : Bor Spot). p (located t.now)) (take i spots) (s ∷ []))
+    ∙ ap (λ t. kept p (take i spots ++ t ∷ [])) e ∙ ap (kept p) (sym (take_more spots i s l))
+
+-- one more is added where it is of the kind
+pub pushed-one : (p : Located → Bool) (old now new spots : List (Bor Spot)) (i : ℕ) (s : Bor Spot) → i < length spots → s ≡ get_or spots i s → p (located s.now) ≡ true
+    → new ≡ now ++ s ∷ [] → now ≡ old ++ filter (λ s. p (located s.now)) (take i spots) → new ≡ old ++ filter (λ s. p (located s.now)) (take (i + 1) spots)
+pushed-one p old now new spots i s l e is n h =
+    n ∙ ap (λ xs. xs ++ s ∷ []) h ∙ append_assoc old (kept p (take i spots)) (s ∷ []) ∙ ap (λ xs. old ++ xs) (kept-more p spots i s true l e is)
+
+pub pushed-none : (p : Located → Bool) (old now spots : List (Bor Spot)) (i : ℕ) (s : Bor Spot) → i < length spots → s ≡ get_or spots i s → p (located s.now) ≡ false
+    → now ≡ old ++ filter (λ s. p (located s.now)) (take i spots) → now ≡ old ++ filter (λ s. p (located s.now)) (take (i + 1) spots)
+pushed-none p old now spots i s l e is h =
+    h ∙ ap (λ xs. old ++ xs) (sym (append-nil (kept p (take i spots))) ∙ kept-more p spots i s false l e is)
 
 pub pushed : (p : Located → Bool) (old new spots : List (Bor Spot)) (i : ℕ) (es : List Located) → length spots ≤ i → all_located spots ≡ es
     → new ≡ old ++ filter (λ s. p (located s.now)) (take i spots) → all_located new ≡ all_located old ++ filter p es

@@ -1,7 +1,7 @@
 -- Places in order, among which others are looked for by halving.
-use Rattle.std.proofs.Common.{◌≡◌, ◌∙◌, ℕ, ◌<◌, Bool, true, false, cond, List, [], ◌∷◌, length, get_or, sym, ap, refl, arith, Result, Ok, Err, ⊎_elim}
+use Rattle.std.proofs.Common.{◌≡◌, ◌∙◌, ◌+◌, ◌++◌, ℕ, ◌<◌, Bool, true, false, cond, List, [], ◌∷◌, length, get_or, take, sym, ap, refl, arith, Result, Ok, Err, ⊎_elim}
 use Rattle.std.specs.Borrow.{Bor}
-use Rattle.std.specs.Prelude.{◌&&◌, ◌==◌, is_ok, nat_lt}
+use Rattle.std.specs.Prelude.{◌&&◌, ◌==◌, ◌||◌, is_ok, nat_lt}
 use Rattle.std.specs.Cmp.{IsTotalOrder}
 use Rattle.std.specs.List.{list_any}
 use Rattle.std.specs.List.Sorted.{IsSorted, IsBinarySearchResult, IsSearchInRange}
@@ -16,12 +16,13 @@ use Rattle.ix_base.specs.declared.tree.Spot.{Spot}
 use Rattle.ix_base.specs.LinkRules.{is_at, stands_inside}
 use Rattle.ix_base.specs.LocatedElements.{Located, located}
 use Rattle.id_table.specs.Tables.{all_located}
+use Rattle.id_table.proofs.RowLemmas.{located-take}
 use Rattle.continuations.specs.Nesting.{is_around, is_nested, key_cmp}
 use Rattle.id_table.specs.Slices.{is_key}
 use Rattle.continuations.proofs.Inner.{in-any}
 use Rattle.continuations.proofs.Numbering.{in-got, located-at}
 use Rattle.continuations.proofs.Reaching.{same-bool}
-use Rattle.continuations.proofs.SeenLaws.{any-same}
+use Rattle.continuations.proofs.SeenLaws.{any-append, any-same}
 
 key_total : IsTotalOrder key_cmp
 key_total = then_total (on_total (λ (k : ℕ × ℕ). k.0) nat_cmp_total) (on_total (λ (k : ℕ × ℕ). k.1) nat_cmp_total)
@@ -78,3 +79,12 @@ pub nested-at : (keys : List (ℕ × ℕ)) (spots : List (Bor Spot)) (i : ℕ) (
 nested-at keys spots i s same l at around =
     sym (around-is keys (all_located spots) same (all_located spots))
     ∙ in-any (is_around keys) (all_located spots) (located s.now) (in-got (all_located spots) i (located s.now) (located-at spots i s l at)) around
+
+-- the place of one more element is put
+pub places-more : (page offset : ℕ) (places : List (ℕ × ℕ)) (spots : List (Bor Spot)) (i : ℕ) (s : Bor Spot) (k : ℕ × ℕ) → i < length spots → s ≡ get_or spots i s
+    → is_key page offset k ≡ is_at page offset (located s.now) → list_any (is_key page offset) places ≡ list_any (is_at page offset) (all_located (take i spots))
+    → list_any (is_key page offset) (places ++ k ∷ []) ≡ list_any (is_at page offset) (all_located (take (i + 1) spots))
+places-more page offset places spots i s k l e same h =
+    any-append (is_key page offset) places (k ∷ []) ∙ ap (λ b. b || (is_key page offset k || false)) h
+    ∙ ap (λ b. list_any (is_at page offset) (all_located (take i spots)) || (b || false)) same
+    ∙ sym (any-append (is_at page offset) (all_located (take i spots)) (located s.now ∷ [])) ∙ ap (list_any (is_at page offset)) (sym (located-take spots i s l e))

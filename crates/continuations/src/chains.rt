@@ -65,7 +65,24 @@ fn slice_of<'a>(arena: &'a Bump, chain: &[&'a Spot<'a>]) -> Result<Slice<'a>, No
     })
 }
 
-/// Enters the chain from a numbered element. It is put in the place of what was in `chain`, and copied from there.
+/// The chain from a numbered element, in the arena. It is put in the place of what was in `chain`, and copied from there.
+fn chain_in_arena<'a>(
+    arena: &'a Bump,
+    index: &Index<'a>,
+    links: &Links<'a>,
+    number: usize,
+    chain: &mut Vec<&'a Spot<'a>>,
+) -> Result<Slice<'a>, NoMemory>
+    requires links { AreLinks index.now.spots links.now }
+    requires number { number < length links.now.spots.items }
+    ensures { IfOk result (λ s. (e : Located) → slice_get (all_located links.now.spots.items) number ≡ Some e
+        → spots_in s ≡ chains.chain (asked index.now) e) }
+{
+    put_chain(index, links, number, chain)?;
+    slice_of(arena, chain.as_slice())
+}
+
+/// Enters the chain from a numbered element, by way of `chain`.
 fn enter_chain<'a>(
     arena: &'a Bump,
     index: &Index<'a>,
@@ -80,8 +97,7 @@ fn enter_chain<'a>(
         → (page offset : ℕ) → slice_at slices.new page offset
         ≡ put_first (slice_at slices.old page offset) (is_at page offset e) (chains.chain (asked index.now) e)) }
 {
-    put_chain(index, links, number, chain)?;
-    let slice = slice_of(arena, chain.as_slice())?;
+    let slice = chain_in_arena(arena, index, links, number, chain)?;
     enter_at_head(slices, links.spots[number], slice)
 }
 

@@ -33,6 +33,28 @@ fn add_breaches<'a>(
     add_inside(index, links, breaches)
 }
 
+/// The chains, where no rule on continuations is broken. It adds exactly the breaches of these rules.
+fn chains_if_sound<'a>(
+    arena: &'a Bump,
+    index: &Index<'a>,
+    links: &Links<'a>,
+    breaches: &mut Breaches,
+) -> Result<Chains<'a>, NoMemory>
+    requires { AreLinks index.now.spots links.now }
+    ensures chains { IfOk result (λ c. breaches.new ≡ breaches.old → AreChainsOf c index.now.spots) }
+    ensures ok { OnOk result (breaches.new ≡ breaches.old ++ breaking L4 index.now.spots ++ breaking L5 index.now.spots
+        ++ breaking L6 index.now.spots ++ breaking L7 index.now.spots) }
+    ensures err { OnErr result (AppendsFront (breaking L4 index.now.spots ++ breaking L5 index.now.spots
+        ++ breaking L6 index.now.spots ++ breaking L7 index.now.spots) breaches.old breaches.new) }
+{
+    let before = breaches.len();
+    add_breaches(index, links, breaches)?;
+    if breaches.len() > before {
+        return Ok(no_chains(links.alloc));
+    }
+    chains_of(arena, index, links)
+}
+
 /// Adds exactly the breaches of the rules on continuations, and gives the chains, where it adds none. Where it adds any,
 /// it makes no chains. After a refusal a front of the breaches may have been added.
 pub fn link<'a>(
@@ -47,11 +69,6 @@ pub fn link<'a>(
         ++ breaking L6 index.now.spots ++ breaking L7 index.now.spots) breaches.old breaches.new) }
     ensures chains { IfOk result (λ c. breaches.new ≡ breaches.old → AreChainsOf c index.now.spots) }
 {
-    let before = breaches.len();
     let links = links_of(alloc, index)?;
-    add_breaches(index, &links, breaches)?;
-    if breaches.len() > before {
-        return Ok(no_chains(alloc));
-    }
-    chains_of(arena, index, &links)
+    chains_if_sound(arena, index, &links, breaches)
 }

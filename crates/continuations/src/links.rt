@@ -10,6 +10,7 @@ ghost use Rattle.id_table.specs.Model.{asked};
 ghost use Rattle.id_table.specs.Tables.{all_located, AreOnOwnPages};
 ghost use Rattle.continuations.specs.Links.{AreLinks};
 ghost use Rattle.continuations.specs.Numbers.{number_at, AreNumbers, NameNexts};
+ghost use Rattle.continuations.specs.Walks.{AreNexts};
 
 use crate::marks::any_joined;
 use crate::walk::continuation;
@@ -138,16 +139,44 @@ fn push_starts<'a>(index: &Index<'a>, spots: &mut Vec<&'a Spot<'a>>) -> Result<(
     Ok(())
 }
 
-/// The elements of the chains of a set, numbered.
-pub(crate) fn links_of<'a>(alloc: Global, index: &Index<'a>) -> Result<Links<'a>, NoMemory>
-    ensures { IfOk result (λ l. AreLinks index.now.spots l) }
+/// The elements of the chains of a set, continuations first, and how many of these there are.
+fn spots_of<'a>(alloc: Global, index: &Index<'a>) -> Result<(Vec<&'a Spot<'a>>, usize), NoMemory>
+    ensures spots { IfOk result (λ r. all_located r.0.items
+        ≡ filter spec_is_continuation index.now.spots ++ filter kinds.is_start index.now.spots) }
+    ensures counted { IfOk result (λ r. r.1 ≡ length (filter spec_is_continuation index.now.spots)) }
+    ensures pages { IfOk result (λ r. AreOnOwnPages r.0.items) }
 {
     let mut spots = Vec::new(alloc);
     push_continuations(index, &mut spots)?;
     let continuations = spots.len();
-    let numbers = numbers_of(alloc, spots.as_slice())?;
     push_starts(index, &mut spots)?;
-    let (nexts, lacks) = nexts_of(alloc, index, &numbers, spots.as_slice())?;
+    Ok((spots, continuations))
+}
+
+/// The numbers of the continuations at which the elements of the chains of a set go on, and whether one of them goes on
+/// at an id that isn't the one id of a continuation.
+fn numbered(
+    alloc: Global,
+    index: &Index<'_>,
+    spots: &[&Spot<'_>],
+    continuations: usize,
+) -> Result<(Vec<Option<usize>>, bool), NoMemory>
+    requires spots { all_located spots.now
+        ≡ filter spec_is_continuation index.now.spots ++ filter kinds.is_start index.now.spots }
+    requires counted { continuations ≡ length (filter spec_is_continuation index.now.spots) }
+    ensures nexts { IfOk result (λ r. AreNexts (asked index.now) (all_located spots.now) continuations r.0.items) }
+    ensures lacks { IfOk result (λ r. r.1 ≡ list_any (lacks_continuation (asked index.now)) index.now.spots) }
+{
+    let numbers = numbers_of(alloc, &spots[..continuations])?;
+    nexts_of(alloc, index, &numbers, spots)
+}
+
+/// The elements of the chains of a set, numbered.
+pub(crate) fn links_of<'a>(alloc: Global, index: &Index<'a>) -> Result<Links<'a>, NoMemory>
+    ensures { IfOk result (λ l. AreLinks index.now.spots l) }
+{
+    let (spots, continuations) = spots_of(alloc, index)?;
+    let (nexts, lacks) = numbered(alloc, index, spots.as_slice(), continuations)?;
     let joins = any_joined(alloc, nexts.as_slice(), continuations)?;
     Ok(Links {
         alloc,

@@ -16,6 +16,14 @@ use crate::trail::put_chain;
 use id_table::Index;
 use ix_base::{NoMemory, Spot};
 
+/// The place of an element.
+fn place_of(spot: &Spot<'_>) -> (u32, u64)
+    ensures { (page offset : ℕ) → is_key page offset result ≡ is_at page offset (located spot.now) }
+{
+    let place = spot.element.place;
+    (place.page, place.offset)
+}
+
 /// Puts the places of some elements, in order, in the place of what was there.
 fn put_places(spots: &[&Spot<'_>], places: &mut Vec<(u32, u64)>) -> Result<(), NoMemory>
     ensures sorted { OnOk result (IsSorted key_cmp places.new.items) }
@@ -24,8 +32,7 @@ fn put_places(spots: &[&Spot<'_>], places: &mut Vec<(u32, u64)>) -> Result<(), N
 {
     places.clear();
     for spot in spots {
-        let place = spot.element.place;
-        places.push((place.page, place.offset))?;
+        places.push(place_of(spot))?;
     }
     places.sort_unstable();
     Ok(())

@@ -12,31 +12,86 @@ mod pages;
 mod parts;
 
 use anyhow::{Result, bail};
+use bumpalo::Bump;
 use row_tables::{Cell, run_tables};
 use std::alloc::Global;
 use std::process::ExitCode;
 
-/// What is seen of a call of a table, which is given these cells.
-fn seen(alloc: Global, table: &str, cells: &[Cell]) -> Result<String> {
+/// What is seen of a call of a table whose rows give one text.
+fn seen_of_text(alloc: Global, arena: &Bump, table: &str, text: &str) -> Result<String> {
     match table {
-        "attributes" => elements::attribute(alloc, cells),
-        "bases" => names::base(alloc, cells),
-        "blanks" => nodes::blank(alloc, cells),
-        "contexts" => parts::context(alloc, cells),
-        "element_rules" => element_rules::of_page(alloc, cells),
-        "faults" => pages::fault(alloc, cells),
-        "links" => names::link(alloc, cells),
-        "named_nodes" => nodes::by_name(alloc, cells),
-        "ncnames" => names::ncname(alloc, cells),
-        "nodes" => nodes::told(alloc, cells),
-        "qualified_names" => names::qualified(alloc, cells),
-        "root_rules" => element_rules::of_root(alloc, cells),
-        "scopes" => elements::inner_scope(alloc, cells),
-        "trees" => elements::tree(alloc, cells),
-        "units" => parts::unit(alloc, cells),
-        "waiting" => pages::waiting(alloc, cells),
+        "blanks" => nodes::blank(alloc, text),
+        "element_rules" => element_rules::of_page(alloc, arena, text),
+        "ncnames" => names::ncname(alloc, text),
+        "root_rules" => element_rules::of_root(alloc, arena, text),
+        "units" => parts::unit(alloc, arena, text),
+        _ => bail!("no such table of one cell"),
+    }
+}
+
+/// What is seen of a call of a table whose rows give one cell.
+fn seen_of_one(alloc: Global, arena: &Bump, table: &str, cell: &Cell) -> Result<String> {
+    match table {
+        "faults" => pages::fault(alloc, arena, cell.bytes()),
+        "scopes" => elements::inner_scope(alloc, arena, cell.bytes()),
+        _ => seen_of_text(alloc, arena, table, cell.text()?),
+    }
+}
+
+/// What is seen of a call of a table whose rows give a word and a cell behind it.
+fn seen_by_word(
+    alloc: Global,
+    arena: &Bump,
+    table: &str,
+    word: &str,
+    behind: &Cell,
+) -> Result<String> {
+    match table {
+        "contexts" => parts::context(alloc, arena, word, behind.text()?),
+        "links" => names::link(alloc, word, behind.text()?),
+        "nodes" => nodes::told(alloc, arena, word, behind.bytes()),
+        "trees" => elements::tree(alloc, arena, word, behind.bytes()),
+        _ => bail!("no such table of two cells"),
+    }
+}
+
+/// What is seen of a call of a table whose rows give two cells.
+fn seen_of_two(
+    alloc: Global,
+    arena: &Bump,
+    table: &str,
+    front: &Cell,
+    behind: &Cell,
+) -> Result<String> {
+    if table == "qualified_names" {
+        return names::qualified(alloc, arena, front.bytes(), behind.text()?);
+    }
+    seen_by_word(alloc, arena, table, front.text()?, behind)
+}
+
+/// What is seen of a call of a table whose rows give more, or any number of cells.
+fn seen_of_more(alloc: Global, arena: &Bump, table: &str, cells: &[Cell]) -> Result<String> {
+    match table {
+        "attributes" => elements::attribute(alloc, arena, cells),
+        "bases" => names::base(alloc, arena, cells),
+        "named_nodes" => nodes::by_name(alloc, arena, cells),
+        "waiting" => pages::waiting(alloc, arena, cells),
         _ => bail!("no such table"),
     }
+}
+
+/// What is seen of a call of a table, which is given these cells. An arena takes what the call keeps of pages.
+fn seen_in(alloc: Global, arena: &Bump, table: &str, cells: &[Cell]) -> Result<String> {
+    match cells {
+        [cell] if table != "waiting" => seen_of_one(alloc, arena, table, cell),
+        [front, behind] if table != "waiting" => seen_of_two(alloc, arena, table, front, behind),
+        _ => seen_of_more(alloc, arena, table, cells),
+    }
+}
+
+/// What is seen of a call of a table, which is given these cells.
+fn seen(alloc: Global, table: &str, cells: &[Cell]) -> Result<String> {
+    seen_in(alloc, &Bump::new(alloc), table, cells)
 }
 
 fn main(rt: HostRuntime) -> Result<ExitCode> {

@@ -27,31 +27,21 @@ fn push_resolved(written: &str, scope: Scope<'_>, text: &mut String) -> Result<(
 }
 
 /// The name for which a written one stands in the scope of a page's root.
-pub(crate) fn qualified(alloc: Global, cells: &[Cell]) -> Result<String> {
-    let [page, written] = cells else {
-        bail!("a page and a name are wanted");
-    };
-    let arena = Bump::new(alloc);
-    let root = root_of(alloc, &arena, page.bytes(), 0)?;
+pub(crate) fn qualified(alloc: Global, arena: &Bump, page: &[u8], written: &str) -> Result<String> {
+    let root = root_of(alloc, arena, page, 0)?;
     let mut text = String::new(alloc);
-    push_resolved(written.text()?, root.scope, &mut text)?;
+    push_resolved(written, root.scope, &mut text)?;
     Ok(text)
 }
 
 /// Whether a text is a name without a colon.
-pub(crate) fn ncname(alloc: Global, cells: &[Cell]) -> Result<String> {
-    let [text] = cells else {
-        bail!("a text is wanted");
-    };
-    owned(alloc, yes_or_no(is_ncname(text.text()?)))
+pub(crate) fn ncname(alloc: Global, text: &str) -> Result<String> {
+    owned(alloc, yes_or_no(is_ncname(text)))
 }
 
 /// The link that a text is against a base.
-pub(crate) fn link(alloc: Global, cells: &[Cell]) -> Result<String> {
-    let [base, text] = cells else {
-        bail!("a base and a text are wanted");
-    };
-    let link = resolved(alloc, base.text()?, text.text()?)?;
+pub(crate) fn link(alloc: Global, base: &str, text: &str) -> Result<String> {
+    let link = resolved(alloc, base, text)?;
     owned(alloc, link.as_str())
 }
 
@@ -106,21 +96,19 @@ fn second_base<'a>(
     arena: &'a Bump,
     root: &'a Element<'a>,
     name: &str,
-    which: &Cell,
+    which: &str,
 ) -> Result<Text> {
     let mut bases = Bases::new(alloc);
     add_second(&mut bases, name, root)?;
-    base_in(&bases, arena, root, which.text()?)
+    base_in(&bases, arena, root, which)
 }
 
 /// The base of the root of a page, or of the first element in it. The page is added behind another.
-pub(crate) fn base(alloc: Global, cells: &[Cell]) -> Result<String> {
+pub(crate) fn base(alloc: Global, arena: &Bump, cells: &[Cell]) -> Result<String> {
     let [name, page, which] = cells else {
         bail!("a name, a page, and which element, are wanted");
     };
-    let name = name.text()?;
-    let arena = Bump::new(alloc);
-    let root = root_of(alloc, &arena, page.bytes(), SECOND)?;
-    let base = second_base(alloc, &arena, root, name, which)?;
+    let root = root_of(alloc, arena, page.bytes(), SECOND)?;
+    let base = second_base(alloc, arena, root, name.text()?, which.text()?)?;
     owned(alloc, base.as_str())
 }

@@ -45,6 +45,12 @@ fn unnamed<'a>(call: &str, nodes: &'a [Node<'a>]) -> Result<&'a str> {
     }
 }
 
+/// Whether nodes hold only elements of a namespace and of several local names.
+fn told_only(alloc: Global, nodes: &[Node<'_>], ns: &str, locals: &str) -> Result<String> {
+    let locals = words_of(alloc, locals)?;
+    owned(alloc, yes_or_no(holds_only(nodes, ns, &locals)))
+}
+
 /// What a call tells of an element or of its nodes, by a namespace and a local name, or several.
 fn told_by_name(
     alloc: Global,
@@ -55,23 +61,18 @@ fn told_by_name(
 ) -> Result<String> {
     match call {
         "is_of" => owned(alloc, yes_or_no(is_of(&element.name, ns, local))),
-        "holds_only" => {
-            let locals = words_of(alloc, local)?;
-            owned(alloc, yes_or_no(holds_only(element.children, ns, &locals)))
-        }
+        "holds_only" => told_only(alloc, element.children, ns, local),
         _ => owned(alloc, named(call, element.children, ns, local)?),
     }
 }
 
 /// What a call tells of the nodes of a page's root, by a namespace and a local name, or several.
-pub(crate) fn by_name(alloc: Global, cells: &[Cell]) -> Result<String> {
+pub(crate) fn by_name(alloc: Global, arena: &Bump, cells: &[Cell]) -> Result<String> {
     let [call, page, ns, local] = cells else {
         bail!("a call, a page, a namespace and a local name are wanted");
     };
-    let (call, ns, local) = (call.text()?, ns.text()?, local.text()?);
-    let arena = Bump::new(alloc);
-    let root = root_of(alloc, &arena, page.bytes(), PAGE)?;
-    told_by_name(alloc, call, root, ns, local)
+    let root = root_of(alloc, arena, page.bytes(), PAGE)?;
+    told_by_name(alloc, call.text()?, root, ns.text()?, local.text()?)
 }
 
 /// What a call tells of nodes.
@@ -83,20 +84,12 @@ fn told_of(alloc: Global, call: &str, nodes: &[Node<'_>]) -> Result<String> {
 }
 
 /// What a call tells of the nodes of a page's root.
-pub(crate) fn told(alloc: Global, cells: &[Cell]) -> Result<String> {
-    let [call, page] = cells else {
-        bail!("a call and a page are wanted");
-    };
-    let call = call.text()?;
-    let arena = Bump::new(alloc);
-    let root = root_of(alloc, &arena, page.bytes(), PAGE)?;
+pub(crate) fn told(alloc: Global, arena: &Bump, call: &str, page: &[u8]) -> Result<String> {
+    let root = root_of(alloc, arena, page, PAGE)?;
     told_of(alloc, call, root.children)
 }
 
 /// Whether a text is blank.
-pub(crate) fn blank(alloc: Global, cells: &[Cell]) -> Result<String> {
-    let [text] = cells else {
-        bail!("a text is wanted");
-    };
-    owned(alloc, yes_or_no(is_blank(text.text()?)))
+pub(crate) fn blank(alloc: Global, text: &str) -> Result<String> {
+    owned(alloc, yes_or_no(is_blank(text)))
 }

@@ -76,27 +76,43 @@ pub(crate) fn told_fault(alloc: Global, fault: PageFault) -> Result<String> {
 }
 
 /// What a page breaks that comes in pieces of so many bytes.
-fn fault_in_pieces(alloc: Global, page: &[u8], step: usize) -> Result<String> {
-    let arena = Bump::new(alloc);
-    match root_in_pieces(alloc, &arena, page, PAGE, DEEPEST_ELEMENT, step)? {
+fn fault_in_pieces(alloc: Global, arena: &Bump, page: &[u8], step: usize) -> Result<String> {
+    match root_in_pieces(alloc, arena, page, PAGE, DEEPEST_ELEMENT, step)? {
         Ok(_) => owned(alloc, "none"),
         Err(fault) => told_fault(alloc, fault),
     }
 }
 
-/// What a page breaks, which is the same in pieces of 1, of 3 and of 65,536 bytes.
-pub(crate) fn fault(alloc: Global, cells: &[Cell]) -> Result<String> {
-    let [page] = cells else {
-        bail!("a page is wanted");
-    };
-    let whole = fault_in_pieces(alloc, page.bytes(), 65_536)?;
-    for step in [1, 3] {
-        let fault = fault_in_pieces(alloc, page.bytes(), step)?;
-        if fault.as_str() != whole.as_str() {
-            return Ok(format!(in alloc; "{fault} in pieces of {step}, else {whole}")?);
-        }
+/// What is told where a page breaks something else in pieces of so many bytes than as a whole.
+fn other_fault(
+    alloc: Global,
+    arena: &Bump,
+    page: &[u8],
+    step: usize,
+    whole: &str,
+) -> Result<Option<String>> {
+    let fault = fault_in_pieces(alloc, arena, page, step)?;
+    if fault.as_str() == whole {
+        return Ok(None);
     }
-    Ok(whole)
+    Ok(Some(format!(in alloc; "{fault} in pieces of {step}, else {whole}")?))
+}
+
+/// The same of pieces of 1 and of 3 bytes.
+fn first_other(alloc: Global, arena: &Bump, page: &[u8], whole: &str) -> Result<Option<String>> {
+    match other_fault(alloc, arena, page, 1, whole)? {
+        Some(told) => Ok(Some(told)),
+        None => other_fault(alloc, arena, page, 3, whole),
+    }
+}
+
+/// What a page breaks, which is the same in pieces of 1, of 3 and of 65,536 bytes.
+pub(crate) fn fault(alloc: Global, arena: &Bump, page: &[u8]) -> Result<String> {
+    let whole = fault_in_pieces(alloc, arena, page, 65_536)?;
+    match first_other(alloc, arena, page, whole.as_str())? {
+        Some(told) => Ok(told),
+        None => Ok(whole),
+    }
 }
 
 /// Hands pieces of a page over, and appends how many characters wait behind each.
@@ -113,11 +129,17 @@ fn push_waiting(builder: &mut TreeBuilder<'_>, pieces: &[Cell], counts: &mut Str
     Ok(())
 }
 
-/// How many characters wait behind each of the pieces of a page.
-pub(crate) fn waiting(alloc: Global, cells: &[Cell]) -> Result<String> {
-    let arena = Bump::new(alloc);
-    let mut builder = TreeBuilder::new(alloc, &arena, PAGE, DEEPEST_ELEMENT);
+/// How many characters wait behind each of the pieces of a page, which a fresh builder takes.
+fn waiting_in(alloc: Global, builder: &mut TreeBuilder<'_>, pieces: &[Cell]) -> Result<String>
+    requires { fed_bytes builder.old ≡ 0 }
+{
     let mut counts = String::new(alloc);
-    push_waiting(&mut builder, cells, &mut counts)?;
+    push_waiting(builder, pieces, &mut counts)?;
     Ok(counts)
+}
+
+/// How many characters wait behind each of the pieces of a page.
+pub(crate) fn waiting(alloc: Global, arena: &Bump, cells: &[Cell]) -> Result<String> {
+    let mut builder = TreeBuilder::new(alloc, arena, PAGE, DEEPEST_ELEMENT);
+    waiting_in(alloc, &mut builder, cells)
 }

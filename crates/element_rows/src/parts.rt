@@ -3,36 +3,26 @@ use crate::elements::first_child;
 use anyhow::{Result, bail};
 use bumpalo::Bump;
 use ix_base::{Context, Dim, Member, OwnName, Period, Rule, Unit};
-use row_tables::{Cell, owned, push_name};
+use row_tables::{owned, push_name};
 use sound_pages::sound_root;
 use std::alloc::Global;
 use xbrl_parts::{PartFault, context_of, unit_of};
 
-/// The context that a page's first element is, if it has a normal form.
-fn context_in(alloc: Global, page: &str) -> Result<Option<Context>> {
-    let arena = Bump::new(alloc);
-    let root = sound_root(alloc, &arena, 0, page)?;
-    match context_of(alloc, first_child(root)?) {
-        Ok(context) => Ok(Some(context)),
-        Err(PartFault::Breach(Rule::N20)) => Ok(None),
-        Err(_) => bail!("another answer"),
-    }
-}
-
-/// The unit that a page's first element is, if it has a normal form.
-fn unit_in(alloc: Global, page: &str) -> Result<Option<Unit>> {
-    let arena = Bump::new(alloc);
-    let root = sound_root(alloc, &arena, 0, page)?;
-    match unit_of(alloc, first_child(root)?) {
-        Ok(unit) => Ok(Some(unit)),
-        Err(PartFault::Breach(Rule::N21)) => Ok(None),
-        Err(_) => bail!("another answer"),
-    }
-}
-
 /// Appends a name.
 fn push_own_name(name: &OwnName, text: &mut String) -> Result<()> {
     push_name(text, name.ns.as_str(), name.local.as_str())
+}
+
+/// A member: its name, and its text in quotes.
+fn push_member(member: &Member, text: &mut String) -> Result<()> {
+    match member {
+        Member::Explicit(name) => push_own_name(name, text)?,
+        Member::Typed(name, value) => {
+            push_own_name(name, text)?;
+            write!(text, "'{}'", value.as_str())?;
+        }
+    }
+    Ok(())
 }
 
 /// Dimensions, each as `NAME=NAME` and its text in quotes, with `;` behind it.
@@ -40,13 +30,7 @@ fn push_dims(dims: &[Dim], text: &mut String) -> Result<()> {
     for dim in dims {
         push_own_name(&dim.dimension, text)?;
         text.push_str("=")?;
-        match &dim.member {
-            Member::Explicit(name) => push_own_name(name, text)?,
-            Member::Typed(name, value) => {
-                push_own_name(name, text)?;
-                write!(text, "'{}'", value.as_str())?;
-            }
-        }
+        push_member(&dim.member, text)?;
         text.push_str(";")?;
     }
     Ok(())
@@ -87,21 +71,14 @@ fn part_of(alloc: Global, context: &Context, part: &str) -> Result<String> {
     Ok(text)
 }
 
-/// A part of a context, or `none` where there is no context.
-fn part_said(alloc: Global, context: Option<&Context>, part: &Cell) -> Result<String> {
-    match context {
-        Some(context) => part_of(alloc, context, part.text()?),
-        None => owned(alloc, "none"),
+/// A part of the context that a page's first element is, or `none` where it has no normal form.
+pub(crate) fn context(alloc: Global, arena: &Bump, part: &str, page: &str) -> Result<String> {
+    let root = sound_root(alloc, arena, 0, page)?;
+    match context_of(alloc, first_child(root)?) {
+        Ok(context) => part_of(alloc, &context, part),
+        Err(PartFault::Breach(Rule::N20)) => owned(alloc, "none"),
+        Err(_) => bail!("another answer"),
     }
-}
-
-/// A part of the context of a page, or `none` where the context has no normal form.
-pub(crate) fn context(alloc: Global, cells: &[Cell]) -> Result<String> {
-    let [part, page] = cells else {
-        bail!("which part, and a page, are wanted");
-    };
-    let context = context_in(alloc, page.text()?)?;
-    part_said(alloc, context.as_ref(), part)
 }
 
 /// Names, each with `;` behind it.
@@ -127,13 +104,12 @@ fn measures_of(alloc: Global, unit: &Unit) -> Result<String> {
     Ok(text)
 }
 
-/// The measures above and below of the unit of a page, or `none` where it has no normal form.
-pub(crate) fn unit(alloc: Global, cells: &[Cell]) -> Result<String> {
-    let [page] = cells else {
-        bail!("a page is wanted");
-    };
-    match unit_in(alloc, page.text()?)? {
-        Some(unit) => measures_of(alloc, &unit),
-        None => owned(alloc, "none"),
+/// The measures above and below of the unit that a page's first element is, or `none` where it has no normal form.
+pub(crate) fn unit(alloc: Global, arena: &Bump, page: &str) -> Result<String> {
+    let root = sound_root(alloc, arena, 0, page)?;
+    match unit_of(alloc, first_child(root)?) {
+        Ok(unit) => measures_of(alloc, &unit),
+        Err(PartFault::Breach(Rule::N21)) => owned(alloc, "none"),
+        Err(_) => bail!("another answer"),
     }
 }

@@ -1,4 +1,5 @@
 -- An element of a page: where its tag stands, and what is left out of it.
+use Rattle.ix_base.specs.declared.limits.TheConstants.{DEEPEST_ELEMENT}
 use Rattle.std.proofs.Common.{◌≡◌, ◌∙◌, ℕ, suc, ◌<◌, ◌≤◌, ◌⊎◌, inl, inr, ◌==◌, Bool, true, false, List, [], ◌∷◌, ◌++◌, length, map, Contains, is_none, refl, sym, ap, subst, ⊎_elim, arith, if◌then◌else◌}
 use Rattle.ix_base.specs.Elements.{elements_of, placed_at}
 use Rattle.ix_base.specs.Sound.{Rise, offsets_of}
@@ -54,11 +55,11 @@ left-climbs (elem head children rest) low c =
       own false l d = climb-lower low (suc head.offset) (left_out children ++ left_out rest) (omega arith) d
 
 -- each element of a page rises
-pub all-rise : (b : List ℕ) (t : Tree) → page b 256 t → Each HasClimb (elements_of t)
+pub all-rise : (b : List ℕ) (t : Tree) → page b DEEPEST_ELEMENT t → Each HasClimb (elements_of t)
 all-rise b t p =
     let cs = (cut b).constructs in
     let climbs : Climb 0 (starts_of cs) = cut-climbs (length (text_of b)) 0 (is_none (stop b)) true (text_of b) (page-climbs b) in
-    let spelled : Climb 0 (offsets_of (elem t.head t.children none)) = subst (Climb 0) (sym (page-offsets t 256 p.tokens p.spell)) (tokens-climb 0 cs p.tokens p.mean climbs) in
+    let spelled : Climb 0 (offsets_of (elem t.head t.children none)) = subst (Climb 0) (sym (page-offsets t DEEPEST_ELEMENT p.tokens p.spell)) (tokens-climb 0 cs p.tokens p.mean climbs) in
     let own = climb-parts (suc t.head.offset) (offsets_of t.children) [] spelled.1 in
     (record { low = suc t.head.offset; climbs = own.0 }, all-climb t.children (suc t.head.offset) (t ∷ []) own.0)
 
@@ -77,7 +78,7 @@ is-standing b t h =
     let cs = (cut b).constructs in
     let p = h.is in
     let e = placed_at t h.above in
-    let f = each-there (IsFound (reaches b)) (elements_of h.root) e (page-found h.root 256 p.tokens (reaches b) p.spell (meant-from (length b) cs p.tokens p.mean)) h.there in
+    let f = each-there (IsFound (reaches b)) (elements_of h.root) e (page-found h.root DEEPEST_ELEMENT p.tokens (reaches b) p.spell (meant-from (length b) cs p.tokens p.mean)) h.there in
     let r = each-there HasClimb (elements_of h.root) e (all-rise b h.root p) h.there in
     record {
       whole = record { root = h.root; is = p };

@@ -1,4 +1,5 @@
 -- What the constructs of a page do, by their kinds.
+use Rattle.ix_base.specs.declared.limits.TheConstants.{DEEPEST_ELEMENT}
 use Rattle.std.proofs.Common.{◌≡◌, ◌≢◌, ◌∙◌, ◌⊎◌, inl, inr, ℕ, ◌-◌, ◌≤◌, ◌==◌, Bool, true, false, List, [], ◌∷◌, length, get_or, Option, Some, None, option_map, refl, sym, ap, arith, if◌then◌else◌}
 use Rattle.std.specs.Option.{option_map_or}
 use Rattle.page_tree.specs.Break.{w}
@@ -20,8 +21,8 @@ use Rattle.fact_trace.proofs.HeardLaws.{meant-of}
 use Rattle.fact_trace.proofs.SlashLaws.{kind_move, kind-moves, slashes}
 use Rattle.fact_trace.proofs.SpeltLaws.{each-reach, listed, tag-slashes}
 
-pub whole-unbroken : (b : List ℕ) → IsWhole b → w b 256 ≡ None
-whole-unbroken b h = unbroken b 256 h.root h.is
+pub whole-unbroken : (b : List ℕ) → IsWhole b → w b DEEPEST_ELEMENT ≡ None
+whole-unbroken b h = unbroken b DEEPEST_ELEMENT h.root h.is
 
 abbrev MeansSome : Construct → Type 0
 MeansSome c = (t : Token) × Means c t

@@ -1,4 +1,5 @@
 -- What the spans of items say.
+use Rattle.ix_base.specs.declared.limits.TheConstants.{DEEPEST_ELEMENT}
 use Rattle.std.proofs.Common.{◌≡◌, ◌∙◌, ℕ, zero, suc, ◌<◌, false, List, [], ◌∷◌, ◌++◌, length, map, All, refl, sym, ap, subst, arith, if◌then◌else◌}
 use Rattle.std.specs.List.{Contains, flat_map}
 use Rattle.std.proofs.lemmas.List.Concat.{flat_map-append}
@@ -39,7 +40,7 @@ lying-says ps l new t =
     let o = t.of_page in
     said-named ps name b (named-bytes ps l.page new t.within) (element_spans b l.tree)
     ∙ All-contains (λ (e : Placed). flat_map (said b) (map (span_of name) (element_spans b e.tree)) ≡ plain e.tree.children) (elements_of o.root) (placed_at l.tree o.above)
-    (spans-text name b 256 o.root o.is) o.there
+    (spans-text name b DEEPEST_ELEMENT o.root o.is) o.there
 
 all-say : (ps : List Source) (ls : List Lying) → AreNew (names_of ps) → All (IsText ps) ls → flat_map (said_on ps) (flat_map (spans_in ps) ls) ≡ flat_map (λ l. plain l.tree.children) ls
 all-say ps [] new h = refl
@@ -49,8 +50,8 @@ all-say ps (l ∷ ls) new h =
 
 are-pages : (ps : List Source) → HaveTrees ps → ArePages ps
 are-pages [] h n l = absurd (omega arith)
-are-pages (p ∷ ps) h zero l = All-head (λ q. page q.bytes 256 q.tree) p ps h
-are-pages (p ∷ ps) h (suc n) l = are-pages ps (All-tail (λ q. page q.bytes 256 q.tree) p ps h) n (omega arith)
+are-pages (p ∷ ps) h zero l = All-head (λ q. page q.bytes DEEPEST_ELEMENT q.tree) p ps h
+are-pages (p ∷ ps) h (suc n) l = are-pages ps (All-tail (λ q. page q.bytes DEEPEST_ELEMENT q.tree) p ps h) n (omega arith)
 
 pub items-say : (ps : List Source) → HaveTrees ps → AreNew (names_of ps) → (e : Located) → Contains (elements ps) e → is_nil e ≡ false
     → flat_map (said_on ps) (spans ps e) ≡ flat_map (λ l. plain l.tree.children) (text_elements (asks (elements ps)) e)

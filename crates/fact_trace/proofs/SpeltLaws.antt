@@ -1,4 +1,5 @@
 -- Where the text of each construct stands among the bytes of its page.
+use Rattle.ix_base.specs.declared.limits.TheConstants.{DEEPEST_ELEMENT}
 use Rattle.std.proofs.Common.{◌≡◌, ◌∙◌, ℕ, zero, suc, ◌+◌, ◌-◌, ◌<◌, ◌≤◌, ◌==◌, Bool, true, false, ◌&&◌, if◌then◌else◌, List, [], ◌∷◌, ◌++◌, Contains, length, take, drop, get_or, map, Option, Some, None, refl, sym, ap, subst, append_assoc, length-append, arith}
 use Rattle.std.proofs.lemmas.List.{length-drop, length-take, get_or-drop, take-append-drop}
 use Rattle.page_tree.specs.Break.{w}
@@ -106,7 +107,7 @@ cut-spelt (suc n) first at [] = by (whole_size true first []) refl where
 cut-spelt (suc n) first at (c ∷ rest) =
     both-spelt n first at c rest (whole_size true first (values (raw false at (c ∷ rest)))) (whole_size true first (c ∷ rest)) refl refl (whole-past first (c ∷ rest) at) (λ b bs. cut-spelt n false b bs)
 
-pub all-spelt : (b : List ℕ) → w b 256 ≡ None → Each (IsSpelt true (mark_size b) (drop (mark_size b) b)) (cut b).constructs
+pub all-spelt : (b : List ℕ) → w b DEEPEST_ELEMENT ≡ None → Each (IsSpelt true (mark_size b) (drop (mark_size b) b)) (cut b).constructs
 all-spelt b u =
     let c = whole-cut b u in
     let at = mark_size b in
@@ -166,7 +167,7 @@ pub record IsThere (b : List ℕ) (from : ℕ) (r : Reach) : Type 0 where
   pub size_fits : size ≤ length (raw false from (drop from b))
   pub past : drop size (raw false from (drop from b)) ≡ raw false (from + bytes) (drop bytes (drop from b))
 
-pub is-there : (b : List ℕ) (from : ℕ) (r : Reach) → w b 256 ≡ None → reach_at (reaches b) from ≡ Some r → IsThere b from r
+pub is-there : (b : List ℕ) (from : ℕ) (r : Reach) → w b DEEPEST_ELEMENT ≡ None → reach_at (reaches b) from ≡ Some r → IsThere b from r
 is-there b from r u e =
     let m = mark_size b in
     let D = drop m b in
@@ -204,7 +205,7 @@ pub record IsTagAt (b : List ℕ) (from : ℕ) (r : Reach) : Type 0 where
   pub high : r.end ≤ length b
   pub slash : slashes r.what.text ≡ (get_or b (r.end - 2) 0 == 47)
 
-pub tag-slashes : (b : List ℕ) (from : ℕ) (r : Reach) → w b 256 ≡ None → reach_at (reaches b) from ≡ Some r → r.what.kind ≡ StartTag → IsTagAt b from r
+pub tag-slashes : (b : List ℕ) (from : ℕ) (r : Reach) → w b DEEPEST_ELEMENT ≡ None → reach_at (reaches b) from ≡ Some r → r.what.kind ≡ StartTag → IsTagAt b from r
 tag-slashes b from r u e k =
     let x = is-there b from r u e in
     let cs = drop from b in

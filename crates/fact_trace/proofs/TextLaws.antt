@@ -3,6 +3,7 @@ use Rattle.std.proofs.Common.{◌≡◌, ◌∙◌, ⊎_elim, ℕ, zero, suc, �
 use Rattle.std.specs.List.{Contains}
 use Rattle.std.specs.Option.{is_some, option_or}
 use Rattle.std.specs.Prelude.{unwrap_or}
+use Rattle.ix_base.specs.declared.limits.TheConstants.{DEEPEST_ELEMENT}
 use Rattle.std.proofs.lemmas.List.Elements.{All-append, All-contains_itself, All-cons, All-head, All-map, All-nil, All-tail, All-weaker, Contains-append_cases, Contains-append_left, Contains-append_right}
 use Rattle.ix_base.specs.declared.kind.Kind.{Kind}
 use Rattle.ix_base.specs.declared.kind.Kind.TheVariants as kind
@@ -83,14 +84,14 @@ element-stands ps x h =
 
 -- each page is of its tree
 pub page-at : (m : ℕ) (pages : List Page) (n : ℕ) → ArePagesFrom m pages → n < length (sources_of pages)
-    → page (source_at (sources_of pages) n).bytes 256 (source_at (sources_of pages) n).tree
+    → page (source_at (sources_of pages) n).bytes DEEPEST_ELEMENT (source_at (sources_of pages) n).tree
 page-at m [] n h l = absurd (omega arith)
 page-at m (p ∷ pages) zero h l = h.0.0
 page-at m (p ∷ pages) (suc n) h l = page-at (suc m) pages n h.1 (omega arith)
 
 -- each is a page of its tree
 abbrev pub ArePages : List Source → Type 0
-ArePages ps = (n : ℕ) → n < length ps → page (source_at ps n).bytes 256 (source_at ps n).tree
+ArePages ps = (n : ℕ) → n < length ps → page (source_at ps n).bytes DEEPEST_ELEMENT (source_at ps n).tree
 
 text-in : (ps : List Source) (x : Located) → ArePages ps → Contains (elements ps) x → IsText ps (lying_at x)
 text-in ps x h k =

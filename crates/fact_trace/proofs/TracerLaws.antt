@@ -1,4 +1,5 @@
 -- What a tracer keeps, and what its pages say that break no rule.
+use Rattle.ix_base.specs.declared.limits.TheConstants.{DEEPEST_ELEMENT}
 use Rattle.std.proofs.Common.{◌≡◌, ◌∙◌, inl, inr, ⊎_elim, ℕ, suc, ◌+◌, Bool, false, List, [], ◌∷◌, ◌++◌, length, map, All, refl, sym, ap, subst, append_assoc, append-nil, arith, rules as std_rules}
 use Rattle.std.specs.List.{Contains, flat_map}
 use Rattle.std.proofs.lemmas.List.{map-append, length-map}
@@ -41,7 +42,7 @@ use Rattle.fact_trace.proofs.AgreeLaws.{Each}
 
 -- One more page.
 
-pages-push : (n : ℕ) (pages : List Page) (p : Page) → ArePagesFrom n pages → page p.bytes.now 256 (tree_of p.root.now) → All (λ k. k ≡ n + length pages) (pages_of p.root.now)
+pages-push : (n : ℕ) (pages : List Page) (p : Page) → ArePagesFrom n pages → page p.bytes.now DEEPEST_ELEMENT (tree_of p.root.now) → All (λ k. k ≡ n + length pages) (pages_of p.root.now)
     → ArePagesFrom n (pages ++ p ∷ [])
 pages-push n [] p h t a = ((t, subst (λ m. All (λ k. k ≡ m) (pages_of p.root.now)) (let e : n + 0 ≡ n = omega arith in e) a), tt)
 pages-push n (q ∷ pages) p h t a = (h.0, pages-push (suc n) pages p h.1 t (subst (λ m. All (λ k. k ≡ m) (pages_of p.root.now)) (let e : n + suc (length pages) ≡ suc n + length pages = omega arith in e) a))
@@ -68,7 +69,7 @@ root-number : (e : Element) (n : ℕ) → All (λ k. k ≡ n) (pages_of e) → e
 root-number e n h = All-head (λ k. k ≡ n) e.place.page (flat_map pages_in e.children.now) (subst (All (λ k. k ≡ n)) (element-pages e) h)
 
 pub keeps-more : (pages more : List Page) (p : Page) (old new : HeldIndex) → more ≡ pages ++ p ∷ [] → Keeps pages old
-    → page p.bytes.now 256 (tree_of p.root.now) → All (λ k. k ≡ length (sources_of pages)) (pages_of p.root.now) → (Contains (map (λ s. s.name) (sources_of pages)) p.name → ⊥)
+    → page p.bytes.now DEEPEST_ELEMENT (tree_of p.root.now) → All (λ k. k ≡ length (sources_of pages)) (pages_of p.root.now) → (Contains (map (λ s. s.name) (sources_of pages)) p.name → ⊥)
     → new ≡ record { spots = old.spots ++ page_marked p.root.now.place.page (tree_of p.root.now); choices = old.choices; is_spent = false }
     → Keeps more new
 keeps-more pages more p old new m k t a f i =
@@ -89,7 +90,7 @@ keeps-more pages more p old new m k t a f i =
 -- Pages that break no rule.
 
 abbrev pub AreOfTrees : List Source → Type 0
-AreOfTrees ps = Each (λ p. page p.bytes 256 p.tree) ps
+AreOfTrees ps = Each (λ p. page p.bytes DEEPEST_ELEMENT p.tree) ps
 
 pub of-trees : (n : ℕ) (pages : List Page) → ArePagesFrom n pages → AreOfTrees (sources_of pages)
 of-trees n [] h = tt
@@ -103,11 +104,11 @@ same-trees : (ps : List Source) (trees : List Tree) → AreOfTrees ps → AreTre
 same-trees [] trees h t = refl
 same-trees (p ∷ ps) [] h t = absurd t
 same-trees (p ∷ ps) (t ∷ trees) h k =
-    (λ i. record { name = p.name; tree = one p.bytes 256 t p.tree k.0 h.0 i } ∷ same-trees ps trees h.1 k.1 i)
+    (λ i. record { name = p.name; tree = one p.bytes DEEPEST_ELEMENT t p.tree k.0 h.0 i } ∷ same-trees ps trees h.1 k.1 i)
 
-all-sound : (ps : List Source) → AreOfTrees ps → All (λ p. IsSoundTree p.tree 256) (map paged ps)
-all-sound [] h = All-nil (λ (p : Paged). IsSoundTree p.tree 256)
-all-sound (p ∷ ps) h = All-cons (λ (q : Paged). IsSoundTree q.tree 256) (paged p) (map paged ps) (page-sound p.bytes 256 p.tree h.0) (all-sound ps h.1)
+all-sound : (ps : List Source) → AreOfTrees ps → All (λ p. IsSoundTree p.tree DEEPEST_ELEMENT) (map paged ps)
+all-sound [] h = All-nil (λ (p : Paged). IsSoundTree p.tree DEEPEST_ELEMENT)
+all-sound (p ∷ ps) h = All-cons (λ (q : Paged). IsSoundTree q.tree DEEPEST_ELEMENT) (paged p) (map paged ps) (page-sound p.bytes DEEPEST_ELEMENT p.tree h.0) (all-sound ps h.1)
 
 pub whole-comes : (ps : List Source) → AreOfTrees ps → (u : BreakNoRule ps) → ComesTo (as_set u.base ps) (Whole u.targets)
 whole-comes ps h u = by u.come where
@@ -136,7 +137,7 @@ unbroken-links s c =
 
 pub have-trees : (ps : List Source) → HaveTrees ps → AreOfTrees ps
 have-trees [] h = tt
-have-trees (p ∷ ps) h = (All-head (λ q. page q.bytes 256 q.tree) p ps h, have-trees ps (All-tail (λ q. page q.bytes 256 q.tree) p ps h))
+have-trees (p ∷ ps) h = (All-head (λ q. page q.bytes DEEPEST_ELEMENT q.tree) p ps h, have-trees ps (All-tail (λ q. page q.bytes DEEPEST_ELEMENT q.tree) p ps h))
 
 pub are-apart : (ps : List Source) → AreOfTrees ps → BreakNoRule ps → AreApart (elements ps)
 are-apart ps h u = elements-apart (as_set u.base ps) (clean-of ps h u)

@@ -1,4 +1,5 @@
 -- From one construct of a page to the next.
+use Rattle.ix_base.specs.declared.limits.TheConstants.{DEEPEST_ELEMENT}
 use Rattle.std.proofs.Common.{◌≡◌, ◌∙◌, ◌⊎◌, inl, inr, ⊎_elim, ℕ, zero, suc, ◌+◌, ◌-◌, ◌<◌, ◌≤◌, ◌==◌, Bool, true, false, ◌&&◌, List, [], ◌∷◌, ◌++◌, length, drop, get_or, map, Contains, Option, Some, None, option_map, is_none, refl, sym, ap, subst, add-one, arith, if◌then◌else◌}
 use Rattle.std.proofs.lemmas.List.{length-drop}
 use Rattle.std.proofs.Math.Seq.{drop-cons}
@@ -136,7 +137,7 @@ goes-on end low (x ∷ d ∷ cs) from r c h e = by (x.start == from) refl e (goe
       }
 
 -- each construct of a page begins before the page ends
-all-below : (b : List ℕ) → w b 256 ≡ None → AreBelow (length b) (cut b).constructs
+all-below : (b : List ℕ) → w b DEEPEST_ELEMENT ≡ None → AreBelow (length b) (cut b).constructs
 all-below b u =
     let m = mark_size b in
     each-mapped (IsSpelt true m (drop m b)) (λ c. c.start < length b)

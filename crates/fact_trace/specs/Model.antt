@@ -1,5 +1,6 @@
 -- What is to be known of a tracer, and of its pages.
 use Rattle.std.specs.Prelude.{◌≡◌, ◌<◌, ℕ, suc, Bool, false, List, [], ◌∷◌, All, Contains, length, map, refl}
+use Rattle.ix_base.specs.declared.limits.TheConstants.{DEEPEST_ELEMENT}
 use Rattle.std.specs.Coded.{Coded, code_by, coded×, coded_ℕ, coded_list, coded_bool}
 use Rattle.ix_base.specs.Elements.{pages_of}
 use Rattle.ix_base.specs.TreeCodes.{tree_code}
@@ -24,7 +25,7 @@ sources_of ps = map source_of ps
 -- the roots are the trees of the bytes, and of pages numbered on from this number
 abbrev pub ArePagesFrom : ℕ → List Page → Type 0
 ArePagesFrom n [] = Unit {0}
-ArePagesFrom n (p ∷ ps) = (page p.bytes.now 256 (tree_of p.root.now) × All (λ k. k ≡ n) (pages_of p.root.now)) × ArePagesFrom (suc n) ps
+ArePagesFrom n (p ∷ ps) = (page p.bytes.now DEEPEST_ELEMENT (tree_of p.root.now) × All (λ k. k ≡ n) (pages_of p.root.now)) × ArePagesFrom (suc n) ps
 
 -- no name stands twice
 abbrev pub AreNew : List (List ℕ) → Type 0

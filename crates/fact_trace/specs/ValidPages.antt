@@ -1,5 +1,6 @@
 -- Pages with their trees that break no rule.
 use Rattle.std.specs.Prelude.{ℕ, List, All, map}
+use Rattle.ix_base.specs.declared.limits.TheConstants.{DEEPEST_ELEMENT}
 use Rattle.page_tree.specs.Page.{page}
 use Rattle.targets.specs.Breaches.{PagesComeTo}
 use Rattle.targets.specs.declared.outcome.Outcome.TheVariants.{Whole}
@@ -8,7 +9,7 @@ use Rattle.fact_trace.specs.Spans.{Source}
 
 -- the trees are those of the bytes
 abbrev pub HaveTrees : List Source → Type 0
-HaveTrees ps = All (λ p. page p.bytes 256 p.tree) ps
+HaveTrees ps = All (λ p. page p.bytes DEEPEST_ELEMENT p.tree) ps
 
 abbrev pub names_of : List Source → List (List ℕ)
 names_of ps = map (λ p. p.name) ps

@@ -1,5 +1,6 @@
 -- The ways through the elements of a page, from construct to construct.
 use Rattle.std.specs.Prelude.{◌≡◌, ℕ, ◌==◌, ◌≤◌, Bool, List, [], ◌∷◌, Contains, drop, Some, if◌then◌else◌}
+use Rattle.ix_base.specs.declared.limits.TheConstants.{DEEPEST_ELEMENT}
 use Rattle.std.specs.Option.{option_map_or}
 use Rattle.ix_base.specs.Elements.{elements_of, placed_at}
 use Rattle.ix_base.specs.Trees.{Tree}
@@ -15,7 +16,7 @@ use Rattle.fact_trace.specs.declared.span.Span.{Span}
 -- the bytes are a page of some tree
 pub record IsWhole (b : List ℕ) : Type 0 where
   pub root : Tree
-  pub is : page b 256 root
+  pub is : page b DEEPEST_ELEMENT root
 
 -- what a start tag at an offset does, or an empty-element tag
 abbrev pub tag_move : Bool → ℕ → Move
@@ -44,7 +45,7 @@ from_on (r ∷ rs) at = if r.what.start == at then r ∷ rs else from_on rs at
 pub record IsOfPage (b : List ℕ) (t : Tree) : Type 0 where
   pub root : Tree
   pub above : List Tree
-  pub is : page b 256 root
+  pub is : page b DEEPEST_ELEMENT root
   pub there : Contains (elements_of root) (placed_at t above)
 
 -- of these numbers the first so many needn't be asked for one that is no lower than this

@@ -1,5 +1,6 @@
 //! Tracers, to which pages are added one by one.
 ghost use Rattle.std.specs.Prelude.{◌≡◌, ◌++◌, ◌∷◌, [], false, true, All, Contains, IfOk, IsErr, List as Items, OnErr, OnOk, length};
+ghost use Rattle.ix_base.specs.declared.limits.TheConstants.{DEEPEST_ELEMENT};
 ghost use Rattle.std.specs.List.Sorted.{IsPermutation};
 ghost use Rattle.ix_base.specs.Elements.{pages_of};
 ghost use Rattle.ix_base.specs.LinkRules.{breaking};
@@ -101,7 +102,7 @@ impl<'a> Tracer<'a> {
         bytes: &'a [u8],
         root: &'a Element<'a>,
     ) -> Result<(), NoMemory>
-        requires tree { page_of bytes.now 256 (tree_of root.now) }
+        requires tree { page_of bytes.now DEEPEST_ELEMENT (tree_of root.now) }
         requires number { All (λ n. n ≡ length self.old.sources) (pages_of root.now) }
         requires spaces { AreNumbered (spaces_of root.now) }
         requires fresh { ¬ Contains (names_of self.old.sources) name.now }
@@ -123,6 +124,19 @@ impl<'a> Tracer<'a> {
         Ok(())
     }
 
+    /// The items of the pages with their spans, in order.
+    fn traced(&self) -> Result<List<Traced>, NoMemory>
+        requires { BreakNoRule self.now.sources }
+        ensures traced { IfOk result (λ l. l ≡ traces self.now.sources) }
+        ensures rearranged { IfOk result (λ l. (others : Items Source) → IsPermutation self.now.sources others → l ≡ traces others) }
+        ensures spent { self.now.is_spent ≡ true → IsErr result }
+    {
+        if self.is_spent {
+            return Err(NoMemory);
+        }
+        traced_all(self.alloc, self.arena, self.pages.as_slice(), &self.index)
+    }
+
     /// Every item of the pages with its spans, by the bytes of the pages' names and then by offset. The same pages give the same in
     /// every order.
     pub fn finish(self) -> Result<List<Traced>, NoMemory>
@@ -131,9 +145,6 @@ impl<'a> Tracer<'a> {
         ensures rearranged { IfOk result (λ l. (others : Items Source) → IsPermutation self.entry.sources others → l ≡ traces others) }
         ensures spent { self.entry.is_spent ≡ true → IsErr result }
     {
-        if self.is_spent {
-            return Err(NoMemory);
-        }
-        traced_all(self.alloc, self.arena, self.pages.as_slice(), &self.index)
+        self.traced()
     }
 }

@@ -140,6 +140,21 @@ fn enter_all<'a>(
     Ok(())
 }
 
+/// Enters the arcs of a relationship, with what it says of them.
+fn enter_relationship<'a>(
+    alloc: Global,
+    arena: &'a Bump,
+    relationship: &Relationship<'a>,
+    table: &mut GroupTable<'a>,
+) -> Result<(), NoMemory>
+    ensures { OnOk result ((q : Items ℕ) → arcs_along (groups_at table.new q) ≡ arcs_along (groups_at table.old q)
+        ++ arcs_from (seen relationship.now) (all_located relationship.now.ends.spots.now) q
+        (all_located relationship.now.sources.spots.now)) }
+{
+    let attributes = attributes_of(alloc, arena, relationship.spot)?;
+    enter_all(relationship, attributes, table)
+}
+
 /// The arcs of all relationships, by the targets of the facts from which they go.
 pub(crate) fn groups_of<'a>(
     alloc: Global,
@@ -153,8 +168,7 @@ pub(crate) fn groups_of<'a>(
 {
     let mut table = TextMap::new(alloc);
     for relationship in relationships {
-        let attributes = attributes_of(alloc, arena, relationship.spot)?;
-        enter_all(relationship, attributes, &mut table)?;
+        enter_relationship(alloc, arena, relationship, &mut table)?;
     }
     Ok(table)
 }

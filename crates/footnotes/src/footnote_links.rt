@@ -176,9 +176,9 @@ fn links_of<'a>(
     requires { AreOnPages chains.now (length bases.now.pages) }
     ensures { IfOk result (λ l. l ≡ links_by (note_in (base_in bases.now.pages) chains.now) (arcs_along groups.now)) }
 {
-    let table = by_role(alloc, groups)?;
     let mut roles = roles_of(alloc, groups)?;
     each_once(&mut roles);
+    let table = by_role(alloc, groups)?;
     links_in(alloc, &table, roles.as_slice(), chains, bases)
 }
 

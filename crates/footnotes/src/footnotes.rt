@@ -101,6 +101,16 @@ fn body_of<'a>(
     Ok(body)
 }
 
+/// The id and the role of a footnote.
+fn names_of(alloc: Global, spot: &Spot<'_>) -> Result<(Text, Text), NoMemory>
+    ensures id { IfOk result (λ n. n.0 ≡ label (located spot.now)) }
+    ensures role { IfOk result (λ n. n.1 ≡ footnote_links.footnote_role (located spot.now)) }
+{
+    let id = Text::of(alloc, label_of(spot))?;
+    let role = Text::of(alloc, footnote_role(spot))?;
+    Ok((id, role))
+}
+
 /// A footnote, with the markup of the chain that is kept for it.
 fn footnote_of<'a>(
     alloc: Global,
@@ -111,12 +121,16 @@ fn footnote_of<'a>(
     requires { AreOnPages chains.now (length bases.now.pages) }
     ensures { IfOk result (λ f. f ≡ note_in (base_in bases.now.pages) chains.now (located spot.entry.now)) }
 {
+    let (id, role) = names_of(alloc, spot)?;
+    let title = title_of(alloc, spot.element)?;
+    let lang = Text::of(alloc, lang_of(spot))?;
+    let body = body_of(alloc, spot, chains, bases)?;
     Ok(Footnote {
-        id: Text::of(alloc, label_of(spot))?,
-        role: Text::of(alloc, footnote_role(spot))?,
-        title: title_of(alloc, spot.element)?,
-        lang: Text::of(alloc, lang_of(spot))?,
-        body: body_of(alloc, spot, chains, bases)?,
+        id,
+        role,
+        title,
+        lang,
+        body,
     })
 }
 
@@ -229,8 +243,8 @@ pub(crate) fn footnotes_of<'a>(
         (filter_map (λ id. last_called id notes None) (in_order text_cmp (map label notes)))) }
 {
     let notes = notes_of(alloc, groups)?;
-    let called = called_of(alloc, notes.as_slice())?;
     let mut ids = ids_of(alloc, notes.as_slice())?;
     each_once(&mut ids);
+    let called = called_of(alloc, notes.as_slice())?;
     footnotes_at(alloc, &called, ids.as_slice(), chains, bases)
 }

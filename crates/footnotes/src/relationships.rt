@@ -3,6 +3,7 @@ ghost use Rattle.std.specs.Prelude.{◌≡◌, ◌++◌, ◌||◌, ◌∷◌, []
 ghost use Rattle.std.specs.List.{list_any, filter_map};
 ghost use Rattle.ix_base.specs.Ids as ids;
 ghost use Rattle.ix_base.specs.LinkRules as rules_of;
+ghost use Rattle.ix_base.specs.LocatedElements as kinds;
 ghost use Rattle.ix_base.specs.LocatedElements.{located};
 ghost use Rattle.id_table.specs.Model.{asked};
 ghost use Rattle.id_table.specs.Tables.{all_located};
@@ -135,6 +136,38 @@ pub(crate) struct Relationship<'a> {
     pub ends: NamedElements<'a>,
 }
 
+/// What the ids name from which a relationship goes.
+fn sources_of<'a>(
+    alloc: Global,
+    arena: &'a Bump,
+    index: &Index<'a>,
+    spot: &Spot<'a>,
+) -> Result<NamedElements<'a>, NoMemory>
+    ensures spots { IfOk result (λ n. all_located n.spots.now
+        ≡ rules_of.named_by kinds.is_fact (asked index.now) (rules_of.from_ids (located spot.now))) }
+    ensures missing { IfOk result (λ n. n.is_missing
+        ≡ list_any (λ id. is_none (ids.one_such kinds.is_fact (asked index.now) id)) (rules_of.from_ids (located spot.now))) }
+{
+    let from = from_ids(alloc, spot)?;
+    named_by(arena, index, End::From, from.as_slice())
+}
+
+/// What the ids name to which a relationship goes.
+fn ends_of<'a>(
+    alloc: Global,
+    arena: &'a Bump,
+    index: &Index<'a>,
+    spot: &Spot<'a>,
+) -> Result<NamedElements<'a>, NoMemory>
+    ensures missing { IfOk result (λ n. n.is_missing
+        ≡ list_any (λ id. is_none (ids.one_such rules_of.is_end (asked index.now) id)) (rules_of.to_ids (located spot.now))) }
+    ensures spots { IfOk result (λ n. all_located n.spots.now
+        ≡ rules_of.named_by rules_of.is_end (asked index.now) (rules_of.to_ids (located spot.now))) }
+{
+    let to = to_ids(alloc, spot)?;
+    named_by(arena, index, End::To, to.as_slice())
+}
+
 /// A relationship with what its ids name.
 fn relationship_of<'a>(
     alloc: Global,
@@ -145,10 +178,8 @@ fn relationship_of<'a>(
     ensures seen { IfOk result (λ r. seen r ≡ located spot.entry.now) }
     ensures known { IfOk result (IsKnown (asked index.now)) }
 {
-    let from = from_ids(alloc, spot)?;
-    let to = to_ids(alloc, spot)?;
-    let sources = named_by(arena, index, End::From, from.as_slice())?;
-    let ends = named_by(arena, index, End::To, to.as_slice())?;
+    let sources = sources_of(alloc, arena, index, spot)?;
+    let ends = ends_of(alloc, arena, index, spot)?;
     Ok(Relationship {
         spot,
         sources,

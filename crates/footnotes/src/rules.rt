@@ -233,6 +233,26 @@ fn relations_by<'a>(
     Ok(relations_from(groups))
 }
 
+/// Adds exactly the breaches of the rules on relationships, and gives the relations that these make.
+fn related<'a>(
+    alloc: Global,
+    arena: &'a Bump,
+    index: &Index<'a>,
+    relationships: &[Relationship<'a>],
+    breaches: &mut Breaches,
+) -> Result<Relations<'a>, NoMemory>
+    requires seen { all_seen relationships.now ≡ filter is_relationship index.now.spots }
+    requires known { All (IsKnown (asked index.now)) relationships.now }
+    ensures relations { IfOk result (λ r. AreRelationsOf r index.now.spots) }
+    ensures ok { OnOk result (breaches.new ≡ breaches.old ++ breaking L11 index.now.spots ++ breaking L15 index.now.spots
+        ++ breaking L16 index.now.spots) }
+    ensures err { OnErr result (AppendsFront (breaking L11 index.now.spots ++ breaking L15 index.now.spots
+        ++ breaking L16 index.now.spots) breaches.old breaches.new) }
+{
+    add_breaches(index, relationships, breaches)?;
+    relations_by(alloc, arena, index, relationships)
+}
+
 /// Adds exactly the breaches of the rules on relationships, and gives the relations of the set, also where there are
 /// breaches. Each id of a relationship is looked up once, and none of its arcs is made. After a refusal a front of the
 /// breaches may have been added.
@@ -249,6 +269,5 @@ pub fn relate<'a>(
     ensures relations { IfOk result (λ r. AreRelationsOf r index.now.spots) }
 {
     let relationships = relationships_of(alloc, arena, index)?;
-    add_breaches(index, relationships.as_slice(), breaches)?;
-    relations_by(alloc, arena, index, relationships.as_slice())
+    related(alloc, arena, index, relationships.as_slice(), breaches)
 }

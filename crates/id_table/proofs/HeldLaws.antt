@@ -1,6 +1,6 @@
 -- What an index gives for an id.
 use Rattle.std.proofs.Common.{◌≡◌, ◌∙◌, ◌++◌, Bool, true, false, cond, not, ◌&&◌, ◌||◌, ℕ, List, [], ◌∷◌, length, map, nat_lt, Vec, All, refl, sym, ap, subst, inl, inr, Option, Some, None, option_map, bytes_eq, is_none, is_some}
-use Rattle.std.proofs.lemmas.Bool.{le-ltb}
+use Rattle.std.proofs.lemmas.Bool.{le-ltb, ltb-false}
 use Rattle.std.proofs.lemmas.List.{length-map}
 use Rattle.std.proofs.lemmas.List.Elements.{All-filter, All-map, Contains-append_left}
 use Rattle.std.specs.Borrow.{Bor}
@@ -261,6 +261,16 @@ held-apart ids tuples spots has each apart h e = record {
       ∙ ap (nat_lt 1) (sym (ap length (each id) ∙ count-map (λ (s : Bor Spot). located s.now) (holds_tuple_id id) spots))
       ∙ le-ltb 1 (length (spots_at tuples id)) (apart.by_tuple_id id);
 }
+
+pub held-met : (ids : Texts Sharers) (tuples : Texts (Vec (Bor Spot) Global)) (spots : List (Bor Spot)) → HasEntries ids spots
+    → HasEach tuple_id_of tuples spots → ¬ AreApart ids tuples → (h : Held) → all_located spots ≡ h.spots → ¬ IsApart h
+held-met ids tuples spots has each met h e apart = met (record {
+  by_id = λ id. ltb-false 1 (length (entries_at ids id))
+      (ap (nat_lt 1) (held-count ids spots has id) ∙ ap (λ (es : List Located). nat_lt 1 ((asks es).count (holds_id id))) e ∙ apart.ids id);
+  by_tuple_id = λ id. ltb-false 1 (length (spots_at tuples id))
+      (ap (nat_lt 1) (ap length (each id) ∙ count-map (λ (s : Bor Spot). located s.now) (holds_tuple_id id) spots)
+      ∙ ap (λ (es : List Located). nat_lt 1 ((asks es).count (holds_tuple_id id))) e ∙ apart.tuple_ids id);
+})
 
 pub none-doubled : (h : Held) → IsApart h → (es : List Located) → flat_map (doubled_at h) es ≡ []
 none-doubled h apart [] = refl

@@ -1,10 +1,12 @@
 //! Tables from an id to the elements that have it, each with its kind.
-ghost use Rattle.std.specs.Prelude.{◌≡◌, ◌++◌, ◌∷◌, [], IfOk, OnOk, false, option_map};
+ghost use Rattle.std.specs.Prelude.{◌≡◌, ◌++◌, ◌∷◌, [], IfOk, OnOk, option_map};
 ghost use Rattle.std.specs.Option.{option_map_or};
 ghost use Rattle.ix_base.specs.Asks.{only};
+ghost use Rattle.ix_base.specs.Elements.{placed};
 ghost use Rattle.ix_base.specs.Ids as ids;
+ghost use Rattle.ix_base.specs.Kinds as kinds;
 ghost use Rattle.ix_base.specs.LocatedElements.{located};
-ghost use Rattle.id_table.specs.Tables.{IsAlone, IsEntered, entries_at, entries_of, entry_for};
+ghost use Rattle.id_table.specs.Tables.{IsEntered, entries_at, entries_of, entry_for, is_shared};
 
 use ix_base::{Kind, NoMemory, Spot, kind_of};
 use link_ids::id_at;
@@ -80,22 +82,22 @@ fn sharers_with<'a>(
     }
 }
 
-/// Enters an element at its id, where it has one. Says whether another has it.
+/// Enters an element of a kind at its id, where it has one. Says whether another has it, too.
 pub fn enter_entry<'a>(
     alloc: Global,
     entries: &mut Entries<'a>,
     spot: &'a Spot<'a>,
+    kind: Kind,
 ) -> Result<bool, NoMemory>
+    requires { kind ≡ kinds.kind_of (placed spot.now) }
     ensures entered { OnOk result (IsEntered entries.old entries.new (ids.id_of (located spot.entry.now)) spot.entry) }
-    ensures alone { IfOk result (λ is_shared. is_shared ≡ false
-        → IsAlone (entries_at entries.new) (ids.id_of (located spot.entry.now))) }
+    ensures shared { IfOk result (λ s. s ≡ is_shared (entries_at entries.new) (ids.id_of (located spot.entry.now))) }
 {
     let Some(id) = id_at(spot) else {
         return Ok(false);
     };
-    let before = entries.remove(id);
-    let is_shared = before.is_some();
-    let sharers = sharers_with(alloc, before, entry_of(spot))?;
+    let sharers = sharers_with(alloc, entries.remove(id), Entry { kind, spot })?;
+    let is_shared = sharers.as_slice().len() > 1;
     entries.insert(id, sharers)?;
     Ok(is_shared)
 }

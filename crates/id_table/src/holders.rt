@@ -1,9 +1,9 @@
 //! Tables from an id to the elements that have it.
-ghost use Rattle.std.specs.Prelude.{◌≡◌, OnOk, OnErr, IfOk, false, option_map, length};
+ghost use Rattle.std.specs.Prelude.{◌≡◌, OnOk, OnErr, IfOk, option_map, length};
 ghost use Rattle.ix_base.specs.Asks.{only};
 ghost use Rattle.ix_base.specs.Ids.{tuple_id_of};
 ghost use Rattle.ix_base.specs.LocatedElements.{located};
-ghost use Rattle.id_table.specs.Tables.{Entered, IsAlone, SameSpots, spots_at};
+ghost use Rattle.id_table.specs.Tables.{Entered, SameSpots, is_shared, spots_at};
 
 use ix_base::{NoMemory, Spot};
 use link_ids::tuple_id_at;
@@ -27,11 +27,10 @@ pub fn enter<'a>(
     Ok(())
 }
 
-/// Enters a tuple at its tuple id, where an element has one. Says whether another has it.
+/// Enters a tuple at its tuple id, where an element has one. Says whether another has it, too.
 pub fn enter_tuple<'a>(tuples: &mut Holders<'a>, spot: &'a Spot<'a>) -> Result<bool, NoMemory>
     ensures entered { OnOk result (Entered tuples.old tuples.new (tuple_id_of (located spot.entry.now)) spot.entry) }
-    ensures alone { IfOk result (λ is_shared. is_shared ≡ false
-        → IsAlone (spots_at tuples.new) (tuple_id_of (located spot.entry.now))) }
+    ensures shared { IfOk result (λ s. s ≡ is_shared (spots_at tuples.new) (tuple_id_of (located spot.entry.now))) }
 {
     let Some(id) = tuple_id_at(spot) else {
         return Ok(false);

@@ -253,7 +253,8 @@ impl<'a> Index<'a> {
 
     /// Whether an id or a tuple id was met again. It takes no memory.
     pub fn has_repeats(&self) -> bool
-        ensures { result ≡ false → IsApart self.now }
+        ensures apart { result ≡ false → IsApart self.now }
+        ensures met { result ≡ true → ¬ IsApart self.now }
     {
         self.kept.tables.repeats
     }

@@ -1,10 +1,12 @@
 //! Elements by what they are for links and facts.
 ghost use Rattle.std.specs.Prelude.{◌≡◌, ◌++◌, ◌∷◌, [], OnOk};
 ghost use Rattle.ix_base.specs.LocatedElements as located_elements;
+ghost use Rattle.ix_base.specs.Elements.{placed};
+ghost use Rattle.ix_base.specs.Kinds as kinds;
 ghost use Rattle.ix_base.specs.LocatedElements.{located};
 ghost use Rattle.id_table.specs.Tables.{AreSorted, is_other as spec_is_other, spots_where};
 
-use ix_base::{NoMemory, Spot, is_fact, may_go_on};
+use ix_base::{Kind, NoMemory, Spot, may_go_on};
 use std::alloc::Global;
 
 /// Elements by what they are, each list in order, so that whoever speaks of facts alone, say, doesn't look at all elements. An element
@@ -17,13 +19,6 @@ pub struct Lists<'a> {
     pub of_chains: Vec<&'a Spot<'a>>,
     /// All that are neither.
     pub others: Vec<&'a Spot<'a>>,
-}
-
-/// Whether an element is neither a fact nor one of a chain.
-fn is_other(spot: &Spot<'_>) -> bool
-    ensures { result ≡ spec_is_other (located spot.now) }
-{
-    !is_fact(spot) && !may_go_on(spot)
 }
 
 /// Adds an element to a list, where it is one for it.
@@ -52,8 +47,9 @@ impl<'a> Lists<'a> {
         }
     }
 
-    /// Adds an element at the end.
-    pub fn add(&mut self, spot: &'a Spot<'a>) -> Result<(), NoMemory>
+    /// Adds an element of a kind at the end.
+    pub fn add(&mut self, spot: &'a Spot<'a>, kind: Kind) -> Result<(), NoMemory>
+        requires { kind ≡ kinds.kind_of (placed spot.now) }
         ensures facts { OnOk result (self.new.facts.items
             ≡ self.old.facts.items ++ spots_where (located_elements.is_fact (located spot.now)) spot.entry) }
         ensures chains { OnOk result (self.new.of_chains.items
@@ -61,8 +57,10 @@ impl<'a> Lists<'a> {
         ensures others { OnOk result (self.new.others.items
             ≡ self.old.others.items ++ spots_where (spec_is_other (located spot.now)) spot.entry) }
     {
-        push_where(&mut self.facts, spot, is_fact(spot))?;
-        push_where(&mut self.of_chains, spot, may_go_on(spot))?;
-        push_where(&mut self.others, spot, is_other(spot))
+        let is_fact = kind.is_fact();
+        let is_of_chains = may_go_on(spot);
+        push_where(&mut self.facts, spot, is_fact)?;
+        push_where(&mut self.of_chains, spot, is_of_chains)?;
+        push_where(&mut self.others, spot, !is_fact && !is_of_chains)
     }
 }

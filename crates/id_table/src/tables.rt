@@ -1,6 +1,7 @@
 //! The marked elements of pages, with tables from their ids.
 ghost use Rattle.std.specs.Prelude.{◌≡◌, ◌++◌, ◌∷◌, [], OnOk, filter, All};
-ghost use Rattle.ix_base.specs.Elements.{pages_of};
+ghost use Rattle.ix_base.specs.Elements.{pages_of, placed};
+ghost use Rattle.ix_base.specs.Kinds as kinds;
 ghost use Rattle.ix_base.specs.LocatedElements.{located, is_marked as spec_is_marked, page_marked};
 ghost use Rattle.ix_base.specs.Spaces.{AreNumbered, spaces_of};
 ghost use Rattle.ix_base.specs.Spots.{IsOnOnePage};
@@ -41,17 +42,18 @@ impl<'a> Tables<'a> {
         }
     }
 
-    /// Adds an element at the end.
-    fn add(&mut self, alloc: Global, spot: &'a Spot<'a>) -> Result<(), NoMemory>
+    /// Adds an element of a kind at the end.
+    fn add(&mut self, alloc: Global, spot: &'a Spot<'a>, kind: Kind) -> Result<(), NoMemory>
+        requires kind { kind ≡ kinds.kind_of (placed spot.now) }
         requires whole { AreWhole self.old.ids self.old.tuples self.old.lists self.old.repeats self.old.spots.items }
         requires page { IsOnOnePage spot.now }
         ensures spots { OnOk result (self.new.spots.items ≡ self.old.spots.items ++ spot.entry ∷ []) }
         ensures whole { OnOk result (AreWhole self.new.ids self.new.tuples self.new.lists self.new.repeats self.new.spots.items) }
     {
-        let shares_id = enter_entry(alloc, &mut self.ids, spot)?;
+        let shares_id = enter_entry(alloc, &mut self.ids, spot, kind)?;
         let shares_tuple_id = enter_tuple(&mut self.tuples, spot)?;
         self.repeats |= shares_id | shares_tuple_id;
-        self.lists.add(spot)?;
+        self.lists.add(spot, kind)?;
         self.spots.push(spot)?;
         Ok(())
     }
@@ -64,10 +66,10 @@ impl<'a> Tables<'a> {
             ≡ all_located self.old.spots.items ++ filter spec_is_marked (located spot.entry.now ∷ [])) }
         ensures whole { OnOk result (AreWhole self.new.ids self.new.tuples self.new.lists self.new.repeats self.new.spots.items) }
     {
-        if is_marked(spot) {
-            return self.add(alloc, spot);
+        match kind_of(spot) {
+            Kind::Other => Ok(()),
+            kind => self.add(alloc, spot, kind),
         }
-        Ok(())
     }
 
     /// Adds the marked elements among the spots of a page.
@@ -102,11 +104,4 @@ impl<'a> Tables<'a> {
         walk(arena, root, None, &mut spots)?;
         self.add_all(alloc, spots.as_slice())
     }
-}
-
-/// Whether the element is one that links, facts or contents speak of.
-fn is_marked(spot: &Spot<'_>) -> bool
-    ensures { result ≡ spec_is_marked (located spot.now) }
-{
-    kind_of(spot) != Kind::Other
 }

@@ -1,4 +1,5 @@
 -- The bodies of what a sound tree denotes are the markup of sound nodes.
+use Rattle.ix_base.specs.declared.limits.TheConstants.{DEEPEST_ELEMENT}
 use Rattle.std.proofs.Common.{◌≡◌, subst, sym, refl, ℕ, suc, Bool, true, false, ◌&&◌, if◌then◌else◌, List, [], ◌∷◌, ◌++◌, map, flat_map, Option, Some, None, codes, arith}
 use Rattle.ix_base.specs.declared.content.Arc.{Arc}
 use Rattle.ix_base.specs.declared.content.Context.{Context}
@@ -105,7 +106,7 @@ footnotes-by true (Some r) None footnotes arcs ok l e = absurd (cc)
 footnotes-by true (Some r) (Some ls) None arcs ok l e = absurd (cc)
 footnotes-by true (Some r) (Some ls) (Some fs) arcs ok l e = footnotes-last (arcs ls fs) (ok ls fs) r (map (λ x. x.1) ls) fs l e
 
-link-bodies : (t : Tree) (l : NoteLink) → AreSound 256 t.children → notes_in t ≡ Some l → Each (λ f. IsBody f.body) l.footnotes
+link-bodies : (t : Tree) (l : NoteLink) → AreSound DEEPEST_ELEMENT t.children → notes_in t ≡ Some l → Each (λ f. IsBody f.body) l.footnotes
 unfolding notes_in
 link-bodies t l s e =
     let read : each footnote_in (named_in link_namespace (codes "footnote") t.children) ≡ Some l.footnotes =
@@ -158,8 +159,8 @@ bodies-sound t s sound e =
     let parts = if-some (is_of t.head.name xbrli_namespace (codes "xbrl")) (parts_in t.children) s e in
     let within : AreSound 257 t.children = below sound.nodes.0 sound.nodes.1 sound.nodes.3 in
     bodies-along s.notes
-    (each-read (λ x. AreSound 256 x.children) (λ (l : NoteLink). Each (λ f. IsBody f.body) l.footnotes) notes_in (λ x l q h. link-bodies x l q h)
-    (named_in link_namespace (codes "footnoteLink") t.children) s.notes (named-sound link_namespace (codes "footnoteLink") 256 t.children within)
+    (each-read (λ x. AreSound DEEPEST_ELEMENT x.children) (λ (l : NoteLink). Each (λ f. IsBody f.body) l.footnotes) notes_in (λ x l q h. link-bodies x l q h)
+    (named_in link_namespace (codes "footnoteLink") t.children) s.notes (named-sound link_namespace (codes "footnoteLink") DEEPEST_ELEMENT t.children within)
     (notes-of t.children s parts))
   where
     below : (k : ℕ) → 258 ≡ suc k → AreSound k t.children → AreSound 257 t.children

@@ -4,6 +4,7 @@ use Rattle.std.proofs.lemmas.Bool.{and_parts, ltb-true, leb-true}
 use Rattle.std.proofs.lemmas.Int.{ints}
 use Rattle.std.proofs.lemmas.List.Elements.{All-from_recursion}
 use Rattle.std.specs.List.{AllByRecursion, list_all}
+use Rattle.ix_base.specs.declared.limits.TheConstants.{DEEPEST_TUPLE}
 use Rattle.ix_base.specs.declared.content.Content.{Content}
 use Rattle.ix_base.specs.declared.content.Context.{Context}
 use Rattle.ix_base.specs.declared.content.Period.{Period}
@@ -46,8 +47,8 @@ unfolding forms_fit tuples_fit
 writable c h =
     let p = passed (said_of c) h in
     let forms = and_parts (list_all is_normal_context c.contexts) (list_all is_normal_unit c.units) p.forms in
-    let facts = and_parts (nil_is_empty (facts_of c.facts)) (nat_le (depth (facts_of c.facts)) 100) p.tuples in
+    let facts = and_parts (nil_is_empty (facts_of c.facts)) (nat_le (depth (facts_of c.facts)) DEEPEST_TUPLE) p.tuples in
     record {
       times = All-from_recursion (λ (x : Context). IsTimely x.period) c.contexts (all-timely c.contexts forms.0);
-      tuples = leb-true (depth (facts_of c.facts)) 100 facts.1;
+      tuples = leb-true (depth (facts_of c.facts)) DEEPEST_TUPLE facts.1;
     }

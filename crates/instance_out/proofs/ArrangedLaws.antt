@@ -169,7 +169,8 @@ names-by f rest (Fact-F.Tuple t) e =
     ∙ name_front t.name (fact_names (facts_of t.members)) (fact_names rest)
     ∙ ap (λ l. l ++ fact_names rest) (sym (ap names_in same ∙ ap fact_names (before-Tuple t none)))
 
-names-before : (f : Fact) (rest : Facts) → fact_names (before f rest) ≡ names_in f ++ fact_names rest
+-- the names of a fact and of those after it
+pub names-before : (f : Fact) (rest : Facts) → fact_names (before f rest) ≡ names_in f ++ fact_names rest
 names-before f rest = names-by f rest (out-Fact f) refl
 
 pub names_of : (fs : List Fact) → fact_names (facts_of fs) ≡ flat_map names_in fs

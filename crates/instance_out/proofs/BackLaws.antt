@@ -1,4 +1,5 @@
 -- The canonical text of a proper content is read back.
+use Rattle.ix_base.specs.declared.limits.TheConstants.{DEEPEST_ELEMENT}
 use Rattle.std.proofs.Common.{◌≡◌, ◌∙◌, ℕ, ◌≤◌, Bool, true, false, ◌||◌, if◌then◌else◌, List, [], ◌∷◌, ◌++◌, length, map, None, refl, sym, ap, subst, bytes_eq, is_some, arith}
 use Rattle.std.specs.List.{concat}
 use Rattle.std.proofs.lemmas.Bool.{and_parts}
@@ -49,10 +50,10 @@ lines-pass bodies c g =
     let ss = said_spaces c in
     let ok = is_fine_line ss 257 in
     let line : (m : Markup) → is_element m ≡ true → IsFine m 257 (declared_scope ss) → ok m ≡ true = λ m k h. and_both (is_element m) (is_fine m 257 (declared_scope ss)) k h.is in
-    let schema : (x : List ℕ) → are_allowed x ≡ true → ok (schema_markup x) ≡ true = λ x h. line (schema_markup x) refl (schema-fine ss x 256 h) in
-    let linkbase : (x : Linkbase) → good_linkbase x ≡ true → ok (linkbase_markup x) ≡ true = λ x h. (let z = and_parts (are_allowed x.href) (allowed_if x.role) h in line (linkbase_markup x) refl (linkbase-fine ss x.href x.role 256 z.0 z.1)) in
-    let role : (x : RoleRef) → good_role x ≡ true → ok (role_markup x) ≡ true = λ x h. line (role_markup x) refl (role-fine ss x 256 h) in
-    let arcrole : (x : RoleRef) → good_role x ≡ true → ok (arcrole_markup x) ≡ true = λ x h. line (arcrole_markup x) refl (arcrole-fine ss x 256 h) in
+    let schema : (x : List ℕ) → are_allowed x ≡ true → ok (schema_markup x) ≡ true = λ x h. line (schema_markup x) refl (schema-fine ss x DEEPEST_ELEMENT h) in
+    let linkbase : (x : Linkbase) → good_linkbase x ≡ true → ok (linkbase_markup x) ≡ true = λ x h. (let z = and_parts (are_allowed x.href) (allowed_if x.role) h in line (linkbase_markup x) refl (linkbase-fine ss x.href x.role DEEPEST_ELEMENT z.0 z.1)) in
+    let role : (x : RoleRef) → good_role x ≡ true → ok (role_markup x) ≡ true = λ x h. line (role_markup x) refl (role-fine ss x DEEPEST_ELEMENT h) in
+    let arcrole : (x : RoleRef) → good_role x ≡ true → ok (arcrole_markup x) ≡ true = λ x h. line (arcrole_markup x) refl (arcrole-fine ss x DEEPEST_ELEMENT h) in
     let context : (x : Context) → good_context x ≡ true → ok (context_markup ss x) ≡ true = λ x h. line (context_markup ss x) refl (context-fine ss x 252 h) in
     let unit : (x : UnitContent) → good_unit x ≡ true → ok (unit_markup ss x) ≡ true = λ x h. line (unit_markup ss x) refl (unit-fine ss x 253 h) in
     let notes = good_link bodies 255 (declared_scope ss) in

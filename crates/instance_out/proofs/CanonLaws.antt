@@ -50,14 +50,12 @@ canon_lines-are c =
     ap (λ l. first_line ∷ root_line spaces ∷ l) (sym (children-are spaces c (last_line ∷ [])))
 
 -- lines that are added one after another
-pub lines_from : (c : Content) (spaces : Spaces) (first root last : List ℕ) (l₀ l₁ l₂ l₃ l₄ l₅ : List (List ℕ))
-    → spaces ≡ content_spaces c (facts_of c.facts) → first ≡ first_line → root ≡ root_line spaces → last ≡ last_line
-    → l₀ ≡ [] → l₁ ≡ l₀ ++ first ∷ [] → l₂ ≡ l₁ ++ root ∷ [] → Gains l₂ l₃ (references c) → Gains l₃ l₄ (others spaces c) → l₅ ≡ l₄ ++ last ∷ []
-    → l₅ ≡ canon_lines c
-lines_from c spaces first root last l₀ l₁ l₂ l₃ l₄ l₅ s f r l e₀ e₁ e₂ refs rest e₅ =
-    e₅ ∙ ap (λ x. l₄ ++ x ∷ []) l ∙ rest (last_line ∷ []) ∙ refs (others spaces c (last_line ∷ []))
-    ∙ ap (λ x. x ++ references c (others spaces c (last_line ∷ []))) (e₂ ∙ ap (λ x. x ++ root ∷ []) (e₁ ∙ ap (λ x. x ++ first ∷ []) e₀))
-    ∙ ap (λ x. x ∷ root ∷ references c (others spaces c (last_line ∷ []))) f
-    ∙ ap (λ x. first_line ∷ x ∷ references c (others spaces c (last_line ∷ []))) r
+pub lines_from : (c : Content) (spaces : Spaces) (l₀ l₁ l₂ l₃ l₄ : List (List ℕ))
+    → spaces ≡ content_spaces c (facts_of c.facts) → l₀ ≡ [] → Gains l₀ l₁ (λ more. first_line ∷ root_line spaces ∷ more)
+    → Gains l₁ l₂ (references c) → Gains l₂ l₃ (others spaces c) → l₄ ≡ l₃ ++ last_line ∷ []
+    → l₄ ≡ canon_lines c
+lines_from c spaces l₀ l₁ l₂ l₃ l₄ s none head refs rest last =
+    last ∙ rest (last_line ∷ []) ∙ refs (others spaces c (last_line ∷ [])) ∙ head (references c (others spaces c (last_line ∷ [])))
+    ∙ ap (λ x. x ++ first_line ∷ root_line spaces ∷ references c (others spaces c (last_line ∷ []))) none
     ∙ ap (λ ss. first_line ∷ root_line ss ∷ references c (others ss c (last_line ∷ []))) s
     ∙ canon_lines-are c

@@ -3,6 +3,7 @@ use Rattle.std.proofs.Common.{◌≡◌, ℕ, zero, suc, ◌+◌, ◌-◌, ◌*�
 use Rattle.std.specs.List.{list_all}
 use Rattle.std.proofs.lemmas.Bool.{and_parts, ltb-true, leb-true}
 use Rattle.std.proofs.lemmas.Bool.Decides.{nat_tests}
+use Rattle.ix_base.specs.declared.limits.TheConstants.{DEEPEST_TUPLE}
 use Rattle.ix_base.specs.declared.content.Accuracy.{Accuracy}
 use Rattle.ix_base.specs.declared.content.Arc.{Arc}
 use Rattle.ix_base.specs.declared.content.Context.{Context}
@@ -257,7 +258,7 @@ good bodies c h b =
     let n1 = each-parts IsName (flat_map context_names c.contexts) (flat_map unit_names c.units ++ fact_names c.facts) names in
     let n2 = each-parts IsName (flat_map unit_names c.units) (fact_names c.facts) n1.1 in
     let forms = and_parts (list_all is_normal_context c.contexts) (list_all is_normal_unit c.units) p.forms in
-    let deep = leb-true (depth c.facts) 100 (and_parts (nil_is_empty c.facts) (nat_le (depth c.facts) 100) p.tuples).1 in
+    let deep = leb-true (depth c.facts) DEEPEST_TUPLE (and_parts (nil_is_empty c.facts) (nat_le (depth c.facts) DEEPEST_TUPLE) p.tuples).1 in
     let scope = declared_scope (said_spaces c) in
     record {
       schemas = all-of are_allowed c.schemas t1.0;

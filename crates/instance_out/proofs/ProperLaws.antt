@@ -5,6 +5,7 @@ use Rattle.std.specs.Ordering.{is_lt, is_gt, on}
 use Rattle.std.specs.declared.cmp.Ordering.{Ordering}
 use Rattle.std.specs.declared.cmp.Ordering.TheVariants.{Less, Equal, Greater}
 use Rattle.std.proofs.lemmas.Bool.{and_parts, ltb-true, leb-true}
+use Rattle.ix_base.specs.declared.limits.TheConstants.{DEEPEST_TUPLE}
 use Rattle.ix_base.specs.declared.content.Arc.{Arc}
 use Rattle.ix_base.specs.declared.content.Context.{Context}
 use Rattle.ix_base.specs.declared.content.Dim.{Dim}
@@ -355,7 +356,7 @@ normal bodies c h b =
       units = units-normal ss c.units (each-over (λ t. is_ncname t ≡ true) (λ u. u.id) c.units two.0) (each-flat (Reads ss) unit_names c.units back.0) forms.1;
       facts = facts-normal ss c.facts back.1
           (each-of is_fact_name (fact_names c.facts) (and_parts (list_all is_name (all_names c)) (list_all is_fact_name (fact_names c.facts)) p.names).1)
-          (and_parts (nil_is_empty c.facts) (nat_le (depth c.facts) 100) p.tuples).0;
+          (and_parts (nil_is_empty c.facts) (nat_le (depth c.facts) DEEPEST_TUPLE) p.tuples).0;
       notes = links-normal bodies (root_scope ss) (fact_ids c.facts) once c.notes (links-ordered c p.lists) p.links (notes-within c.notes once (counted-ids (all_notes c))) apart b;
     }
 

@@ -6,6 +6,7 @@ use Rattle.std.specs.Ordering.{on}
 use Rattle.std.specs.declared.cmp.Ordering.{Ordering}
 use Rattle.std.specs.declared.cmp.Ordering.TheVariants.{Less, Equal, Greater}
 use Rattle.std.proofs.lemmas.List.Elements.{All-from_recursion, recursion_from_All}
+use Rattle.ix_base.specs.declared.limits.TheConstants.{DEEPEST_TUPLE}
 use Rattle.ix_base.specs.declared.content.Content.{Content}
 use Rattle.ix_base.specs.declared.content.Context.{Context}
 use Rattle.ix_base.specs.declared.content.Fact.{Fact, out-Fact, the_lemmas}
@@ -73,5 +74,5 @@ writable-arranged c w =
     let R = by_line (fact_markup (content_spaces c (facts_of c.facts))) in
     record {
       times = All-from_recursion P (sorted by_id c.contexts) (sorted-all P by_id c.contexts (recursion_from_All P c.contexts w.times));
-      tuples = all_shallow 100 (sorted R c.facts) (sorted-all (λ f. depth_in f ≤ 100) R c.facts (each_shallow 100 c.facts w.tuples));
+      tuples = all_shallow DEEPEST_TUPLE (sorted R c.facts) (sorted-all (λ f. depth_in f ≤ DEEPEST_TUPLE) R c.facts (each_shallow DEEPEST_TUPLE c.facts w.tuples));
     }

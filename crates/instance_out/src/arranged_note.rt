@@ -29,13 +29,18 @@ fn footnotes_by_id(alloc: Global, footnotes: List<Footnote>) -> Result<Vec<Footn
     by_keys(alloc, keyed)
 }
 
-/// Notes a text, and tells whether it is there for the first time.
-fn is_first(alloc: Global, text: &str, seen: &mut BTreeSet<String>) -> Result<bool, NoMemory>
-    ensures told { IfOk result (λ first. first ≡ not (contains_text seen.old text.now)) }
+/// Notes the text of a footnote, and tells whether it is there for the first time.
+fn is_first(
+    alloc: Global,
+    footnote: &Footnote,
+    seen: &mut BTreeSet<String>,
+) -> Result<bool, NoMemory>
+    ensures told { IfOk result (λ first. first ≡ not (contains_text seen.old (footnote_text footnote.now))) }
     ensures noted { OnOk result ((t : Items ℕ) →
-        contains_text seen.new t ≡ (if bytes_eq text.now t then true else contains_text seen.old t)) }
+        contains_text seen.new t ≡ (if bytes_eq (footnote_text footnote.now) t then true else contains_text seen.old t)) }
 {
-    let key = String::from_str(alloc, text)?;
+    let text = footnote_of(alloc, footnote)?;
+    let key = String::from_str(alloc, text.as_str())?;
     let first = seen.insert(key)?;
     Ok(first)
 }
@@ -47,10 +52,11 @@ fn first_footnotes(alloc: Global, footnotes: Vec<Footnote>) -> Result<Vec<Footno
     let mut seen = BTreeSet::new(alloc);
     let mut kept = Vec::new(alloc);
     for footnote in footnotes {
-        let text = footnote_of(alloc, &footnote)?;
-        if is_first(alloc, text.as_str(), &mut seen)? {
-            kept.push(footnote)?;
+        let is_new = is_first(alloc, &footnote, &mut seen)?;
+        if !is_new {
+            continue;
         }
+        kept.push(footnote)?;
     }
     Ok(kept)
 }

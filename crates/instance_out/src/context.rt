@@ -1,9 +1,9 @@
 //! Writing contexts.
-ghost use Rattle.std.specs.Prelude.{◌≡◌, map, IfOk, OnOk, All};
+ghost use Rattle.std.specs.Prelude.{◌≡◌, [], map, IfOk, OnOk, All};
 ghost use Rattle.ix_base.specs.SortedLists.{sorted, text_cmp};
 ghost use Rattle.ix_base.specs.WrittenMarkup.{written, nothing};
 ghost use Rattle.std.specs.Ordering.{on};
-ghost use Rattle.instance_out.specs.Canonical.{around, context_markup, dim_markup, each_markup, line, period_markup};
+ghost use Rattle.instance_out.specs.Canonical.{around, context_markup, dim_markup, each_markup, line, period_markup, text_element};
 ghost use Rattle.instance_out.specs.Elements.{context_parts};
 ghost use Rattle.instance_out.specs.Gains.{Gains};
 ghost use Rattle.instance_out.specs.Writable.{IsTimely};
@@ -81,6 +81,14 @@ fn push_around(
     }
 }
 
+/// Appends a moment in an element of this name.
+fn push_moment(name: &str, moment: Text, out: &mut Text) -> Result<(), NoMemory>
+    ensures { OnOk result (Gains out.old out.new (written (text_element name.now [] moment nothing))) }
+{
+    push_element(name, &[], moment.as_str(), out)?;
+    Ok(())
+}
+
 /// Appends what a period says.
 fn push_period(alloc: Global, period: &Period, out: &mut Text) -> Result<(), NoMemory>
     requires { IsTimely period.now }
@@ -89,14 +97,14 @@ fn push_period(alloc: Global, period: &Period, out: &mut Text) -> Result<(), NoM
     match period {
         Period::Instant(end) => {
             let end = end_of(alloc, *end)?;
-            push_element("xbrli:instant", &[], end.as_str(), out)?;
+            push_moment("xbrli:instant", end, out)?;
             Ok(())
         }
         Period::Duration(start, end) => {
             let start = start_of(alloc, *start)?;
+            push_moment("xbrli:startDate", start, out)?;
             let end = end_of(alloc, *end)?;
-            push_element("xbrli:startDate", &[], start.as_str(), out)?;
-            push_element("xbrli:endDate", &[], end.as_str(), out)?;
+            push_moment("xbrli:endDate", end, out)?;
             Ok(())
         }
         Period::Forever => {

@@ -1,9 +1,10 @@
 //! Writing contents.
-ghost use Rattle.std.specs.Prelude.{◌≡◌, ◌++◌, map, IfOk, OnOk, All};
+ghost use Rattle.std.specs.Prelude.{◌≡◌, ◌++◌, ◌∷◌, [], map, IfOk, OnOk, All};
 ghost use Rattle.std.specs.Ordering.{on};
+ghost use Rattle.ix_base.specs.Facts.{facts_of};
 ghost use Rattle.ix_base.specs.Once.{in_order};
 ghost use Rattle.ix_base.specs.SortedLists.{sorted, text_cmp};
-ghost use Rattle.instance_out.specs.Canonical.{arcrole_markup, canon_lines, context_markup, first_line, last_line, line, line_cmp, link_markup, linkbase_markup, role_markup, schema_markup, unit_markup};
+ghost use Rattle.instance_out.specs.Canonical.{arcrole_markup, canon_lines, content_spaces, context_markup, first_line, last_line, line, line_cmp, link_markup, linkbase_markup, role_markup, root_line, schema_markup, unit_markup};
 ghost use Rattle.instance_out.specs.Elements.{fact_line};
 ghost use Rattle.instance_out.specs.Gains.{Gains};
 ghost use Rattle.instance_out.specs.Writable.{IsTimely, IsWritable};
@@ -22,25 +23,31 @@ const FIRST_LINE: &str = "<?xml version=\"1.0\" encoding=\"UTF-8\"?>\n";
 
 const LAST_LINE: &str = "</xbrli:xbrl>\n";
 
-/// The line of the XML declaration.
-fn first_of(alloc: Global) -> Result<Text, NoMemory>
-    ensures { IfOk result (λ t. t ≡ first_line) }
-{
-    Text::of(alloc, FIRST_LINE)
-}
-
-/// The line of the root's end tag.
-fn last_of(alloc: Global) -> Result<Text, NoMemory>
-    ensures { IfOk result (λ t. t ≡ last_line) }
-{
-    Text::of(alloc, LAST_LINE)
-}
-
 /// Adds lines.
 fn add(mut more: Vec<Text>, lines: &mut Vec<Text>) -> Result<(), NoMemory>
     ensures { OnOk result (Gains lines.old.items lines.new.items (λ others. more.items ++ others)) }
 {
     lines.append(&mut more)?;
+    Ok(())
+}
+
+/// Adds the line of the XML declaration, and that of the root's start tag.
+fn add_head(alloc: Global, prefixes: &Prefixes<'_>, lines: &mut Vec<Text>) -> Result<(), NoMemory>
+    ensures { OnOk result (Gains lines.old.items lines.new.items (λ more. first_line ∷ root_line prefixes.now ∷ more)) }
+{
+    let first = Text::of(alloc, FIRST_LINE)?;
+    lines.push(first)?;
+    let root = prefixes.root_line(alloc)?;
+    lines.push(root)?;
+    Ok(())
+}
+
+/// Adds the line of the root's end tag.
+fn add_last(alloc: Global, lines: &mut Vec<Text>) -> Result<(), NoMemory>
+    ensures { OnOk result (lines.new.items ≡ lines.old.items ++ last_line ∷ []) }
+{
+    let last = Text::of(alloc, LAST_LINE)?;
+    lines.push(last)?;
     Ok(())
 }
 
@@ -54,12 +61,12 @@ fn add_references(alloc: Global, content: &Content, lines: &mut Vec<Text>) -> Re
         ++ more))))) }
 {
     let schemas = schema_lines(alloc, content.schemas.as_slice())?;
-    let linkbases = linkbase_lines(alloc, content.linkbases.as_slice())?;
-    let roles = role_lines(alloc, content.roles.as_slice())?;
-    let arcroles = arcrole_lines(alloc, content.arcroles.as_slice())?;
     add(schemas, lines)?;
+    let linkbases = linkbase_lines(alloc, content.linkbases.as_slice())?;
     add(linkbases, lines)?;
+    let roles = role_lines(alloc, content.roles.as_slice())?;
     add(roles, lines)?;
+    let arcroles = arcrole_lines(alloc, content.arcroles.as_slice())?;
     add(arcroles, lines)?;
     Ok(())
 }
@@ -80,13 +87,31 @@ fn add_facts(
         ++ more))))) }
 {
     let contexts = context_lines(alloc, prefixes, content.contexts.as_slice())?;
-    let units = unit_lines(alloc, prefixes, content.units.as_slice())?;
-    let facts = fact_lines(alloc, prefixes, content.facts.as_slice())?;
-    let notes = link_lines(alloc, content.notes.as_slice())?;
     add(contexts, lines)?;
+    let units = unit_lines(alloc, prefixes, content.units.as_slice())?;
     add(units, lines)?;
+    let facts = fact_lines(alloc, prefixes, content.facts.as_slice())?;
     add(facts, lines)?;
+    let notes = link_lines(alloc, content.notes.as_slice())?;
     add(notes, lines)?;
+    Ok(())
+}
+
+/// Adds the lines of a content, in an instance with the prefixes that it needs.
+fn add_all(
+    alloc: Global,
+    prefixes: &Prefixes<'_>,
+    content: &Content,
+    lines: &mut Vec<Text>,
+) -> Result<(), NoMemory>
+    requires writable { IsWritable content.now }
+    requires prefixes { prefixes.now ≡ content_spaces content.now (facts_of content.now.facts) }
+    ensures { OnOk result (lines.old.items ≡ [] → lines.new.items ≡ canon_lines content.now) }
+{
+    add_head(alloc, prefixes, lines)?;
+    add_references(alloc, content, lines)?;
+    add_facts(alloc, prefixes, content, lines)?;
+    add_last(alloc, lines)?;
     Ok(())
 }
 
@@ -97,14 +122,7 @@ pub fn lines(alloc: Global, content: &Content) -> Result<List<Text>, NoMemory>
 {
     let spaces = spaces_in(alloc, content)?;
     let prefixes = Prefixes::of(alloc, spaces)?;
-    let first = first_of(alloc)?;
-    let root = prefixes.root_line(alloc)?;
-    let last = last_of(alloc)?;
     let mut lines = Vec::new(alloc);
-    lines.push(first)?;
-    lines.push(root)?;
-    add_references(alloc, content, &mut lines)?;
-    add_facts(alloc, &prefixes, content, &mut lines)?;
-    lines.push(last)?;
+    add_all(alloc, &prefixes, content, &mut lines)?;
     Ok(List::of(lines))
 }

@@ -103,9 +103,11 @@ fn own_spaces_of<'a>(alloc: Global, names: &[&'a OwnName]) -> Result<Vec<&'a str
 {
     let mut spaces = Vec::new(alloc);
     for name in names {
-        if !is_known(name.ns.as_str()) {
-            spaces.push(name.ns.as_str())?;
+        let space = name.ns.as_str();
+        if is_known(space) {
+            continue;
         }
+        spaces.push(space)?;
     }
     Ok(spaces)
 }

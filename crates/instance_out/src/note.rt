@@ -150,13 +150,28 @@ fn arcs_of(alloc: Global, arcs: &[Arc]) -> Result<Vec<Text>, NoMemory>
     Ok(texts)
 }
 
-/// Appends texts as they stand.
-fn push_texts(texts: &[Text], out: &mut Text) -> Result<(), NoMemory>
-    ensures { OnOk result (Gains out.old out.new (λ more. concat texts.now ++ more)) }
+/// Appends texts as they stand, and gives them up.
+fn push_texts(texts: Vec<Text>, out: &mut Text) -> Result<(), NoMemory>
+    ensures { OnOk result (Gains out.old out.new (λ more. concat texts.items ++ more)) }
 {
-    for text in texts {
+    for text in &texts {
         push_plain(text.as_str(), out)?;
     }
+    Ok(())
+}
+
+/// Appends the locators, the footnotes and the arcs of a footnote link.
+fn push_link(alloc: Global, link: &NoteLink, out: &mut Text) -> Result<(), NoMemory>
+    ensures { OnOk result (Gains out.old out.new (λ more. concat (map locator_text (in_order text_cmp link.now.locs))
+        ++ (concat (map footnote_text (sorted (on (λ f. f.id) text_cmp) link.now.footnotes))
+        ++ (concat (sorted text_cmp (map arc_text link.now.arcs)) ++ more)))) }
+{
+    let locators = locators_of(alloc, link.locs.as_slice())?;
+    push_texts(locators, out)?;
+    let footnotes = footnotes_of(alloc, link.footnotes.as_slice())?;
+    push_texts(footnotes, out)?;
+    let arcs = arcs_of(alloc, link.arcs.as_slice())?;
+    push_texts(arcs, out)?;
     Ok(())
 }
 
@@ -174,14 +189,9 @@ fn link_line(alloc: Global, link: &NoteLink) -> Result<Text, NoMemory>
             value: Some(link.role.as_str()),
         },
     ];
-    let locators = locators_of(alloc, link.locs.as_slice())?;
-    let footnotes = footnotes_of(alloc, link.footnotes.as_slice())?;
-    let arcs = arcs_of(alloc, link.arcs.as_slice())?;
     let mut out = Text::of(alloc, "")?;
     push_start("link:footnoteLink", &attributes, &mut out)?;
-    push_texts(locators.as_slice(), &mut out)?;
-    push_texts(footnotes.as_slice(), &mut out)?;
-    push_texts(arcs.as_slice(), &mut out)?;
+    push_link(alloc, link, &mut out)?;
     push_close("link:footnoteLink", &mut out)?;
     out.push("\n")?;
     Ok(out)

@@ -1,4 +1,5 @@
 mod EndLaws
 mod FactSteps
 mod ItemLaws
+mod NamedSteps
 mod NodeLaws

@@ -24,7 +24,7 @@ pub(super) trait Reader {
 }
 
 /// What the elements of a name among some nodes denote, if each denotes something.
-#[tactic(auto, using(xbrl_parts::proofs::EachLaws::each_put, xbrl_parts::proofs::EachLaws::each_none))]
+#[tactic(auto, using(xbrl_parts::proofs::EachLaws::each_none))]
 fn read_named<R: Reader>(
     alloc: Global,
     reader: &R,

@@ -3,6 +3,7 @@ use Rattle.std.proofs.Common.{◌≡◌, ◌∙◌, ap, sym, refl, ℕ, suc, ◌
 use Rattle.std.specs.List.{concat}
 use Rattle.std.proofs.Math.Seq.{take-append_seam, take-length}
 use Rattle.std.proofs.lemmas.List.Folds.{concat-append}
+use Rattle.ix_base.specs.declared.limits.TheConstants.{MOST_BYTES_PUT}
 use Rattle.ix_base.specs.Outside.{TellsAlso}
 use Rattle.ix_base.specs.declared.rule.Rule.{Rule}
 use Rattle.ix_base.specs.declared.rule.Rule.TheVariants.{X3}
@@ -207,7 +208,7 @@ module _ (page : List ℕ → Option (List ℕ)) (base : List ℕ) (lines rest :
             front = h.names;
             splits = names;
             asked_is = at;
-            within = if_some (told page h.names) (λ all same. subst (λ bs. bytes_in bs ≤ 134217728) (sym same) (subst (λ n. n ≤ 134217728) sum h.within.0)) (told_all page h.names h.bs h.count h.told_are);
+            within = if_some (told page h.names) (λ all same. subst (λ bs. bytes_in bs ≤ MOST_BYTES_PUT) (sym same) (subst (λ n. n ≤ MOST_BYTES_PUT) sum h.within.0)) (told_all page h.names h.bs h.count h.told_are);
             telling = h.telling;
           },
           told_line,

@@ -1,5 +1,6 @@
 -- A script that was read and followed.
 use Rattle.std.proofs.Common.{◌≡◌, ◌⊎◌, inl, inr, ◌∙◌, ap, sym, refl, ℕ, suc, ◌≤◌, ◌<◌, IsTrue, is_some, List, [], ◌∷◌, length, take, Option, Some, None, IfSome, subst, arith}
+use Rattle.ix_base.specs.declared.limits.TheConstants.{LONGEST_SCRIPT, MOST_BYTES, MOST_BYTES_PUT}
 use Rattle.ix_base.specs.Outside.{TellsAlso}
 use Rattle.ix_base.specs.declared.rule.Rule.TheVariants.{X1}
 use Rattle.page_session.specs.Course.{AreTold, names_read}
@@ -63,8 +64,8 @@ module _ (page : List ℕ → Option (List ℕ)) (script : List ℕ) (at : ℕ) 
 
 -- The script is good.
 
-within_both : (a : Option (List ℕ)) (all : Option (List (List ℕ))) (text : List ℕ) → IfSome a (λ t. t ≡ text) → length text ≤ 65536 → IfSome all (λ bs. bytes_in bs ≤ 134217728)
-    → IfSome (told_both a all) (λ bs. bytes_in bs ≤ 268435456)
+within_both : (a : Option (List ℕ)) (all : Option (List (List ℕ))) (text : List ℕ) → IfSome a (λ t. t ≡ text) → length text ≤ LONGEST_SCRIPT → IfSome all (λ bs. bytes_in bs ≤ MOST_BYTES_PUT)
+    → IfSome (told_both a all) (λ bs. bytes_in bs ≤ MOST_BYTES)
 within_both None all text same small within = tt
 within_both (Some x) None text same small within = tt
 within_both (Some x) (Some xs) text same small within = let len : length x ≡ length text = ap length same in omega arith

@@ -1,4 +1,5 @@
 -- Reading pages one behind another.
+use Rattle.ix_base.specs.declared.limits.TheConstants.{DEEPEST_ELEMENT, MOST_BYTES, MOST_TAGS, PIECE}
 use Rattle.std.proofs.Common.{◌≡◌, ◌⊎◌, inl, inr, ◌∙◌, ap, sym, refl, ℕ, suc, ◌+◌, ◌≤◌, ◌<◌, nat_le, nat_lt, Bool, cond, List, [], ◌∷◌, ◌++◌, length, drop, take, Option, Some, None, IfSome, IsTrue, OnOk, Result, Ok, Err, is_some, true, map, option_map, append_assoc, append-nil, subst, arith, length-append, add-zero, add_assoc, zero-add, add-one, get_or}
 use Rattle.std.proofs.Math.Seq.{drop-cons, take-suc}
 use Rattle.std.proofs.lemmas.Bool.{and_from, le-leb, lt-ltb}
@@ -29,20 +30,20 @@ use Rattle.targets.specs.Breaches.{size_rule, tags_in, all_tags_in, bytes_in, fa
 use Rattle.ixds_run.specs.declared.read_pages.Forest.{Forest}
 
 -- a page that has a tree was ended
-pub gained_root : (n : ℕ) (b : List ℕ) (limit : ℕ) (f f' : Forest) (e : Bor Element) {k : ℕ} → limit ≡ 256 → None ≡ w b limit → f'.found ≡ f.found
+pub gained_root : (n : ℕ) (b : List ℕ) (limit : ℕ) (f f' : Forest) (e : Bor Element) {k : ℕ} → limit ≡ DEEPEST_ELEMENT → None ≡ w b limit → f'.found ≡ f.found
     → f'.roots.items ≡ f.roots.items ++ e ∷ [] → page_with b limit (tree_of e.now) → AreAll k (pages_of e.now) → AreNumbered (spaces_of e.now) → k ≡ n → HasGainedTree n b f f'
 gained_root n b limit f f' e {k} deep none kept roots is_page pages numbered at =
-    let good : w b 256 ≡ None = ap (w b) (sym deep) ∙ sym none in
+    let good : w b DEEPEST_ELEMENT ≡ None = ap (w b) (sym deep) ∙ sym none in
     record {
       found = kept ∙ sym (append-nil f.found) ∙ ap (λ o. f.found ++ fault_row n o) (sym good);
       root = λ h. (e, roots, (subst (λ m. page_with b m (tree_of e.now)) deep is_page, subst (λ m. AreAll m (pages_of e.now)) at pages, numbered));
     }
 
 -- a page that has a break was ended
-pub gained_fault : (n : ℕ) (b : List ℕ) (limit : ℕ) (f f' : Forest) (offset : ℕ) (rule : Rule) → limit ≡ 256 → Some (fault offset rule) ≡ w b limit
+pub gained_fault : (n : ℕ) (b : List ℕ) (limit : ℕ) (f f' : Forest) (offset : ℕ) (rule : Rule) → limit ≡ DEEPEST_ELEMENT → Some (fault offset rule) ≡ w b limit
     → f'.found ≡ f.found ++ on_page n offset rule ∷ [] → HasGainedTree n b f f'
 gained_fault n b limit f f' offset rule deep broken found =
-    let bad : w b 256 ≡ Some (fault offset rule) = ap (w b) (sym deep) ∙ sym broken in
+    let bad : w b DEEPEST_ELEMENT ≡ Some (fault offset rule) = ap (w b) (sym deep) ∙ sym broken in
     record {
       found = found ∙ ap (λ o. f.found ++ fault_row n o) (sym bad);
       root = λ h. absurd (let z : None ≡ Some (fault offset rule) = sym h ∙ bad in cc);
@@ -70,22 +71,22 @@ page_gained (Err x) n most p f m g text found roots keeps same is kept keeps' te
 -- a page was read and ended
 pub reads_on : (took : List ℕ → Type 0) (page left : Option (List ℕ)) (n : ℕ) (t : OpenPage) (sums : Sums) (f g : Forest)
     → ((b : List ℕ) → took b → Holds t b) → HasFed took page left f.sums sums → IsReadWhole page left sums → g.sums ≡ sums
-    → (sums.bytes ≤ 268435456 → (b : List ℕ) → Holds t b → HasGained n b (record f { sums = sums }) g) → ReadsOn page left n f g
+    → (sums.bytes ≤ MOST_BYTES → (b : List ℕ) → Holds t b → HasGained n b (record f { sums = sums }) g) → ReadsOn page left n f g
 reads_on took page left n t sums f g holds fed whole same gained = record {
   front = fed.front;
   bytes = ap (λ (s : Sums). s.bytes) same ∙ fed.bytes;
   tags = ap (λ (s : Sums). s.tags) same ∙ fed.tags;
   told = fed.told;
-  whole = λ most. whole (subst (λ (s : Sums). s.bytes ≤ 268435456) same most);
+  whole = λ most. whole (subst (λ (s : Sums). s.bytes ≤ MOST_BYTES) same most);
   gained = λ most.
-      let h = gained (subst (λ (s : Sums). s.bytes ≤ 268435456) same most) fed.front (holds fed.front fed.taken) in
+      let h = gained (subst (λ (s : Sums). s.bytes ≤ MOST_BYTES) same most) fed.front (holds fed.front fed.taken) in
       record { tree = record { found = h.tree.found; root = h.tree.root }; keeps = h.keeps; texts = h.texts };
 }
 
 -- a page that lies in memory was built and ended
 pub built_on : (b : List ℕ) (n : ℕ) (t : OpenPage) (sums : Sums) (f g : Forest)
     → Holds t b → sums.bytes ≡ f.sums.bytes + length b → sums.tags ≡ f.sums.tags + tags_in b → g.sums ≡ sums
-    → (sums.bytes ≤ 268435456 → (c : List ℕ) → Holds t c → HasGained n c (record f { sums = sums }) g) → ReadsOn (Some b) (Some []) n f g
+    → (sums.bytes ≤ MOST_BYTES → (c : List ℕ) → Holds t c → HasGained n c (record f { sums = sums }) g) → ReadsOn (Some b) (Some []) n f g
 built_on b n t sums f g built bytes tags same gained =
     let fed : HasFed (Holds t) (Some b) (Some []) f.sums sums =
     record { front = b; taken = built; bytes = bytes; tags = tags; told = ([], sym (append-nil b), refl) } in
@@ -93,9 +94,9 @@ built_on b n t sums f g built bytes tags same gained =
 
 -- a page is read whole whose bytes are within the limit, since its bytes `<` are no more
 pub whole_read : (page left : Option (List ℕ)) (s : Sums) → s.tags ≤ s.bytes
-    → IsWhole page left s (record { bytes = 268435456; tags = 18446744073709551615 }) → IsReadWhole page left s
+    → IsWhole page left s (record { bytes = MOST_BYTES; tags = 18446744073709551615 }) → IsReadWhole page left s
 whole_read page left s tags whole = λ most.
-    whole (and_from (nat_le s.bytes 268435456) (nat_le s.tags 18446744073709551615) (le-leb s.bytes 268435456 most) (le-leb s.tags 18446744073709551615 (omega arith)))
+    whole (and_from (nat_le s.bytes MOST_BYTES) (nat_le s.tags 18446744073709551615) (le-leb s.bytes MOST_BYTES most) (le-leb s.tags 18446744073709551615 (omega arith)))
 
 -- what is told of names and one more
 told_more : (page : List ℕ → Option (List ℕ)) (xs : List (List ℕ)) (n : List ℕ)
@@ -161,7 +162,7 @@ has_read_more bs b n f g count bytes tags gained read =
       found = gained.tree.found ∙ ap (λ r. r ++ text_fault n b) read.found ∙ sym at;
       roots = λ none.
           let two = both_empty (text_faults 0 bs) (text_fault n b) (sym at ∙ none) in
-          let good = no_row n (w b 256) two.1 in
+          let good = no_row n (w b DEEPEST_ELEMENT) two.1 in
           let root = gained.tree.root good in
           subst (λ (es : List (Bor Element)). AreRoots 0 (bs ++ b ∷ []) es) (sym root.1)
           (roots-more 0 bs f.roots.items b root.0 (read.roots two.0) (subst (λ k. IsRoot k b root.0) (sym (zero-add (length bs) ∙ count)) root.2));
@@ -212,7 +213,7 @@ telling_more page xs n all one = λ m some. told_snoc page xs n (all m some) (on
 
 -- one more page was read, and the limit isn't passed
 pub read_more : (page : List ℕ → Option (List ℕ)) (names : List (List ℕ)) (name : List ℕ) (rest : List (List ℕ)) (n : ℕ) (left : Option (List ℕ)) (f g : Forest)
-    → g.sums.bytes ≤ 268435456 → ReadsOn (page name) left n f g → TellsAlso page name → HasReadSome page names (name ∷ rest) n f → HasReadSome page names rest (n + 1) g
+    → g.sums.bytes ≤ MOST_BYTES → ReadsOn (page name) left n f g → TellsAlso page name → HasReadSome page names (name ∷ rest) n f → HasReadSome page names rest (n + 1) g
 read_more page names name rest n left f g most on also h =
     let whole = whole_is (page name) left on.front (on.whole most) on.told in
     record {
@@ -231,13 +232,13 @@ read_more page names name rest n left f g most on also h =
       telling = telling_more page h.front name h.telling also;
     }
 
-over : (n m : ℕ) → 268435456 < n → size_rule n m ≡ Some S1
-over n m h = ap (λ (t : Bool). cond t (Some S1) (cond (nat_lt 8388608 m) (Some S2) None)) (lt-ltb 268435456 n h)
+over : (n m : ℕ) → MOST_BYTES < n → size_rule n m ≡ Some S1
+over n m h = ap (λ (t : Bool). cond t (Some S1) (cond (nat_lt MOST_TAGS m) (Some S2) None)) (lt-ltb MOST_BYTES n h)
 
 -- what is read of a set that is too long
-over_is : (bs : List (List ℕ)) (g : Forest) → 268435456 < g.sums.bytes → g.sums.bytes ≤ bytes_in bs → IsRead bs g
+over_is : (bs : List (List ℕ)) (g : Forest) → MOST_BYTES < g.sums.bytes → g.sums.bytes ≤ bytes_in bs → IsRead bs g
 over_is bs g long most =
-    let more : 268435456 < bytes_in bs = omega arith in
+    let more : MOST_BYTES < bytes_in bs = omega arith in
     let broken = over g.sums.bytes g.sums.tags long in
     record { size = over (bytes_in bs) (all_tags_in bs) more ∙ sym broken; read = λ e. absurd (let z : None ≡ Some S1 = sym e ∙ broken in cc) }
 
@@ -254,7 +255,7 @@ told_front (Some x) (Some rest) left more bs front e h =
 
 -- the limit is passed
 read_over : (page : List ℕ → Option (List ℕ)) (names : List (List ℕ)) (name : List ℕ) (rest : List (List ℕ)) (n : ℕ) (left : Option (List ℕ)) (f g : Forest)
-    → 268435456 < g.sums.bytes → ReadsOn (page name) left n f g → HasReadSome page names (name ∷ rest) n f → IfSome (told page names) (λ bs. IsRead bs g)
+    → MOST_BYTES < g.sums.bytes → ReadsOn (page name) left n f g → HasReadSome page names (name ∷ rest) n f → IfSome (told page names) (λ bs. IsRead bs g)
 read_over page names name rest n left f g long on h = if_told (told page names) _ _ (λ all t.
     let size = told_front (page name) (told page rest) left t.0 h.bs on.front t.2 on.told in
     let same : bytes_in all ≡ bytes_in (h.bs ++ t.0) = ap bytes_in t.1 in
@@ -270,7 +271,7 @@ read_some (Some all) g bs read t = (all, refl, t)
 
 -- the limit is passed, also where the source tells nothing
 pub some_over : (page : List ℕ → Option (List ℕ)) (names : List (List ℕ)) (name : List ℕ) (rest : List (List ℕ)) (n : ℕ) (left : Option (List ℕ)) (f g : Forest)
-    → 268435456 < g.sums.bytes → ReadsOn (page name) left n f g → HasReadSome page names (name ∷ rest) n f → AreSome (told page names) (λ bs. IsRead bs g)
+    → MOST_BYTES < g.sums.bytes → ReadsOn (page name) left n f g → HasReadSome page names (name ∷ rest) n f → AreSome (told page names) (λ bs. IsRead bs g)
 some_over page names name rest n left f g long on h =
     let bs = h.bs ++ on.front ∷ [] in
     let most : g.sums.bytes ≤ bytes_in bs =
@@ -282,7 +283,7 @@ some_over page names name rest n left f g long on h =
 
 -- where the limit is passed, the pages that are told pass it
 pub names_over : (page : List ℕ → Option (List ℕ)) (names : List (List ℕ)) (name : List ℕ) (rest : List (List ℕ)) (n : ℕ) (left : Option (List ℕ)) (f g : Forest)
-    → 268435456 < g.sums.bytes → ReadsOn (page name) left n f g → HasReadSome page names (name ∷ rest) n f → IfSome (told page names) (λ bs. 268435456 < bytes_in bs)
+    → MOST_BYTES < g.sums.bytes → ReadsOn (page name) left n f g → HasReadSome page names (name ∷ rest) n f → IfSome (told page names) (λ bs. MOST_BYTES < bytes_in bs)
 names_over page names name rest n left f g long on h = if_told (told page names) _ _ (λ all t.
     let size = told_front (page name) (told page rest) left t.0 h.bs on.front t.2 on.told in
     let same : bytes_in all ≡ bytes_in (h.bs ++ t.0) = ap bytes_in t.1 in
@@ -290,7 +291,7 @@ names_over page names name rest n left f g long on h = if_told (told page names)
     let now = on.bytes in
     omega arith) h.told_is
 
-pub over_is_sound : (names : List (List ℕ)) (g : Forest) → 268435456 < g.sums.bytes → IsSound names g
+pub over_is_sound : (names : List (List ℕ)) (g : Forest) → MOST_BYTES < g.sums.bytes → IsSound names g
 over_is_sound names g long = λ e. absurd (let z : None ≡ Some S1 = sym e ∙ over g.sums.bytes g.sums.tags long in cc)
 
 -- pages that were read whole are read
@@ -331,15 +332,15 @@ read_none page names f bytes tags found roots texts = record {
     none_of (Some all) = (all, refl, refl)
 
 -- those that were read before are within the limit
-within_of : (page : List ℕ → Option (List ℕ)) (names rest : List (List ℕ)) (n : ℕ) (f : Forest) → f.sums.bytes ≤ 268435456 → (h : HasReadSome page names rest n f)
-    → IfSome (told page h.front) (λ bs. bytes_in bs ≤ 268435456)
+within_of : (page : List ℕ → Option (List ℕ)) (names rest : List (List ℕ)) (n : ℕ) (f : Forest) → f.sums.bytes ≤ MOST_BYTES → (h : HasReadSome page names rest n f)
+    → IfSome (told page h.front) (λ bs. bytes_in bs ≤ MOST_BYTES)
 within_of page names rest n f most h = if_told (told page h.front) _ _ (λ all was.
     let same : bytes_in all ≡ f.sums.bytes = ap bytes_in was ∙ sym h.read.bytes in
     omega arith) h.front_is
 
 -- the page that was asked for last
 pub last_is : (page : List ℕ → Option (List ℕ)) (names : List (List ℕ)) (name : List ℕ) (rest : List (List ℕ)) (n : ℕ) (left asked : Option (List ℕ)) (f g : Forest)
-    → f.sums.bytes ≤ 268435456 → g.sums.bytes ≤ 268435456 + 65536 → IfSome asked (λ k. k ≡ name) → ReadsOn (page name) left n f g
+    → f.sums.bytes ≤ MOST_BYTES → g.sums.bytes ≤ MOST_BYTES + PIECE → IfSome asked (λ k. k ≡ name) → ReadsOn (page name) left n f g
     → HasReadSome page names (name ∷ rest) n f → IsLast page names rest left asked
 last_is page names name rest n left asked f g before most at on h = record {
   front = h.front;
@@ -351,7 +352,7 @@ last_is page names name rest n left asked f g before most at on h = record {
   most = if_told (told page (h.front ++ name ∷ [])) _ _ (λ all t.
       let was : t.0 ≡ h.bs = subst (λ (o : Option (List (List ℕ))). IfSome o (λ done. done ≡ h.bs)) t.1 h.front_is in
       let one = subst (λ (o : Option (List ℕ)). IfSome o (λ b. (more : List ℕ) × (b ≡ on.front ++ more) × (left ≡ Some more))) t.2.1 on.told in
-      subst (λ (l : Option (List ℕ)). IfSome l (λ more. bytes_in all ≤ length more + (268435456 + 65536))) (sym one.2)
+      subst (λ (l : Option (List ℕ)). IfSome l (λ more. bytes_in all ≤ length more + (MOST_BYTES + PIECE))) (sym one.2)
       (let sum : bytes_in all ≡ bytes_in t.0 + length t.2.0 = ap bytes_in t.2.2 ∙ bytes-more t.0 t.2.0 in
       let first : bytes_in t.0 ≡ f.sums.bytes = ap bytes_in was ∙ sym h.read.bytes in
       let last : length t.2.0 ≡ length on.front + length one.0 = ap length one.1 ∙ length-append on.front one.0 in
@@ -361,7 +362,7 @@ last_is page names name rest n left asked f g before most at on h = record {
 
 -- the next page was asked for
 pub next_among : (page : List ℕ → Option (List ℕ)) (names : List (List ℕ)) (name : List ℕ) (rest : List (List ℕ)) (n : ℕ) (asked : Option (List ℕ)) (f : Forest)
-    → f.sums.bytes ≤ 268435456 → IfSome asked (λ k. k ≡ name) → HasReadSome page names (name ∷ rest) n f → IsAmong page names asked name
+    → f.sums.bytes ≤ MOST_BYTES → IfSome asked (λ k. k ≡ name) → HasReadSome page names (name ∷ rest) n f → IsAmong page names asked name
 next_among page names name rest n asked f before at h = record {
   front = h.front;
   back = rest;
@@ -382,7 +383,7 @@ stops_among page names left asked s = last_among page names s.0 left asked s.1
 
 -- the next page wasn't read
 pub next_stopped : (page : List ℕ → Option (List ℕ)) (names : List (List ℕ)) (name : List ℕ) (rest : List (List ℕ)) (n : ℕ) (asked : Option (List ℕ)) (f : Forest)
-    (before mid now : ℕ) (failed : Bool) (why : Stopped) → f.sums.bytes ≤ 268435456 → mid ≡ before → HasReadSome page names (name ∷ rest) n f
+    (before mid now : ℕ) (failed : Bool) (why : Stopped) → f.sums.bytes ≤ MOST_BYTES → mid ≡ before → HasReadSome page names (name ∷ rest) n f
     → StopsAt name asked mid now failed why → WhyStopped page names asked before now failed why
 next_stopped page names name rest n asked f before mid now failed (stopped.Failed line) most same h s =
     (subst (λ k. k < now) same s.0, (name, next_among page names name rest n asked f most s.1 h, s.2, s.3))
@@ -413,7 +414,7 @@ stops_at_end page names back left asked n some end (inr last) = (back, last, inl
 
 -- the next page was asked for, or nothing more was
 pub asked_on : (P : Type 0) (asked : P → Option (List ℕ)) (page : List ℕ → Option (List ℕ)) (names : List (List ℕ)) (name : List ℕ) (back rest : List (List ℕ)) (n : ℕ)
-    (left : Option (List ℕ)) (p old new : P) (f : Forest) → f.sums.bytes ≤ 268435456 → (n ≡ 0 → p ≡ old) → (n ≡ 0) ⊎ IsLast page names back left (asked p)
+    (left : Option (List ℕ)) (p old new : P) (f : Forest) → f.sums.bytes ≤ MOST_BYTES → (n ≡ 0 → p ≡ old) → (n ≡ 0) ⊎ IsLast page names back left (asked p)
     → HasReadSome page names (name ∷ rest) n f → (new ≡ p) ⊎ IfSome (asked new) (λ k. k ≡ name)
     → (new ≡ old) ⊎ ((k : List ℕ) × IsAmong page names (asked new) k)
 asked_on P asked page names name back rest n left p old new f most same (inl none) h (inl kept) = inl (kept ∙ same none)

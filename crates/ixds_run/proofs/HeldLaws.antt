@@ -2,6 +2,7 @@
 use Rattle.std.proofs.Common.{◌≡◌, ◌∙◌, ap, sym, refl, subst, ℕ, ◌+◌, ◌≤◌, ◌<◌, List, [], ◌∷◌, length, map, drop, get_or, Option, Some}
 use Rattle.std.proofs.Math.ListN.{drop_of_length-le}
 use Rattle.std.proofs.lemmas.List.{get_or-map, length-map}
+use Rattle.ix_base.specs.declared.limits.TheConstants.{MOST_BYTES}
 use Rattle.ix_base.specs.declared.memory.pages.MemPage.{MemPage}
 use Rattle.ixds_run.specs.CommandBytes.{AreSome}
 use Rattle.ixds_run.specs.PageReads.{HasReadSome, IsRead, IsSound, ReadsOn}
@@ -39,12 +40,12 @@ module _ (pages : List MemPage) (n : ℕ) (page : MemPage) (f g : Forest) (withi
     cut_before = subst (λ (r : List (List ℕ)). HasReadSome Some (map (λ p. p.bytes) pages) r n f) (cut_page pages n page within is) before
 
     -- one more page was built
-    pub built_more : g.sums.bytes ≤ 268435456
+    pub built_more : g.sums.bytes ≤ MOST_BYTES
         → HasReadSome Some (map (λ p. p.bytes) pages) (drop (n + 1) (map (λ p. p.bytes) pages)) (n + 1) g
     built_more most = read_more Some (map (λ p. p.bytes) pages) page.bytes (drop (n + 1) (map (λ p. p.bytes) pages)) n (Some []) f g most on (λ m some. refl) cut_before
 
     -- the limit is passed
-    pub built_over : 268435456 < g.sums.bytes → IsRead (map (λ p. p.bytes) pages) g
+    pub built_over : MOST_BYTES < g.sums.bytes → IsRead (map (λ p. p.bytes) pages) g
     built_over over = of_all (map (λ p. p.bytes) pages) (λ bs. IsRead bs g)
         (some_over Some (map (λ p. p.bytes) pages) page.bytes (drop (n + 1) (map (λ p. p.bytes) pages)) n (Some []) f g over on cut_before)
 

@@ -1,4 +1,5 @@
 -- What pages that were read say.
+use Rattle.ix_base.specs.declared.limits.TheConstants.{DEEPEST_ELEMENT}
 use Rattle.std.proofs.Common.{◌≡◌, ◌≢◌, ◌∙◌, ◌++◌, ap, sym, ℕ, zero, suc, ◌==◌, true, ◌+◌, ◌<◌, ◌≤◌, List, [], ◌∷◌, All, length, slice_index_or, Option, Some, None, IfOk, Result, Ok, Err, subst, arith, inl, inr, refl}
 use Rattle.std.specs.Borrow.{Bor}
 use Rattle.std.proofs.lemmas.Bool.{eqb-true}
@@ -37,7 +38,7 @@ all_row n m (Some f) h = λ k d within. at k d within
 pub faults_below : (n m : ℕ) (bs : List (List ℕ)) → n + length bs ≤ m → All (λ f. f.place.page < m) (text_faults n bs)
 faults_below n m [] h = λ k d within. absurd (omega arith)
 faults_below n m (b ∷ bs) h =
-    All-append (λ f. f.place.page < m) (text_fault n b) (text_faults (suc n) bs) (all_row n m (w b 256) (omega arith)) (faults_below (suc n) m bs (omega arith))
+    All-append (λ f. f.place.page < m) (text_fault n b) (text_faults (suc n) bs) (all_row n m (w b DEEPEST_ELEMENT) (omega arith)) (faults_below (suc n) m bs (omega arith))
 
 -- what pages say that break no size rule
 pub kept_says : (base : List ℕ) (names bs : List (List ℕ)) (r : Result Outcome NoMemory) → set_rule bs ≡ None
@@ -68,7 +69,7 @@ sound_from : ((b : List ℕ) (n number : ℕ) (e : Element) → page b n (tree_o
 sound_from sound n [] [] all = tt
 sound_from sound n [] (e ∷ es) all = absurd all
 sound_from sound n (b ∷ bs) [] all = absurd all
-sound_from sound n (b ∷ bs) (e ∷ es) all = (sound b 256 n e.now all.0.0 all.0.1 all.0.2, sound_from sound (suc n) bs es all.1)
+sound_from sound n (b ∷ bs) (e ∷ es) all = (sound b DEEPEST_ELEMENT n e.now all.0.0 all.0.1 all.0.2, sound_from sound (suc n) bs es all.1)
 
 -- nothing was found, so that each root is that of its page, and sound
 pub sound_roots : ((b : List ℕ) (n number : ℕ) (e : Element) → page b n (tree_of e) → All (λ p. p ≡ number) (pages_of e) → AreNumbered (spaces_of e) → IsSoundRoot e number n)
@@ -99,12 +100,12 @@ judged base names f r kept broken made = each base names f r (λ bs read.
 
 -- pages that have trees have no breaks
 module _ (none : (b : List ℕ) (n : ℕ) (f : Fault) (t : Tree) → w b n ≡ Some f → page b n t → ⊥) where
-  no_row : (n : ℕ) (b : List ℕ) (t : Tree) (o : Option Fault) → w b 256 ≡ o → page b 256 t → fault_row n o ≡ []
+  no_row : (n : ℕ) (b : List ℕ) (t : Tree) (o : Option Fault) → w b DEEPEST_ELEMENT ≡ o → page b DEEPEST_ELEMENT t → fault_row n o ≡ []
   no_row n b t None e h = refl
-  no_row n b t (Some f) e h = absurd (none b 256 f t e h)
+  no_row n b t (Some f) e h = absurd (none b DEEPEST_ELEMENT f t e h)
 
   pub no_faults : (n : ℕ) (bs : List (List ℕ)) (ts : List Tree) → AreTrees bs ts → text_faults n bs ≡ []
   no_faults n [] ts h = refl
   no_faults n (b ∷ bs) [] h = absurd h
   no_faults n (b ∷ bs) (t ∷ ts) h =
-      ap (λ (r : List Found). r ++ text_faults (suc n) bs) (no_row n b t (w b 256) refl h.0) ∙ no_faults (suc n) bs ts h.1
+      ap (λ (r : List Found). r ++ text_faults (suc n) bs) (no_row n b t (w b DEEPEST_ELEMENT) refl h.0) ∙ no_faults (suc n) bs ts h.1

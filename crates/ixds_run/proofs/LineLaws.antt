@@ -5,6 +5,7 @@ use Rattle.std.specs.List.{list_any}
 use Rattle.std.proofs.lemmas.List.{drop_all}
 use Rattle.std.specs.Prelude.{Vec}
 use Rattle.std.proofs.lemmas.Result.{IfOk-weaker}
+use Rattle.ix_base.specs.declared.limits.TheConstants.{MOST_BYTES_PUT, MOST_TAGS_PUT}
 use Rattle.ix_base.specs.Outside.{TellsAlso}
 use Rattle.ix_base.specs.declared.NoMemory.{NoMemory}
 use Rattle.ix_base.specs.declared.rule.Rule.TheVariants.{X2, X3, X4}
@@ -175,7 +176,7 @@ module _ (script : List ℕ) (l : ScriptLine) (old new : Source) (s s' : Session
       (λ bs. ap (λ k. effect_of h.standing l.start k bs) is ∙ (law s s' h.standing l.start name bs h.stands dropped there).0)
       (ap (λ k. name_read h.standing k) is) (λ bs. ap (λ k. bytes_behind k bs) is) (law s s' h.standing l.start name [] h.stands dropped there).1 dropped.base refl
       (let sums = dropped.sums in let within = h.within in
-      (subst (λ n. n ≤ 134217728) (sym (ap (λ x. x.bytes) sums)) within.0, subst (λ n. n ≤ 4194304) (sym (ap (λ x. x.tags) sums)) within.1)) same))
+      (subst (λ n. n ≤ MOST_BYTES_PUT) (sym (ap (λ x. x.bytes) sums)) within.0, subst (λ n. n ≤ MOST_TAGS_PUT) (sym (ap (λ x. x.tags) sums)) within.1)) same))
 
   pub drop_misses : ((s : Session) (t : Standing) (n : ℕ) (name : List ℕ) (bs : List (List ℕ)) → StandsAs s t → is_there (names_in s) name ≡ false
       → effect_of t n (line.Drop name) bs ≡ stops (breaks n X2))

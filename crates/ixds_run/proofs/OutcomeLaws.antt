@@ -1,4 +1,5 @@
 -- Pages have one outcome.
+use Rattle.ix_base.specs.declared.limits.TheConstants.{DEEPEST_ELEMENT}
 use Rattle.std.proofs.Common.{◌≡◌, ◌∙◌, ap, sym, subst, ℕ, Bool, true, false, List, [], ◌∷◌, ◌++◌, All, map, filter, Option, Some, Result, Ok, inl, inr, refl}
 use Rattle.std.specs.List.{flat_map}
 use Rattle.std.proofs.lemmas.List.Elements.{All-head, All-tail}
@@ -103,7 +104,7 @@ module _
     one_trees (b ∷ bs) [] us h k = absurd h
     one_trees (b ∷ bs) (t ∷ ts) [] h k = absurd k
     one_trees (b ∷ bs) (t ∷ ts) (u ∷ us) h k =
-        let first = one b 256 t u h.0 k.0 in
+        let first = one b DEEPEST_ELEMENT t u h.0 k.0 in
         let rest = one_trees bs ts us h.1 k.1 in
         λ i. first i ∷ rest i
 

@@ -2,6 +2,7 @@
 use Rattle.std.proofs.Common.{◌≡◌, ◌≢◌, ◌∙◌, ap, sym, refl, subst, ℕ, suc, ◌==◌, ◌++◌, Bool, true, false, List, [], ◌∷◌, length, Some, None, Result, Ok, Err, IfOk, inl, inr, get_or, rules, arith}
 use Rattle.std.specs.Borrow.{Bor}
 use Rattle.std.specs.Prelude.{All}
+use Rattle.ix_base.specs.declared.limits.TheConstants.{DEEPEST_ELEMENT}
 use Rattle.ix_base.specs.Elements.{pages_of}
 use Rattle.ix_base.specs.Sound.{IsSoundRoot}
 use Rattle.ix_base.specs.Spaces.{AreNumbered, spaces_of}
@@ -47,7 +48,7 @@ pub record IsAlone (bs : List (List ℕ)) (es : List (Bor Element)) : Type 0 whe
   pub root : Bor Element
   pub page_is : bs ≡ bytes ∷ []
   pub root_is : es ≡ root ∷ []
-  pub of_page : page bytes 256 (tree_of root.now)
+  pub of_page : page bytes DEEPEST_ELEMENT (tree_of root.now)
   pub pages : All (λ p. p ≡ 0) (pages_of root.now)
   pub spaces : AreNumbered (spaces_of root.now)
 
@@ -70,10 +71,10 @@ first_is bs f e one at = one.root_is ∙ ap (λ (x : Bor Element). x ∷ []) (sy
 
 -- and it is sound
 pub sound_first : ((b : List ℕ) (n number : ℕ) (e : Element) → page b n (tree_of e) → All (λ p. p ≡ number) (pages_of e) → AreNumbered (spaces_of e) → IsSoundRoot e number n)
-    → (bs : List (List ℕ)) (f : Forest) (e : Bor Element) → IsAlone bs f.roots.items → e ≡ get_or f.roots.items 0 e → (number : ℕ) × IsSoundRoot e.now number 256
+    → (bs : List (List ℕ)) (f : Forest) (e : Bor Element) → IsAlone bs f.roots.items → e ≡ get_or f.roots.items 0 e → (number : ℕ) × IsSoundRoot e.now number DEEPEST_ELEMENT
 sound_first sound bs f e one at =
     let same : one.root ≡ e = sym (at ∙ ap (λ (es : List (Bor Element)). get_or es 0 e) one.root_is) in
-    (0, subst (λ (x : Bor Element). IsSoundRoot x.now 0 256) same (sound one.bytes 256 0 one.root.now one.of_page one.pages one.spaces))
+    (0, subst (λ (x : Bor Element). IsSoundRoot x.now 0 DEEPEST_ELEMENT) same (sound one.bytes DEEPEST_ELEMENT 0 one.root.now one.of_page one.pages one.spaces))
 
 -- pages with one root are one page
 trees_of_one : (bs : List (List ℕ)) (e : Bor Element) → AreRoots 0 bs (e ∷ []) → AreTrees bs (tree_of e.now ∷ [])

@@ -1,6 +1,7 @@
 -- Pages that are handed over in another order say the same.
 use Rattle.std.proofs.Common.{◌≡◌, ◌≢◌, ◌∙◌, ◌++◌, ◌+◌, ◌<◌, ap, inl, inr, refl, subst, sym, ⊎_elim, ℕ, suc, Bool, true, false, List, [], ◌∷◌, length, map, Option, Some, None, arith}
 use Rattle.std.specs.Prelude.{nat_lt, if◌then◌else◌}
+use Rattle.ix_base.specs.declared.limits.TheConstants.{DEEPEST_ELEMENT, MOST_BYTES, MOST_TAGS}
 use Rattle.std.specs.List.{flat_map}
 use Rattle.std.specs.List.Sorted.{IsPermutation}
 use Rattle.std.proofs.lemmas.List.Elements.{All-cons, All-nil}
@@ -63,7 +64,7 @@ size-class false true r e = let same : rule.S2 ≡ r = cc in subst (λ k. class_
 size-class false false r e = absurd (cc)
 
 set-class : (bs : List (List ℕ)) (r : Rule) → set_rule bs ≡ Some r → class_of r ≡ class.S
-set-class bs r e = size-class (nat_lt 268435456 (bytes_in bs)) (nat_lt 8388608 (all_tags_in bs)) r e
+set-class bs r e = size-class (nat_lt MOST_BYTES (bytes_in bs)) (nat_lt MOST_TAGS (all_tags_in bs)) r e
 
 set-report : (ns ms : List (List ℕ)) (r : Rule) → class_of r ≡ class.S → (o : Outcome) → IsReport ns (on_page 0 0 r ∷ []) o → IsReport ms (on_page 0 0 r ∷ []) o
 set-report ns ms r s (Broken report) h =
@@ -81,7 +82,7 @@ fault_at n p = text_fault n p.bytes
 
 fault-moved : (r : ℕ → ℕ) (n : ℕ) (p : Handed) → map (found_moved r) (fault_at n p) ≡ fault_at (r n) p
 unfolding fault_at
-fault-moved r n p = row-moved r n (w p.bytes 256)
+fault-moved r n p = row-moved r n (w p.bytes DEEPEST_ELEMENT)
 
 faults-numbered : (n : ℕ) (ps : List Handed) → text_faults n (bytes_of ps) ≡ numbered fault_at n ps
 unfolding fault_at
@@ -190,10 +191,10 @@ module _ (sound : (b : List ℕ) (n : ℕ) (t : Tree) → page b n t → IsSound
       ps qs m (ts, h, IsPermutation-refl (sources_of ps ts))
 
   have-trees : (ps : List Handed) (ts : List Tree) → AreTrees (bytes_of ps) ts → HaveTrees (sources_of ps ts)
-  have-trees [] ts h = All-nil (λ (s : Source). page s.bytes 256 s.tree)
+  have-trees [] ts h = All-nil (λ (s : Source). page s.bytes DEEPEST_ELEMENT s.tree)
   have-trees (p ∷ ps) [] h = absurd h
   have-trees (p ∷ ps) (t ∷ ts) h =
-      All-cons (λ (s : Source). page s.bytes 256 s.tree) (record { name = p.name; bytes = p.bytes; tree = t }) (sources_of ps ts) h.0 (have-trees ps ts h.1)
+      All-cons (λ (s : Source). page s.bytes DEEPEST_ELEMENT s.tree) (record { name = p.name; bytes = p.bytes; tree = t }) (sources_of ps ts) h.0 (have-trees ps ts h.1)
 
   source-names : (ps : List Handed) (ts : List Tree) → AreTrees (bytes_of ps) ts → map (λ s. s.name) (sources_of ps ts) ≡ names_of ps
   source-names [] ts h = refl

@@ -1,5 +1,6 @@
 -- The lines of a good script.
 use Rattle.std.proofs.Common.{◌≡◌, ◌∙◌, ap, refl, ℕ, ◌≤◌, ◌&&◌, ◌||◌, Bool, true, false, All, nat_eq, nat_lt, nat_le, if◌then◌else◌, List, [], ◌∷◌, length, drop, Option, Some, None, IfSome, option_map, bytes_eq, codes, subst}
+use Rattle.ix_base.specs.declared.limits.TheConstants.{LONGEST_NAME, LONGEST_SCRIPT}
 use Rattle.std.specs.List.{list_all, list_any, starts_with}
 use Rattle.std.specs.Str.{is_utf8}
 use Rattle.std.proofs.lemmas.Bool.{leb-true, ltb-false}
@@ -26,12 +27,12 @@ both : (a b : Bool) → (a && b) ≡ true → (a ≡ true) × (b ≡ true)
 both true b e = (refl, e)
 both false b e = cc
 
-name_by : (name : List ℕ) (v : Bool) → is_page_name name ≡ v → IfSome (if v then Some name else None) (λ n. length n ≤ 4096)
+name_by : (name : List ℕ) (v : Bool) → is_page_name name ≡ v → IfSome (if v then Some name else None) (λ n. length n ≤ LONGEST_NAME)
 name_by name true is =
-    leb-true (length name) 4096 (both (nat_lt 0 (length name)) (nat_le (length name) 4096) (both (nat_lt 0 (length name) && nat_le (length name) 4096) (list_all may_stand_in_name name) is).0).1
+    leb-true (length name) LONGEST_NAME (both (nat_lt 0 (length name)) (nat_le (length name) LONGEST_NAME) (both (nat_lt 0 (length name) && nat_le (length name) LONGEST_NAME) (list_all may_stand_in_name name) is).0).1
 name_by name false is = tt
 
-put_short : (o : Option (List ℕ)) → IfSome o (λ n. length n ≤ 4096) → IfSome (option_map line.Put o) IsShort
+put_short : (o : Option (List ℕ)) → IfSome o (λ n. length n ≤ LONGEST_NAME) → IfSome (option_map line.Put o) IsShort
 put_short None h = tt
 put_short (Some name) h = h
 
@@ -107,7 +108,7 @@ any_extract w (v ∷ ws) ls e = more_step w.start (line_written false w) (said (
 
 -- A good script.
 
-good_by : (v : Bool) (s : Script) (ls : List ScriptLine) → (if v then Bad 65536 else s) ≡ Good ls → (v ≡ false) × (s ≡ Good ls)
+good_by : (v : Bool) (s : Script) (ls : List ScriptLine) → (if v then Bad LONGEST_SCRIPT else s) ≡ Good ls → (v ≡ false) × (s ≡ Good ls)
 good_by true s ls e = absurd (let z = e in cc)
 good_by false s ls e = (refl, e)
 
@@ -116,7 +117,7 @@ lines_by [] ls e = absurd (let z = e in cc)
 lines_by (w ∷ ws) ls e = record { short = all_short (w ∷ ws) ls e; extract = any_extract w ws ls e }
 
 pub script_lines : (script : List ℕ) (ls : List ScriptLine) → script_of script ≡ Good ls → AreLines ls
-script_lines script ls e = lines_by (lines_from 0 script) ls (good_by (nat_lt 65536 (length script)) (unless_none (lines_from 0 script)) ls e).1
+script_lines script ls e = lines_by (lines_from 0 script) ls (good_by (nat_lt LONGEST_SCRIPT (length script)) (unless_none (lines_from 0 script)) ls e).1
 
-pub script_small : (script : List ℕ) (ls : List ScriptLine) → script_of script ≡ Good ls → length script ≤ 65536
-script_small script ls e = ltb-false 65536 (length script) (good_by (nat_lt 65536 (length script)) (unless_none (lines_from 0 script)) ls e).0
+pub script_small : (script : List ℕ) (ls : List ScriptLine) → script_of script ≡ Good ls → length script ≤ LONGEST_SCRIPT
+script_small script ls e = ltb-false LONGEST_SCRIPT (length script) (good_by (nat_lt LONGEST_SCRIPT (length script)) (unless_none (lines_from 0 script)) ls e).0

@@ -22,15 +22,21 @@ fn push_line(line: &Breach, lines: &mut String) -> Result<()> {
     Ok(())
 }
 
+/// Appends the lines of a report.
+fn push_lines(report: &[Breach], lines: &mut String) -> Result<()> {
+    for line in report {
+        push_line(line, lines)?;
+    }
+    Ok(())
+}
+
 /// The lines of the report of breaches on pages of these names.
 fn lines_of(alloc: Global, breaches: Breaches, names: &[Text]) -> Result<String>
     requires { All (λ f. f.place.page < length names.now) breaches }
 {
     let report = breaches.report(names)?;
     let mut lines = String::new(alloc);
-    for line in report.lines.as_slice() {
-        push_line(line, &mut lines)?;
-    }
+    push_lines(report.lines.as_slice(), &mut lines)?;
     Ok(lines)
 }
 

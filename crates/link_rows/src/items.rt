@@ -1,5 +1,6 @@
 //! What items say.
-ghost use Rattle.std.specs.Prelude.{◌≡◌, [], OnOk};
+ghost use Rattle.std.specs.Prelude.{◌≡◌, [], IfOk, OnOk};
+ghost use Rattle.ix_base.specs.declared.limits.TheConstants.{DEEPEST_ELEMENT};
 ghost use Rattle.ix_base.specs.Sound.{IsSoundRoot};
 ghost use Rattle.id_table.specs.Model.{AreChosen};
 
@@ -16,7 +17,7 @@ use std::alloc::Global;
 
 /// What the root of a page says, or the rule of values that it breaks.
 fn said_by<'a>(alloc: Global, element: &'a Element<'a>) -> Result<Result<Item, ItemFault>>
-    requires { IsSoundRoot element.now 0 256 }
+    requires { IsSoundRoot element.now 0 DEEPEST_ELEMENT }
 {
     ensure!(element.place.page == 0, "another page");
     let mut bases = Bases::new(alloc);
@@ -25,10 +26,19 @@ fn said_by<'a>(alloc: Global, element: &'a Element<'a>) -> Result<Result<Item, I
     Ok(item_of(alloc, &spot, &[&spot], &bases))
 }
 
-/// What the root of a page of this text says, or the rule of values that it breaks.
-fn said(alloc: Global, page: &str) -> Result<Result<Item, ItemFault>> {
-    let arena = Bump::new(alloc);
-    said_by(alloc, sound_root(alloc, &arena, 0, page)?)
+/// The root of the page that a row gives.
+fn root_of<'a>(alloc: Global, arena: &'a Bump, cells: &[Cell]) -> Result<&'a Element<'a>>
+    ensures { IfOk result (λ root. IsSoundRoot root.now 0 DEEPEST_ELEMENT) }
+{
+    let [page] = cells else {
+        bail!("a page is wanted");
+    };
+    sound_root(alloc, arena, 0, page.text()?)
+}
+
+/// What the root of the page that a row gives says, or the rule of values that it breaks.
+fn said(alloc: Global, arena: &Bump, cells: &[Cell]) -> Result<Result<Item, ItemFault>> {
+    said_by(alloc, root_of(alloc, arena, cells)?)
 }
 
 /// A value: a text in quotes, two numbers with `/` between them, or `nil`.
@@ -50,12 +60,8 @@ fn value_or_rule(alloc: Global, said: &Result<Item, ItemFault>) -> Result<String
 }
 
 /// The value that the root of a page says, or the rule that it breaks.
-pub(crate) fn value(alloc: Global, cells: &[Cell]) -> Result<String> {
-    let [page] = cells else {
-        bail!("a page is wanted");
-    };
-    let said = said(alloc, page.text()?)?;
-    value_or_rule(alloc, &said)
+pub(crate) fn value(alloc: Global, arena: &Bump, cells: &[Cell]) -> Result<String> {
+    value_or_rule(alloc, &said(alloc, arena, cells)?)
 }
 
 /// A text, or a dash where there is none.
@@ -76,13 +82,20 @@ fn push_accuracy(accuracy: &Option<Accuracy>, text: &mut String) -> Result<()> {
     Ok(())
 }
 
-/// The name, context, unit, accuracy and id of an item.
-fn fields_of(alloc: Global, item: &Item) -> Result<String> {
+/// Appends the name, context, unit, accuracy and id of an item.
+fn push_fields(item: &Item, text: &mut String) -> Result<()> {
     let (ns, local) = (item.name.ns.as_str(), item.name.local.as_str());
     let (context, unit) = (item.context.as_str(), or_dash(&item.unit));
-    let mut text = format!(in alloc; "{{{ns}}}{local} {context} {unit} ")?;
-    push_accuracy(&item.accuracy, &mut text)?;
+    write!(text, "{{{ns}}}{local} {context} {unit} ")?;
+    push_accuracy(&item.accuracy, text)?;
     write!(text, " {}", or_dash(&item.id))?;
+    Ok(())
+}
+
+/// The name, context, unit, accuracy and id of an item.
+fn fields_of(alloc: Global, item: &Item) -> Result<String> {
+    let mut text = String::new(alloc);
+    push_fields(item, &mut text)?;
     Ok(text)
 }
 
@@ -95,12 +108,8 @@ fn fields_said(alloc: Global, said: &Result<Item, ItemFault>) -> Result<String> 
 }
 
 /// What stands beside the value of what the root of a page says: its name, context, unit, accuracy and id.
-pub(crate) fn fields(alloc: Global, cells: &[Cell]) -> Result<String> {
-    let [page] = cells else {
-        bail!("a page is wanted");
-    };
-    let said = said(alloc, page.text()?)?;
-    fields_said(alloc, &said)
+pub(crate) fn fields(alloc: Global, arena: &Bump, cells: &[Cell]) -> Result<String> {
+    fields_said(alloc, &said(alloc, arena, cells)?)
 }
 
 /// Refuses pages of which two elements have one id, or two tuples one tuple id.
@@ -154,12 +163,7 @@ fn view_said(alloc: Global, seen: &FactView<'_>) -> Result<String> {
 }
 
 /// What the attributes of the root of a page say.
-pub(crate) fn viewed(alloc: Global, cells: &[Cell]) -> Result<String> {
-    let [page] = cells else {
-        bail!("a page is wanted");
-    };
-    let page = page.text()?;
-    let arena = Bump::new(alloc);
-    let element = sound_root(alloc, &arena, 0, page)?;
+pub(crate) fn viewed(alloc: Global, arena: &Bump, cells: &[Cell]) -> Result<String> {
+    let element = root_of(alloc, arena, cells)?;
     view_said(alloc, &view(&Spot { element, up: None }))
 }

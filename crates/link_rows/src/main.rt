@@ -76,20 +76,24 @@ fn seen_with<'a>(
 }
 
 /// What is seen of a call of a table on pages. The index is held here alone, and each call is lent it.
-fn of_pages(alloc: Global, table: &str, cells: &[Cell]) -> Result<String> {
-    let arena = Bump::new(alloc);
+fn of_pages(alloc: Global, arena: &Bump, table: &str, cells: &[Cell]) -> Result<String> {
     let mut index = Index::new(alloc);
-    seen_with(alloc, &arena, &mut index, table, cells)
+    seen_with(alloc, arena, &mut index, table, cells)
+}
+
+/// What is seen of a call of a table, which is given these cells. An arena takes the pages.
+fn seen_on(alloc: Global, arena: &Bump, table: &str, cells: &[Cell]) -> Result<String> {
+    match table {
+        "item_fields" => items::fields(alloc, arena, cells),
+        "items" => items::value(alloc, arena, cells),
+        "views" => items::viewed(alloc, arena, cells),
+        _ => of_pages(alloc, arena, table, cells),
+    }
 }
 
 /// What is seen of a call of a table, which is given these cells.
 fn seen(alloc: Global, table: &str, cells: &[Cell]) -> Result<String> {
-    match table {
-        "item_fields" => items::fields(alloc, cells),
-        "items" => items::value(alloc, cells),
-        "views" => items::viewed(alloc, cells),
-        _ => of_pages(alloc, table, cells),
-    }
+    seen_on(alloc, &Bump::new(alloc), table, cells)
 }
 
 fn main(rt: HostRuntime) -> Result<ExitCode> {

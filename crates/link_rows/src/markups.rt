@@ -1,5 +1,6 @@
 //! What stands in a nonNumeric of a page, plain and as markup.
 ghost use Rattle.std.specs.Prelude.{◌<◌, All, IfOk, IfSome, length};
+ghost use Rattle.ix_base.specs.declared.limits.TheConstants.{DEEPEST_ELEMENT};
 ghost use Rattle.ix_base.specs.Elements.{place_of};
 ghost use Rattle.ix_base.specs.Sound.{IsSoundRoot};
 ghost use Rattle.ix_base.specs.Spots.{IsOnOnePage};
@@ -9,7 +10,7 @@ use bumpalo::Bump;
 use escape_text::{markup, markup_as_is, plain};
 use id_table::Index;
 use ix_base::namespaces::XHTML;
-use ix_base::{Element, Kind, Spot, Text, kind_of};
+use ix_base::{Element, Kind, NoMemory, Spot, Text, kind_of};
 use row_tables::{Cell, owned};
 use scopes::Bases;
 use sound_pages::sound_root;
@@ -33,30 +34,49 @@ fn first_text<'a>(
     root: &'a Element<'a>,
     index: &mut Index<'a>,
 ) -> Result<&'a Spot<'a>>
-    requires { IsSoundRoot root.now 0 256 }
+    requires { IsSoundRoot root.now 0 DEEPEST_ELEMENT }
     ensures { IfOk result (λ s. IsOnOnePage s.now) }
 {
     index.add_page(arena, root)?;
     first_in(index).context("no text")
 }
 
-/// What the elements of a chain hold: the plain text, the markup within the namespace of xhtml, or the markup within none with links
-/// as they are written.
+/// Appends the markup within no namespace of what the elements of a chain hold, with links as they are written.
+fn push_written(alloc: Global, chain: &[&Spot<'_>], text: &mut Text) -> Result<(), NoMemory> {
+    for spot in chain {
+        markup_as_is(alloc, spot.element.children, "", text)?;
+    }
+    Ok(())
+}
+
+/// Appends what the elements of a chain hold: the plain text, the markup within the namespace of xhtml, or the markup within none
+/// with links as they are written.
+fn push_held(
+    alloc: Global,
+    which: &str,
+    chain: &[&Spot<'_>],
+    bases: &Bases,
+    text: &mut Text,
+) -> Result<()>
+    requires bases { All (λ s. (place_of s.now).page < length bases.now.pages) chain.now }
+    requires pages { All (λ s. IsOnOnePage s.now) chain.now }
+{
+    match which {
+        "plain" => plain(chain, text)?,
+        "resolved" => markup(alloc, chain, bases, XHTML, text)?,
+        "written" => push_written(alloc, chain, text)?,
+        _ => bail!("no such text"),
+    }
+    Ok(())
+}
+
+/// What the elements of a chain hold, as text or as markup.
 fn text_of(alloc: Global, which: &str, chain: &[&Spot<'_>], bases: &Bases) -> Result<Text>
     requires bases { All (λ s. (place_of s.now).page < length bases.now.pages) chain.now }
     requires pages { All (λ s. IsOnOnePage s.now) chain.now }
 {
     let mut text = Text::of(alloc, "")?;
-    match which {
-        "plain" => plain(chain, &mut text)?,
-        "resolved" => markup(alloc, chain, bases, XHTML, &mut text)?,
-        "written" => {
-            for spot in chain {
-                markup_as_is(alloc, spot.element.children, "", &mut text)?;
-            }
-        }
-        _ => bail!("no such text"),
-    }
+    push_held(alloc, which, chain, bases, &mut text)?;
     Ok(text)
 }
 

@@ -10,7 +10,7 @@ use continuations::{Chains, link};
 use footnotes::{Relations, relate};
 use id_table::Index;
 use ix_base::{
-    Arc, Attrs, Breaches, Element, Footnote, Name, NoMemory, NoteLink, Place, Scope, Spot,
+    Arc, Attrs, Breaches, Element, Footnote, Name, NoMemory, NoteLink, Place, Scope, Spot, Text,
 };
 use scopes::Bases;
 use std::alloc::Global;
@@ -88,19 +88,36 @@ fn push_arc(arc: &Arc, said: &mut String) -> Result<()> {
     Ok(())
 }
 
-/// Writes what a link says.
-fn push_link(link: &NoteLink, said: &mut String) -> Result<()> {
-    write!(said, "; {}:", link.role.as_str())?;
-    for id in link.locs.as_slice() {
+fn push_locs(locs: &[Text], said: &mut String) -> Result<()> {
+    for id in locs {
         write!(said, " {}", id.as_str())?;
     }
     said.push_str(",")?;
-    for footnote in link.footnotes.as_slice() {
+    Ok(())
+}
+
+fn push_footnotes(footnotes: &[Footnote], said: &mut String) -> Result<()> {
+    for footnote in footnotes {
         push_footnote(footnote, said)?;
     }
     said.push_str(",")?;
+    Ok(())
+}
+
+/// Writes what a link says.
+fn push_link(link: &NoteLink, said: &mut String) -> Result<()> {
+    write!(said, "; {}:", link.role.as_str())?;
+    push_locs(link.locs.as_slice(), said)?;
+    push_footnotes(link.footnotes.as_slice(), said)?;
     for arc in link.arcs.as_slice() {
         push_arc(arc, said)?;
+    }
+    Ok(())
+}
+
+fn push_links(links: &[NoteLink], said: &mut String) -> Result<()> {
+    for link in links {
+        push_link(link, said)?;
     }
     Ok(())
 }
@@ -120,10 +137,7 @@ fn push_notes<'a>(
     ensure!(are_below(index.spots(), count), "another page");
     let bases = bases_of(alloc, count)?;
     let links = relations.notes(alloc, target, chains, &bases)?;
-    for link in links.as_slice() {
-        push_link(link, said)?;
-    }
-    Ok(())
+    push_links(links.as_slice(), said)
 }
 
 /// How many breaches there are, and the links of a target of a set of so many pages.

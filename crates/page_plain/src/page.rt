@@ -1,5 +1,6 @@
 //! A page without its inline markup, as it is written.
 ghost use Rattle.std.specs.Prelude.{◌≡◌, ◌++◌, ◌∷◌, [], ℕ, OnOk, IfOk, flat_map, map, false};
+ghost use Rattle.ix_base.specs.declared.limits.TheConstants.{DEEPEST_ELEMENT};
 ghost use Rattle.ix_base.specs.Markup.{declaration};
 ghost use Rattle.ix_base.specs.Spaces.{AreNumbered, IsOuter, space_of, spaces_in, spaces_of};
 ghost use Rattle.ix_base.specs.Trees.{before, nodes_of, none, tree_of};
@@ -181,7 +182,7 @@ fn push_root(
 /// different ones of attributes are put in order by their texts, each once.
 pub fn plain_page(alloc: Global, root: &Element<'_>) -> Result<Text, NoMemory>
     requires kept { plain.is_inline (tree_of root.now).head.name ≡ false }
-    requires sound { (page : ℕ) × IsSoundRoot root.now page 256 }
+    requires sound { (page : ℕ) × IsSoundRoot root.now page DEEPEST_ELEMENT }
     ensures text { IfOk result (λ t. t ≡ plain.spell (plain.bare (tree_of root.now))) }
     ensures page { IfOk result (λ t. IsPageOf t (plain.bare (tree_of root.now))) }
 {

@@ -1,4 +1,5 @@
 -- What is kept of pages, against their names and bytes.
+use Rattle.ix_base.specs.declared.limits.TheConstants.{DEEPEST_ELEMENT}
 use Rattle.std.proofs.Common.{◌≡◌, ◌∙◌, ap, sym, refl, inl, inr, ℕ, zero, suc, ◌+◌, ◌≤◌, ◌<◌, ◌==◌, true, List, [], ◌∷◌, ◌++◌, All, length, drop, get_or, slice_index_or, None, IfOk, Result, Ok, Err, subst, arith, add-one, append-nil, append_assoc, zero-add, add-zero}
 use Rattle.std.specs.Borrow.{Bor}
 use Rattle.std.proofs.Math.Seq.{drop-cons}
@@ -105,19 +106,19 @@ trees_next ks i k old new l e m was =
 pub trees_end : (ks : List Kept) (i : ℕ) (old : List Tree) → drop i ks ≡ [] → old ++ trees_kept (drop i ks) ≡ trees_kept ks → old ≡ trees_kept ks
 trees_end ks i old none was = sym (append-nil old) ∙ ap (λ x. old ++ trees_kept x) (sym none) ∙ was
 
-pub sound_more : (n : ℕ) (es : List (Bor Element)) (e : Bor Element) → AreSoundRoots n es → IsSoundRoot e.now (n + length es) 256 → AreSoundRoots n (es ++ e ∷ [])
-sound_more n [] e all one = (subst (λ k. IsSoundRoot e.now k 256) (add-zero n) one, tt)
+pub sound_more : (n : ℕ) (es : List (Bor Element)) (e : Bor Element) → AreSoundRoots n es → IsSoundRoot e.now (n + length es) DEEPEST_ELEMENT → AreSoundRoots n (es ++ e ∷ [])
+sound_more n [] e all one = (subst (λ k. IsSoundRoot e.now k DEEPEST_ELEMENT) (add-zero n) one, tt)
 sound_more n (x ∷ es) e all one =
-    (all.0, sound_more (suc n) es e all.1 (subst (λ k. IsSoundRoot e.now k 256) (let z : n + suc (length es) ≡ suc n + length es = omega arith in z) one))
+    (all.0, sound_more (suc n) es e all.1 (subst (λ k. IsSoundRoot e.now k DEEPEST_ELEMENT) (let z : n + suc (length es) ≡ suc n + length es = omega arith in z) one))
 
 -- one more root
 pub push_trees : (old new : List (Bor Element)) (e : Bor Element) (t : Tree) → new ≡ old ++ e ∷ [] → tree_of e.now ≡ t → trees_of new ≡ trees_of old ++ t ∷ []
 push_trees old new e t m is = ap trees_of m ∙ map-append (λ (x : Bor Element). tree_of x.now) old (e ∷ []) ∙ (λ i. trees_of old ++ is i ∷ [])
 
-pub push_sound : (old new : List (Bor Element)) (e : Bor Element) (k : ℕ) → new ≡ old ++ e ∷ [] → k ≡ length old → IsSoundRoot e.now k 256 → AreSoundRoots 0 old
+pub push_sound : (old new : List (Bor Element)) (e : Bor Element) (k : ℕ) → new ≡ old ++ e ∷ [] → k ≡ length old → IsSoundRoot e.now k DEEPEST_ELEMENT → AreSoundRoots 0 old
     → AreSoundRoots 0 new
 push_sound old new e k m at one all =
-    subst (λ es. AreSoundRoots 0 es) (sym m) (sound_more 0 old e all (subst (λ n. IsSoundRoot e.now n 256) (at ∙ sym (zero-add (length old))) one))
+    subst (λ es. AreSoundRoots 0 es) (sym m) (sound_more 0 old e all (subst (λ n. IsSoundRoot e.now n DEEPEST_ELEMENT) (at ∙ sym (zero-add (length old))) one))
 
 pub below_names : (names : List (List ℕ)) (ks : List Kept) (found : List Found) → names ≡ names_kept ks → found ≡ breaks_from 0 ks
     → All (λ f. f.place.page < length names) found

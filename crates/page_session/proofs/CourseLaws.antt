@@ -1,6 +1,7 @@
 -- The lines of a script, and the calls that a session does for them.
 use Rattle.std.proofs.Common.{◌≡◌, ◌∙◌, ap, sym, ℕ, ◌+◌, ◌≤◌, inl, inr, true, false, if◌then◌else◌, List, ◌∷◌, length, nat_le, subst, rules}
 use Rattle.std.proofs.lemmas.Bool.{and_left, and_right, lt-leb}
+use Rattle.ix_base.specs.declared.limits.TheConstants.{MOST_BYTES_PUT, MOST_TAGS_PUT}
 use Rattle.ix_base.specs.declared.rule.Rule.TheVariants.{X2, X3, X4}
 use Rattle.targets.specs.Breaches.{tags_in}
 use Rattle.page_session.specs.Course.{Standing, StandsAs, breaks, effect_of, leads, put_effect, stops, with_page, without_page}
@@ -30,12 +31,12 @@ has_room s t n name b bs at room =
     let is : is_one_too_many (names_of t.pages) name ≡ false = ap (λ ns. is_one_too_many ns name) (sym (names_there s t at)) ∙ room in
     λ i. if is i then stops (breaks n X3) else put_effect t n name (b ∷ bs)
 
-small : (bytes tags : ℕ) → bytes ≤ 134217728 → tags ≤ 4194304 → may_hold bytes tags ≡ true
+small : (bytes tags : ℕ) → bytes ≤ MOST_BYTES_PUT → tags ≤ MOST_TAGS_PUT → may_hold bytes tags ≡ true
 small bytes tags b t = search rules
 
 large : (bytes tags : ℕ) → Passes bytes tags → may_hold bytes tags ≡ false
-large bytes tags (inl b) = and_left (nat_le bytes 134217728) (nat_le tags 4194304) (lt-leb bytes 134217728 b)
-large bytes tags (inr t) = and_right (nat_le bytes 134217728) (nat_le tags 4194304) (lt-leb tags 4194304 t)
+large bytes tags (inl b) = and_left (nat_le bytes MOST_BYTES_PUT) (nat_le tags MOST_TAGS_PUT) (lt-leb bytes MOST_BYTES_PUT b)
+large bytes tags (inr t) = and_right (nat_le bytes MOST_BYTES_PUT) (nat_le tags MOST_TAGS_PUT) (lt-leb tags MOST_TAGS_PUT t)
 
 pub puts_line : (old new : Session) (t : Standing) (n : ℕ) (name b : List ℕ) (bs : List (List ℕ)) → StandsAs old t → HasPut (handed name b) old new
     → is_one_too_many (names_in old) name ≡ false → IsWithin new
@@ -44,7 +45,7 @@ puts_line old new t n name b bs at put room within =
     let bytes : bytes_put new ≡ t.bytes + length b = put.bytes ∙ ap (λ k. k + length b) at.bytes in
     let tags : tags_put new ≡ t.tags + tags_in b = put.tags ∙ ap (λ k. k + tags_in b) at.tags in
     let fits : may_hold (t.bytes + length b) (t.tags + tags_in b) ≡ true =
-    small (t.bytes + length b) (t.tags + tags_in b) (subst (λ k. k ≤ 134217728) bytes within.0) (subst (λ k. k ≤ 4194304) tags within.1) in (
+    small (t.bytes + length b) (t.tags + tags_in b) (subst (λ k. k ≤ MOST_BYTES_PUT) bytes within.0) (subst (λ k. k ≤ MOST_TAGS_PUT) tags within.1) in (
       has_room old t n name b bs at room ∙ (λ i. if fits i then leads (with_page t name b) else stops (breaks n X4)),
       record { stands = put.stands t.pages at.stands; bytes = bytes; tags = tags },
     )

@@ -6,6 +6,7 @@ use Rattle.page_session.specs.Sessions.{IsHeld, OfPage}
 use Rattle.page_session.specs.declared.kept.Held.{Held}
 use Rattle.std.proofs.lemmas.List.{take-append-drop, length-take-le}
 use Rattle.std.proofs.lemmas.List.Sums.{sum_by-append}
+use Rattle.ix_base.specs.declared.limits.TheConstants.{MOST_BYTES_PUT, MOST_TAGS_PUT}
 use Rattle.ix_base.specs.Outside.{ReadsFrom}
 use Rattle.ix_base.specs.declared.NoMemory.{NoMemory}
 use Rattle.page_tree.specs.Model.{StandsFor, limit, page_number}
@@ -67,24 +68,24 @@ pub whole_at_end : (took : List ℕ → Type 0) (page left : Option (List ℕ)) 
     → IfSome left (λ rest. rest ≡ []) → IsWhole page left s most
 whole_at_end took page left before s most h end = λ within. told_end page left h.front end h.told
 
-pub held_bytes : (bytes tags : ℕ) → may_hold bytes tags ≡ true → bytes ≤ 134217728
-held_bytes bytes tags h = by (nat_le bytes 134217728) refl h
+pub held_bytes : (bytes tags : ℕ) → may_hold bytes tags ≡ true → bytes ≤ MOST_BYTES_PUT
+held_bytes bytes tags h = by (nat_le bytes MOST_BYTES_PUT) refl h
   where
-    by : (v : Bool) → nat_le bytes 134217728 ≡ v → (v && nat_le tags 4194304) ≡ true → bytes ≤ 134217728
+    by : (v : Bool) → nat_le bytes MOST_BYTES_PUT ≡ v → (v && nat_le tags MOST_TAGS_PUT) ≡ true → bytes ≤ MOST_BYTES_PUT
     by true e h = search rules
     by false e h = absurd cc
 
-pub held_tags : (bytes tags : ℕ) → may_hold bytes tags ≡ true → tags ≤ 4194304
-held_tags bytes tags h = by (nat_le bytes 134217728) refl h
+pub held_tags : (bytes tags : ℕ) → may_hold bytes tags ≡ true → tags ≤ MOST_TAGS_PUT
+held_tags bytes tags h = by (nat_le bytes MOST_BYTES_PUT) refl h
   where
-    by : (v : Bool) → nat_le bytes 134217728 ≡ v → (v && nat_le tags 4194304) ≡ true → tags ≤ 4194304
+    by : (v : Bool) → nat_le bytes MOST_BYTES_PUT ≡ v → (v && nat_le tags MOST_TAGS_PUT) ≡ true → tags ≤ MOST_TAGS_PUT
     by true e h = search rules
     by false e h = absurd cc
 
 pub over_either : (bytes tags : ℕ) → may_hold bytes tags ≡ false → Passes bytes tags
-over_either bytes tags h = by (cases_lt 134217728 bytes) (cases_lt 4194304 tags)
+over_either bytes tags h = by (cases_lt MOST_BYTES_PUT bytes) (cases_lt MOST_TAGS_PUT tags)
   where
-    by : (134217728 < bytes) ⊎ (bytes ≤ 134217728) → (4194304 < tags) ⊎ (tags ≤ 4194304) → Passes bytes tags
+    by : (MOST_BYTES_PUT < bytes) ⊎ (bytes ≤ MOST_BYTES_PUT) → (MOST_TAGS_PUT < tags) ⊎ (tags ≤ MOST_TAGS_PUT) → Passes bytes tags
     by (inl b) t = inl b
     by (inr b) (inl t) = inr t
     by (inr b) (inr t) = absurd (let both : may_hold bytes tags ≡ true = search rules in cc)

@@ -1,5 +1,6 @@
 -- A script, line by line.
 use Rattle.std.proofs.Common.{◌≡◌, ◌∙◌, ap, sym, refl, ℕ, zero, suc, ◌+◌, ◌-◌, ◌≤◌, ◌<◌, ◌==◌, Bool, true, false, cond, if◌then◌else◌, nat_lt, List, [], ◌∷◌, ◌++◌, length, take, drop, get_or, Option, Some, None, subst, arith, ◌⊎◌, inl, inr, length-drop}
+use Rattle.ix_base.specs.declared.limits.TheConstants.{LONGEST_SCRIPT}
 use Rattle.std.proofs.lemmas.List.{drop-drop, take_rest}
 use mathlib.Core.Bool.{beq, not}
 use Rattle.std.specs.List.{position_or_len}
@@ -154,9 +155,9 @@ unless_some [] e = absurd cc
 unless_some (w ∷ ws) e = refl
 
 -- a script that is neither too long nor empty says what its lines say
-pub script_is : (script : List ℕ) → length script ≤ 65536 → 0 < length script → said_from 0 script ≡ script_of script
+pub script_is : (script : List ℕ) → length script ≤ LONGEST_SCRIPT → 0 < length script → said_from 0 script ≡ script_of script
 script_is script short some =
-    sym ((λ i. if le-ltb 65536 (length script) short i then Bad 65536 else unless_none (lines_from 0 script))
+    sym ((λ i. if le-ltb LONGEST_SCRIPT (length script) short i then Bad LONGEST_SCRIPT else unless_none (lines_from 0 script))
     ∙ unless_some (lines_from 0 script) (last_some 0 script some))
 
 -- at a line that isn't ended
@@ -185,7 +186,7 @@ next_line n end m script o l is at good =
     )
 
 -- what stands behind lines that were read is bad, and so is the script
-pub bad_from : (ls : List ScriptLine) (n : ℕ) (script : List ℕ) → length script ≤ 65536 → n < length script → joined ls (said_from n script) ≡ said_from 0 script
+pub bad_from : (ls : List ScriptLine) (n : ℕ) (script : List ℕ) → length script ≤ LONGEST_SCRIPT → n < length script → joined ls (said_from n script) ≡ said_from 0 script
     → said_from n script ≡ Bad n → Bad n ≡ script_of script
 bad_from ls n script short l was bad = sym (joined-bad ls n) ∙ ap (joined ls) (sym bad) ∙ was ∙ script_is script short (omega arith)
 
@@ -200,7 +201,7 @@ none_said n [] e = refl
 none_said n (b ∷ bs) e = absurd (omega arith)
 
 -- no line is left
-pub all_said : (ls : List ScriptLine) (n : ℕ) (script : List ℕ) → length script ≤ 65536 → 0 < length script → length script ≤ n
+pub all_said : (ls : List ScriptLine) (n : ℕ) (script : List ℕ) → length script ≤ LONGEST_SCRIPT → 0 < length script → length script ≤ n
     → joined ls (said_from n script) ≡ said_from 0 script → Good ls ≡ script_of script
 all_said ls n script short some end was =
     sym (joined-good ls) ∙ ap (joined ls) (sym (none_said n (drop n script) (omega (arith, length-drop n script)))) ∙ was ∙ script_is script short some

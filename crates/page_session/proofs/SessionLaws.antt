@@ -2,6 +2,7 @@
 use Rattle.std.proofs.Common.{◌≡◌, ◌∙◌, ap, sym, refl, ℕ, ◌+◌, ◌≤◌, ◌<◌, Bool, true, false, nat_lt, if◌then◌else◌, List, [], ◌∷◌, ◌++◌, length, slice_set, Option, Some, None, IfOk, Result, Ok, Err, subst, arith}
 use Rattle.std.specs.List.{remove}
 use Rattle.std.proofs.lemmas.Bool.{le-ltb}
+use Rattle.ix_base.specs.declared.limits.TheConstants.{MOST_BYTES, MOST_TAGS}
 use Rattle.ix_base.specs.declared.rule.Rule.TheVariants.{S1, S2}
 use Rattle.ix_base.specs.declared.NoMemory.{NoMemory}
 use Rattle.page_session.specs.HandedPages.{Handed, handed, bytes_of, names_of, drop_in, place_of}
@@ -68,10 +69,10 @@ pub small : (s : Session) (pages : List Handed) → StandsFor s pages → set_ru
 small s pages h =
     let bytes = held_bytes s.sums.bytes s.sums.tags s.within in
     let tags = held_tags s.sums.bytes s.sums.tags s.within in
-    let few : bytes_in (bytes_of pages) ≤ 268435456 = let was = h.bytes in omega arith in
-    let less : all_tags_in (bytes_of pages) ≤ 8388608 = let was = h.tags in omega arith in
-    small_rule (nat_lt 268435456 (bytes_in (bytes_of pages))) (nat_lt 8388608 (all_tags_in (bytes_of pages)))
-    (le-ltb 268435456 (bytes_in (bytes_of pages)) few) (le-ltb 8388608 (all_tags_in (bytes_of pages)) less)
+    let few : bytes_in (bytes_of pages) ≤ MOST_BYTES = let was = h.bytes in omega arith in
+    let less : all_tags_in (bytes_of pages) ≤ MOST_TAGS = let was = h.tags in omega arith in
+    small_rule (nat_lt MOST_BYTES (bytes_in (bytes_of pages))) (nat_lt MOST_TAGS (all_tags_in (bytes_of pages)))
+    (le-ltb MOST_BYTES (bytes_in (bytes_of pages)) few) (le-ltb MOST_TAGS (all_tags_in (bytes_of pages)) less)
 
 -- what the kept pages come to is what those come to for which the session stands
 pub all_stand : (s : Session) (base : List ℕ) (ks : List Kept) (r : Result Outcome NoMemory) → base ≡ s.base → ks ≡ s.kept.items

@@ -1,5 +1,6 @@
 -- Scripts that are read piece by piece.
 use Rattle.std.proofs.Common.{◌≡◌, ◌∙◌, ap, sym, refl, ℕ, ◌+◌, ◌≤◌, ◌<◌, ◌⊎◌, inl, inr, if◌then◌else◌, List, [], ◌++◌, length, nat_le, Option, Some, None, IfSome, append-nil, length-append, zero-add, arith}
+use Rattle.ix_base.specs.declared.limits.TheConstants.{LONGEST_SCRIPT}
 use Rattle.std.proofs.lemmas.Bool.{and_from, cases_lt, le-leb, lt-ltb}
 use Rattle.page_session.specs.PieceReads.{HasFed, IsWhole}
 use Rattle.page_session.specs.Script.{lines_from, script_of, unless_none}
@@ -8,17 +9,17 @@ use Rattle.page_session.specs.declared.reading.Sums.{Sums}
 use Rattle.page_session.specs.declared.script.Script.{Script}
 use Rattle.page_session.specs.declared.script.Script.TheVariants.{Bad}
 
-long_script : (script : List ℕ) → 65536 < length script → script_of script ≡ Bad 65536
-long_script script l = λ i. if lt-ltb 65536 (length script) l i then Bad 65536 else unless_none (lines_from 0 script)
+long_script : (script : List ℕ) → LONGEST_SCRIPT < length script → script_of script ≡ Bad LONGEST_SCRIPT
+long_script script l = λ i. if lt-ltb LONGEST_SCRIPT (length script) l i then Bad LONGEST_SCRIPT else unless_none (lines_from 0 script)
 
 -- what its front says is what a script says, since nothing behind 65,536 bytes is looked at
 script_front : (page left : Option (List ℕ)) (front : List ℕ) (said : Script)
     → IfSome page (λ b. (rest : List ℕ) × (b ≡ front ++ rest) × (left ≡ Some rest))
-    → (length front ≤ 65536 → IfSome page (λ b. left ≡ Some [])) → said ≡ script_of front → OfPage page (λ b. said ≡ script_of b)
+    → (length front ≤ LONGEST_SCRIPT → IfSome page (λ b. left ≡ Some [])) → said ≡ script_of front → OfPage page (λ b. said ≡ script_of b)
 script_front None left front said h whole is = (front, tt, is)
-script_front (Some b) left front said h whole is = (b, refl, is ∙ by (cases_lt 65536 (length front)))
+script_front (Some b) left front said h whole is = (b, refl, is ∙ by (cases_lt LONGEST_SCRIPT (length front)))
   where
-    by : (65536 < length front) ⊎ (length front ≤ 65536) → script_of front ≡ script_of b
+    by : (LONGEST_SCRIPT < length front) ⊎ (length front ≤ LONGEST_SCRIPT) → script_of front ≡ script_of b
     by (inl l) =
         let more : length b ≡ length front + length h.0 = ap length h.1 ∙ length-append front h.0 in
         long_script front l ∙ sym (long_script b (omega arith))
@@ -30,10 +31,10 @@ script_front (Some b) left front said h whole is = (b, refl, is ∙ by (cases_lt
 -- what was read of a script says what the script says
 pub script_told : (page left : Option (List ℕ)) (bytes : List ℕ) (s : Sums) (said : Script)
     → HasFed (λ b. bytes ≡ b) page left (record { bytes = 0; tags = 0 }) s → s.tags ≤ s.bytes
-    → IsWhole page left s (record { bytes = 65536; tags = 18446744073709551615 }) → said ≡ script_of bytes → OfPage page (λ b. said ≡ script_of b)
+    → IsWhole page left s (record { bytes = LONGEST_SCRIPT; tags = 18446744073709551615 }) → said ≡ script_of bytes → OfPage page (λ b. said ≡ script_of b)
 script_told page left bytes s said fed tags whole is =
     script_front page left fed.front said fed.told
     (λ few. let size : s.bytes ≡ length fed.front = fed.bytes ∙ zero-add (length fed.front) in
-    let most : s.bytes ≤ 65536 = omega arith in
-    whole (and_from (nat_le s.bytes 65536) (nat_le s.tags 18446744073709551615) (le-leb s.bytes 65536 most) (le-leb s.tags 18446744073709551615 (omega arith))))
+    let most : s.bytes ≤ LONGEST_SCRIPT = omega arith in
+    whole (and_from (nat_le s.bytes LONGEST_SCRIPT) (nat_le s.tags 18446744073709551615) (le-leb s.bytes LONGEST_SCRIPT most) (le-leb s.tags 18446744073709551615 (omega arith))))
     (is ∙ ap script_of fed.taken)

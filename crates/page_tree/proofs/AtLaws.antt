@@ -1,4 +1,5 @@
 -- The construct that starts at an offset of a page, from the page's bytes.
+use Rattle.ix_base.specs.declared.limits.TheConstants.{DEEPEST_ELEMENT}
 use Rattle.std.proofs.Common.{◌≡◌, ◌∙◌, ⊎_elim, ℕ, ◌+◌, ◌≤◌, ◌==◌, Bool, true, false, ◌&&◌, ◌||◌, if◌then◌else◌, List, [], ◌∷◌, map, option_map, length, drop, Contains, Option, Some, None, is_none, refl, sym, ap, subst, arith}
 use Rattle.std.proofs.lemmas.List.{length-drop}
 use Rattle.ix_base.proofs.OnceLemmas.{Contains-later, Contains-same}
@@ -26,16 +27,16 @@ pub record IsCut (b : List ℕ) : Type 0 where
   pub is : cut b ≡ cut_from (length (text_of b)) true true (raw false (mark_size b) (drop (mark_size b) b))
   pub rest : (cut b).rest ≡ []
 
-pub whole-cut : (b : List ℕ) → w b 256 ≡ None → IsCut b
+pub whole-cut : (b : List ℕ) → w b DEEPEST_ELEMENT ≡ None → IsCut b
 whole-cut b u =
-    let p = (found b 256 u).1 in
+    let p = (found b DEEPEST_ELEMENT u).1 in
     let t = text-raw b p.good in
     record {
       is = ap (λ o. cut_from (length (text_of b)) (is_none o) true (text_of b)) p.good ∙ ap (cut_from (length (text_of b)) true true) t;
       rest = p.whole;
     }
 
-pub starts-there : (b : List ℕ) (from : ℕ) → w b 256 ≡ None → Contains (map (λ c. c.start) (cut b).constructs) from → IsAt true (mark_size b) (drop (mark_size b) b) (reaches b) from
+pub starts-there : (b : List ℕ) (from : ℕ) → w b DEEPEST_ELEMENT ≡ None → Contains (map (λ c. c.start) (cut b).constructs) from → IsAt true (mark_size b) (drop (mark_size b) b) (reaches b) from
 starts-there b from u h =
     let c = whole-cut b u in
     let at = mark_size b in
@@ -56,7 +57,7 @@ same-starts end [] = refl
 same-starts end (c ∷ []) = refl
 same-starts end (c ∷ d ∷ cs) = ap (λ l. c.start ∷ l) (same-starts end (d ∷ cs))
 
-pub none-there : (b : List ℕ) (from : ℕ) → w b 256 ≡ None → length b ≤ from → reach_at (reaches b) from ≡ None
+pub none-there : (b : List ℕ) (from : ℕ) → w b DEEPEST_ELEMENT ≡ None → length b ≤ from → reach_at (reaches b) from ≡ None
 none-there b from u l = by (reach_at (reaches b) from) refl where
   by : (o : Option Reach) → reach_at (reaches b) from ≡ o → reach_at (reaches b) from ≡ None
   by None e = e
@@ -81,12 +82,12 @@ behind-there b from front e = ap (λ n. drop n b) e ∙ sym (drop-behind front (
 
 -- what is found of a page from an offset on
 pub record IsLooked (b : List ℕ) (from : ℕ) (rest : List ℕ) (first : Bool) : Type 0 where
-  pub unbroken : w b 256 ≡ None
+  pub unbroken : w b DEEPEST_ELEMENT ≡ None
   pub stands : StandsAt b from
   pub rest_is : rest ≡ drop from b
   pub first_is : first ≡ is_front b from
 
-pub at-end : (b : List ℕ) (from : ℕ) (rest : List ℕ) → w b 256 ≡ None → rest ≡ drop from b → (length rest == 0) ≡ true → None ≡ option_map told (reach_at (reaches b) from)
+pub at-end : (b : List ℕ) (from : ℕ) (rest : List ℕ) → w b DEEPEST_ELEMENT ≡ None → rest ≡ drop from b → (length rest == 0) ≡ true → None ≡ option_map told (reach_at (reaches b) from)
 at-end b from rest u r e =
     let gone : length rest ≡ 0 = one_number (length rest) 0 e in
     let left = length-drop from b in

@@ -267,10 +267,12 @@ impl<'a> TreeBuilder<'a> {
         let setting = self.setting;
         let mut marks = Vec::new(setting.alloc);
         let stop = self.feed.end(&mut marks);
+        let mut building = self.building;
+        let mut written = self.written;
         end(
             &setting,
-            self.building,
-            self.written,
+            &mut building,
+            &mut written,
             stop,
             &self.pending,
             self.fed,

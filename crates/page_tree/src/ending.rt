@@ -101,26 +101,26 @@ fn rest_offset(pending: &Pending, at: usize) -> Option<u64>
 /// Ends a page of so many bytes, whose characters ended so.
 pub(crate) fn end<'a>(
     setting: &Setting<'a>,
-    mut building: Building<'a>,
-    mut written: Vec<Attribute<'a>>,
+    building: &mut Building<'a>,
+    written: &mut Vec<Attribute<'a>>,
     stop: Result<(), TextFault>,
     pending: &Pending,
     size: u64,
 ) -> Result<&'a Element<'a>, PageFault>
     ensures verdict { (us : List Byte) (z : _) → Waits pending.now us → stop ≡ answer z → result ≢ Err PageFault.NoMemory
-        → verdict_of result ≡ end_of setting.now.depth (state_of building.entry) pending.now.is_first us z size }
+        → verdict_of result ≡ end_of setting.now.depth (state_of building.old) pending.now.is_first us z size }
     ensures root { IfOk result (λ e. (us : List Byte) (z : _) → Waits pending.now us → stop ≡ answer z → (t : State) × (z ≡ None)
         × ((finished true pending.now.is_first us).rest ≡ [])
-        × (acted_on setting.now.depth (state_of building.entry) true pending.now.is_first us ≡ Ok t)
+        × (acted_on setting.now.depth (state_of building.old) true pending.now.is_first us ≡ Ok t)
         × (whole t.frames t.root ≡ Some (tree_of e.now))) }
-    ensures page { IfOk result (λ e. IsOnPage setting.now.page building.entry
+    ensures page { IfOk result (λ e. IsOnPage setting.now.page building.old
         → AreAll setting.now.page (pages_of e.now)) }
-    ensures spaces { IfOk result (λ e. IsOnPage setting.now.page building.entry → AreNumbered (spaces_of e.now)) }
+    ensures spaces { IfOk result (λ e. IsOnPage setting.now.page building.old → AreNumbered (spaces_of e.now)) }
 {
     let Ok(settled) = settle(
         setting,
-        &mut building,
-        &mut written,
+        building,
+        written,
         stop.is_ok(),
         pending.is_first,
         pending.text.as_str(),
@@ -136,7 +136,7 @@ pub(crate) fn end<'a>(
         return Err(fault_in_text(fault));
     }
     let rest = rest_offset(pending, settled.taken);
-    match root_behind(&building, rest, size) {
+    match root_behind(building, rest, size) {
         Ok(root) => Ok(root),
         Err(broken) => Err(fault_of(broken)),
     }

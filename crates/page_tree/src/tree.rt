@@ -175,6 +175,8 @@ impl<'a> Building<'a> {
             → AreFrom (spaces_bound scope.entry) (spaces_open o)) }
         ensures spaces { OnOk result (flat_map spaces_open self.new.elements.items ≡ flat_map spaces_open self.old.elements.items) }
     {
+        flush_innermost(setting.arena, &mut self.elements, &mut self.text)?;
+        self.text.clear();
         let children = empty_list(setting.alloc, &mut self.spare);
         let element = open_element(
             children,
@@ -185,8 +187,6 @@ impl<'a> Building<'a> {
             self.expanded.as_slice(),
             &mut self.attrs,
         )?;
-        flush_innermost(setting.arena, &mut self.elements, &mut self.text)?;
-        self.text.clear();
         Ok(element)
     }
 

@@ -32,26 +32,42 @@ fn push_repeated(bytes: &mut Vec<u8>, written: &str) -> Result<()> {
     Ok(())
 }
 
-/// Appends what an escape stands for, and what is behind it.
-fn push_escape(bytes: &mut Vec<u8>, part: &str) -> Result<()> {
-    let (kind, mut rest) = part.split_at_checked(1).context("no escape")?;
+/// Appends a byte, which an escape of one letter stands for. It gives what is behind it.
+fn push_byte<'t>(bytes: &mut Vec<u8>, byte: u8, behind: &'t str) -> Result<&'t str> {
+    bytes.push(byte)?;
+    Ok(behind)
+}
+
+/// Appends the byte of two hexadecimal digits. It gives what is behind them.
+fn push_hex<'t>(bytes: &mut Vec<u8>, text: &'t str) -> Result<&'t str> {
+    let (digits, behind) = text.split_at_checked(2).context("two digits")?;
+    push_byte(bytes, hex_byte(digits)?, behind)
+}
+
+/// Appends what stands in front of a closing brace, as often as it says. It gives what is behind the brace.
+fn push_braced<'t>(bytes: &mut Vec<u8>, text: &'t str) -> Result<&'t str> {
+    let (repeated, behind) = text.split_once('}').context("no end")?;
+    push_repeated(bytes, repeated)?;
+    Ok(behind)
+}
+
+/// Appends what an escape of this kind stands for. It gives what is behind it.
+fn push_meant<'t>(bytes: &mut Vec<u8>, kind: &str, text: &'t str) -> Result<&'t str> {
     match kind {
-        "t" => bytes.push(b'\t')?,
-        "n" => bytes.push(b'\n')?,
-        "r" => bytes.push(b'\r')?,
-        "x" => {
-            let (digits, behind) = rest.split_at_checked(2).context("two digits")?;
-            bytes.push(hex_byte(digits)?)?;
-            rest = behind;
-        }
-        "{" => {
-            let (repeated, behind) = rest.split_once('}').context("no end")?;
-            push_repeated(bytes, repeated)?;
-            rest = behind;
-        }
+        "t" => push_byte(bytes, b'\t', text),
+        "n" => push_byte(bytes, b'\n', text),
+        "r" => push_byte(bytes, b'\r', text),
+        "x" => push_hex(bytes, text),
+        "{" => push_braced(bytes, text),
         _ => bail!("an escape that is none"),
     }
-    bytes.extend_from_slice(rest.as_bytes())?;
+}
+
+/// Appends what an escape stands for, and what is behind it.
+fn push_escape(bytes: &mut Vec<u8>, part: &str) -> Result<()> {
+    let (kind, text) = part.split_at_checked(1).context("no escape")?;
+    let behind = push_meant(bytes, kind, text)?;
+    bytes.extend_from_slice(behind.as_bytes())?;
     Ok(())
 }
 

@@ -40,6 +40,44 @@ fn row_difference<F: Fn(Global, &str, &[Cell]) -> Result<String>>(
     call_difference(alloc, seen, table, given, due)
 }
 
+/// What is told of a row of a table behind the row itself, where it isn't as due.
+fn row_told<F: Fn(Global, &str, &[Cell]) -> Result<String>>(
+    alloc: Global,
+    line: &str,
+    table: &str,
+    seen: &F,
+) -> Result<Option<String>>
+    requires { F.IsAlwaysCallable seen.now }
+{
+    match row_difference(alloc, seen, table, line) {
+        Ok(None) => Ok(None),
+        Ok(Some(text)) => Ok(Some(format!(in alloc; "{line}: {text}")?)),
+        Err(error) => Ok(Some(format!(in alloc; "{line}: {error:#}")?)),
+    }
+}
+
+/// What is told of the first row of a table of this text that isn't as due, else its count of rows, and whether all are as due.
+fn rows_told<F: Fn(Global, &str, &[Cell]) -> Result<String>>(
+    alloc: Global,
+    seen: &F,
+    table: &str,
+    text: &str,
+) -> Result<(bool, String)>
+    requires { F.IsAlwaysCallable seen.now }
+{
+    let mut count = 0u64;
+    for line in text.lines() {
+        if line.starts_with('#') {
+            continue;
+        }
+        if let Some(told) = row_told(alloc, line, table, seen)? {
+            return Ok((false, told));
+        }
+        count = count.saturating_add(1);
+    }
+    Ok((true, format!(in alloc; "{count} rows")?))
+}
+
 /// What is told of a table, and whether all its rows are as due.
 fn told<R: Files + AllocGlobal, F: Fn(Global, &str, &[Cell]) -> Result<String>>(
     rt: &R,
@@ -48,20 +86,8 @@ fn told<R: Files + AllocGlobal, F: Fn(Global, &str, &[Cell]) -> Result<String>>(
 ) -> Result<(bool, String)>
     requires { F.IsAlwaysCallable seen.now }
 {
-    let alloc = rt.alloc();
     let text = fs::read_to_string(rt, table).context("reading")?;
-    let mut count = 0u64;
-    for line in text.as_str().lines() {
-        if line.starts_with('#') {
-            continue;
-        }
-        match row_difference(alloc, seen, table, line) {
-            Ok(None) => count = count.saturating_add(1),
-            Ok(Some(text)) => return Ok((false, format!(in alloc; "{line}: {text}")?)),
-            Err(error) => return Ok((false, format!(in alloc; "{line}: {error:#}")?)),
-        }
-    }
-    Ok((true, format!(in alloc; "{count} rows")?))
+    rows_told(rt.alloc(), seen, table, text.as_str())
 }
 
 /// Runs the rows of a table and prints its line. It tells whether all are as due.

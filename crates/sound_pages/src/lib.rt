@@ -2,11 +2,13 @@
 #![tactic(auto)]
 
 ghost use Rattle.std.specs.Prelude.{◌≡◌, IfOk};
+ghost use Rattle.ix_base.specs.declared.limits.TheConstants.{DEEPEST_ELEMENT};
 ghost use Rattle.ix_base.specs.Sound.{IsSoundRoot};
 
 use anyhow::{Result, bail};
 use bumpalo::Bump;
 use ix_base::Element;
+use ix_base::limits::DEEPEST_ELEMENT;
 use page_tree::laws::sound_tree;
 use page_tree::{PageFault, TreeBuilder};
 use std::alloc::Global;
@@ -18,9 +20,9 @@ pub fn sound_root<'a>(
     page: u32,
     text: &str,
 ) -> Result<&'a Element<'a>>
-    ensures { IfOk result (λ e. IsSoundRoot e.now page 256) }
+    ensures { IfOk result (λ e. IsSoundRoot e.now page DEEPEST_ELEMENT) }
 {
-    let mut builder = TreeBuilder::new(alloc, arena, page, 256);
+    let mut builder = TreeBuilder::new(alloc, arena, page, DEEPEST_ELEMENT);
     builder.feed(text.as_bytes())?;
     match builder.finish() {
         Ok(root) => {

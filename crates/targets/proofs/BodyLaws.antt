@@ -2,6 +2,7 @@
 use Rattle.std.proofs.Common.{◌≡◌, ◌≢◌, ◌∙◌, ap, sym, subst, refl, ℕ, zero, suc, ◌≤◌, ◌==◌, Bool, true, false, not, ◌&&◌, ◌||◌, cond, List, [], ◌∷◌, ◌++◌, All, length, map, Option, Some, None, append_assoc, append-nil, arith, ⊎_elim, inl, inr, ◌⊎◌}
 use Rattle.std.specs.List.{Contains, filter}
 use Rattle.std.specs.Prelude.{if◌then◌else◌, is_some, nat_lt}
+use Rattle.ix_base.specs.declared.limits.TheConstants.{DEEPEST_ELEMENT}
 use Rattle.std.proofs.lemmas.Bool.{and_parts}
 use Rattle.std.proofs.lemmas.Bool.Decides.{nat_tests}
 use Rattle.std.proofs.lemmas.List.Elements.{All-cons, All-filter, All-head, All-map, All-tail, All-weaker, Contains-append_cases}
@@ -331,21 +332,21 @@ below-sound d above (elem head kids rest) p s h =
     (Contains-append_cases (below (t ∷ above) kids) (below above rest) p k))
     (Contains-cases (placed_at t above) (below (t ∷ above) kids ++ below above rest) p h)
 
-element-sound : (t : Tree) (p : Placed) → IsSoundTree t 256 → Contains (elements_of t) p → AreSound 255 p.tree.children
+element-sound : (t : Tree) (p : Placed) → IsSoundTree t DEEPEST_ELEMENT → Contains (elements_of t) p → AreSound 255 p.tree.children
 element-sound t p s h =
     let n = s.nodes in
-    let depth : 256 ≡ suc n.0 = n.1 in
+    let depth : DEEPEST_ELEMENT ≡ suc n.0 = n.1 in
     ⊎_elim
     (λ e. subst (λ (q : Placed). AreSound 255 q.tree.children) e (sound-deeper t.children n.0 255 (omega (arith, depth)) n.3))
-    (λ k. below-sound 255 (t ∷ []) t.children p (sound-deeper t.children n.0 256 (omega (arith, depth)) n.3) k)
+    (λ k. below-sound 255 (t ∷ []) t.children p (sound-deeper t.children n.0 DEEPEST_ELEMENT (omega (arith, depth)) n.3) k)
     (Contains-cases (placed_at t []) (below (t ∷ []) t.children) p h)
 
-pub children-sound : (n : ℕ) (pages : List Paged) → All (λ p. IsSoundTree p.tree 256) pages → (e : Located) → Contains (marked_from n pages) e
+pub children-sound : (n : ℕ) (pages : List Paged) → All (λ p. IsSoundTree p.tree DEEPEST_ELEMENT) pages → (e : Located) → Contains (marked_from n pages) e
     → AreSound 255 e.placed.tree.children
 children-sound n [] s e h = absurd (Contains-nil e h)
 children-sound n (p ∷ pages) s e h = ⊎_elim
-    (λ here. element-sound p.tree e.placed (All-head (λ (q : Paged). IsSoundTree q.tree 256) p pages s) (page_marked-on n p.tree e here).1)
-    (λ later. children-sound (suc n) pages (All-tail (λ (q : Paged). IsSoundTree q.tree 256) p pages s) e later)
+    (λ here. element-sound p.tree e.placed (All-head (λ (q : Paged). IsSoundTree q.tree DEEPEST_ELEMENT) p pages s) (page_marked-on n p.tree e here).1)
+    (λ later. children-sound (suc n) pages (All-tail (λ (q : Paged). IsSoundTree q.tree DEEPEST_ELEMENT) p pages s) e later)
     (Contains-append_cases (page_marked n p.tree) (marked_from (suc n) pages) e h)
 
 along-sound : (bases : Located → Option (List ℕ)) (es : List Located) → ((e : Located) → Contains es e → AreSound 255 e.placed.tree.children)

@@ -1,4 +1,5 @@
 -- From the pages that a set keeps to what is asked of its elements.
+use Rattle.ix_base.specs.declared.limits.TheConstants.{DEEPEST_ELEMENT}
 use Rattle.std.proofs.Common.{◌≡◌, ◌∙◌, ap, sym, subst, ℕ, suc, ◌+◌, ◌<◌, List, [], ◌∷◌, ◌++◌, length, map, drop, take, get_or, ◌-◌, arith, add-one, append_assoc, append-nil, rules, false}
 use Rattle.std.specs.List.{All, flat_map}
 use Rattle.std.proofs.Math.Seq.{drop-append_seam, drop-cons, take-length}
@@ -23,14 +24,14 @@ use Rattle.targets.specs.declared.closing.Page.{Page}
 use Rattle.targets.specs.Faults.{faults_from}
 use Rattle.targets.specs.Model.{AreSoundFrom, Keeps, as_paged}
 
-pub sound-trees : (n : ℕ) (pages : List Page) → AreSoundFrom n pages → All (λ p. IsSoundTree p.tree 256) (map as_paged pages)
-sound-trees n [] h = All-nil (λ (p : Paged). IsSoundTree p.tree 256)
-sound-trees n (p ∷ pages) h = All-cons (λ (q : Paged). IsSoundTree q.tree 256) (as_paged p) (map as_paged pages) h.0.tree (sound-trees (suc n) pages h.1)
+pub sound-trees : (n : ℕ) (pages : List Page) → AreSoundFrom n pages → All (λ p. IsSoundTree p.tree DEEPEST_ELEMENT) (map as_paged pages)
+sound-trees n [] h = All-nil (λ (p : Paged). IsSoundTree p.tree DEEPEST_ELEMENT)
+sound-trees n (p ∷ pages) h = All-cons (λ (q : Paged). IsSoundTree q.tree DEEPEST_ELEMENT) (as_paged p) (map as_paged pages) h.0.tree (sound-trees (suc n) pages h.1)
 
-pub sound-push : (n : ℕ) (pages : List Page) (p : Page) → AreSoundFrom n pages → IsSoundRoot p.root.now (n + length pages) 256 → AreSoundFrom n (pages ++ p ∷ [])
-sound-push n [] p h r = (subst (λ k. IsSoundRoot p.root.now k 256) (let e : n + 0 ≡ n = omega arith in e) r, tt)
+pub sound-push : (n : ℕ) (pages : List Page) (p : Page) → AreSoundFrom n pages → IsSoundRoot p.root.now (n + length pages) DEEPEST_ELEMENT → AreSoundFrom n (pages ++ p ∷ [])
+sound-push n [] p h r = (subst (λ k. IsSoundRoot p.root.now k DEEPEST_ELEMENT) (let e : n + 0 ≡ n = omega arith in e) r, tt)
 sound-push n (q ∷ pages) p h r =
-    (h.0, sound-push (suc n) pages p h.1 (subst (λ k. IsSoundRoot p.root.now k 256) (let e : n + suc (length pages) ≡ suc n + length pages = omega arith in e) r))
+    (h.0, sound-push (suc n) pages p h.1 (subst (λ k. IsSoundRoot p.root.now k DEEPEST_ELEMENT) (let e : n + suc (length pages) ≡ suc n + length pages = omega arith in e) r))
 
 abbrev pub pages_from : ℕ → List Page → List Paged
 pages_from n pages = map as_paged (drop n pages)
@@ -55,7 +56,7 @@ same-pages ns = flat_map-map (λ pages. pages) pages_in ns
 element-pages : (e : Element) → pages_of e ≡ e.place.page ∷ flat_map pages_in e.children.now
 element-pages e = search (rules, the_lemmas, same-pages)
 
-pub root-page : (e : Element) (n : ℕ) → IsSoundRoot e n 256 → e.place.page ≡ n
+pub root-page : (e : Element) (n : ℕ) → IsSoundRoot e n DEEPEST_ELEMENT → e.place.page ≡ n
 root-page e n h = All-head (λ (p : ℕ). p ≡ n) e.place.page (flat_map pages_in e.children.now) (subst (All (λ (p : ℕ). p ≡ n)) (element-pages e) h.pages)
 
 -- one more page was looked through
@@ -84,7 +85,7 @@ marked-push n (q ∷ pages) p =
     ∙ ap (λ k. (page_marked n q.tree ++ marked_from (suc n) pages) ++ page_marked k p.tree) (let e : suc n + length pages ≡ n + suc (length pages) = omega arith in e)
 
 -- the elements with those of one more page, whose number is that of the pages before
-pub marked-more : (name : List ℕ) (root : Bor Element) (pages more : List Page) → IsSoundRoot root.now (length (map as_paged pages)) 256
+pub marked-more : (name : List ℕ) (root : Bor Element) (pages more : List Page) → IsSoundRoot root.now (length (map as_paged pages)) DEEPEST_ELEMENT
     → more ≡ pages ++ record { name = name; root = root } ∷ []
     → marked (map as_paged pages) ++ page_marked root.now.place.page (tree_of root.now) ≡ marked (map as_paged more)
 marked-more name root pages more sound m =
@@ -96,7 +97,7 @@ marked-more name root pages more sound m =
     ∙ sym (marked-push 0 (map as_paged pages) (as_paged p)) ∙ ap marked (sym all)
 
 pub keeps-more : (base name : List ℕ) (root : Bor Element) (pages more : List Page) (index new_index : Held) (bases new_bases : Kept)
-    → Keeps base pages index bases → IsSoundRoot root.now (length (map as_paged pages)) 256
+    → Keeps base pages index bases → IsSoundRoot root.now (length (map as_paged pages)) DEEPEST_ELEMENT
     → more ≡ pages ++ record { name = name; root = root } ∷ []
     → new_index.spots ≡ marked (map as_paged more) → new_index.is_spent ≡ false → AreChosen new_index
     → new_bases ≡ record { pages = bases.pages ++ page_base base name (tree_of root.now) ∷ []; is_spent = false }
@@ -114,7 +115,7 @@ keeps-more base name root pages more index new_index bases new_bases k sound m s
           (ap (λ (h : Kept). h.pages ++ page_base base name (tree_of root.now) ∷ []) k.bases
           ∙ sym (map-append (λ (q : Paged). page_base base q.name q.tree) (map as_paged pages) (as_paged p ∷ []))
           ∙ ap (map (λ (q : Paged). page_base base q.name q.tree)) (sym all));
-      sound = subst (AreSoundFrom 0) (sym m) (sound-push 0 pages p k.sound (subst (λ n. IsSoundRoot root.now n 256) (count ∙ none) sound));
+      sound = subst (AreSoundFrom 0) (sym m) (sound-push 0 pages p k.sound (subst (λ n. IsSoundRoot root.now n DEEPEST_ELEMENT) (count ∙ none) sound));
     }
 
 -- the part of a list from a number on

@@ -8,6 +8,7 @@ use Rattle.std.specs.declared.cmp.Ordering.{Ordering}
 use Rattle.std.specs.declared.cmp.Ordering.TheVariants.{Less, Equal, Greater}
 use Rattle.std.proofs.lemmas.Bool.{and_from, and_parts, both_ways, eq-eqb}
 use Rattle.std.proofs.lemmas.List.Elements.{All-contains}
+use Rattle.ix_base.specs.declared.limits.TheConstants.{DEEPEST_TUPLE}
 use Rattle.ix_base.specs.declared.content.Item.{Item}
 use Rattle.ix_base.specs.declared.rule.Rule.TheVariants as rule
 use Rattle.ix_base.specs.Asks.{Asks, asks}
@@ -120,6 +121,6 @@ pub shallow : (Says : Located → Item → Type 0) (all : List Located)
     → ((e o : Located) → Contains all e → owner (asks all) e ≡ Some o → Contains all o)
     → breaking rule.L9 all ≡ []
     → (xs : List Located) → All (λ x. Contains all x) xs
-    → (facts : Facts) → AreFacts Says all deepest xs facts → depth facts ≤ 100
+    → (facts : Facts) → AreFacts Says all deepest xs facts → depth facts ≤ DEEPEST_TUPLE
 shallow Says all apart owned sound xs among facts are =
     shallow-at Says all apart owned sound deepest 0 (omega arith) xs (λ x h. (All-contains (Contains all) xs x among h, refl)) facts are

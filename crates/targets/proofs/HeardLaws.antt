@@ -6,6 +6,7 @@ use Rattle.std.specs.Prelude.{◌&&◌, bytes_eq, is_some, not}
 use Rattle.std.specs.List.{Contains, filter}
 use Rattle.std.specs.Option.{option_map_or}
 use Rattle.std.proofs.lemmas.Bool.{and_from, both_ways, eq-eqb}
+use Rattle.ix_base.specs.declared.limits.TheConstants.{DEEPEST_TUPLE}
 use Rattle.ix_base.specs.declared.kind.Kind.{Kind}
 use Rattle.ix_base.specs.declared.kind.Kind.TheVariants as kind
 use Rattle.ix_base.specs.Asks.{Asks, asks, only}
@@ -96,12 +97,12 @@ owners-most a (suc n) e = by (owner a e) (owners-most a n)
     by None h = omega arith
     by (Some x) h = let k : length (owners a n x) ≤ n = h x in omega arith
 
-owners-few : (a : Asks Located) (x : Located) → is_tuple x ≡ true → is_too_deep a x ≡ false → length (owners a 100 x) ≤ 99
+owners-few : (a : Asks Located) (x : Located) → is_tuple x ≡ true → is_too_deep a x ≡ false → length (owners a DEEPEST_TUPLE x) ≤ 99
 owners-few a x tuple h =
-    let many = length (owners a 100 x) in
+    let many = length (owners a DEEPEST_TUPLE x) in
     ⊎_elim
-    (λ (e : many ≡ 100). absurd (both_ways _ h (and_from (is_tuple x) _ tuple (eq-eqb many 100 e))))
-    (λ (less : many < 100). let k : length (owners a 100 x) < 100 = less in omega arith) (eq-or-lt_of_le (owners-most a 100 x))
+    (λ (e : many ≡ DEEPEST_TUPLE). absurd (both_ways _ h (and_from (is_tuple x) _ tuple (eq-eqb many DEEPEST_TUPLE e))))
+    (λ (less : many < DEEPEST_TUPLE). let k : length (owners a DEEPEST_TUPLE x) < DEEPEST_TUPLE = less in omega arith) (eq-or-lt_of_le (owners-most a DEEPEST_TUPLE x))
 
 first-two : (b c d : Bool) → (b && c && d) ≡ true → (b ≡ true) × (c ≡ true)
 first-two true true d h = (refl, refl)

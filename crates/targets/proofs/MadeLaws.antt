@@ -1,4 +1,5 @@
 -- Pages that are added one by one.
+use Rattle.ix_base.specs.declared.limits.TheConstants.{DEEPEST_ELEMENT}
 use Rattle.std.proofs.Common.{◌≡◌, ◌⊎◌, inl, inr, ◌∙◌, ap, sym, refl, ℕ, zero, suc, ◌+◌, ◌<◌, ◌≤◌, min, List, [], ◌∷◌, ◌++◌, length, drop, get_or, map, take, append_assoc, append-nil, subst, arith, add-one}
 use Rattle.std.specs.Borrow.{Bor}
 use Rattle.std.proofs.Math.Seq.{drop-cons}
@@ -20,7 +21,7 @@ sound_cut : (es : List (Bor Element)) (n : ℕ) (e : Bor Element) → n < length
 sound_cut es n e h at all = subst (λ (xs : List (Bor Element)). AreSoundRoots n xs) (cut_at es n e h at) all
 
 -- the next root is sound
-pub sound_next : (es : List (Bor Element)) (n : ℕ) (e : Bor Element) → n < length es → e ≡ get_or es n e → AreSoundRoots n (drop n es) → IsSoundRoot e.now n 256
+pub sound_next : (es : List (Bor Element)) (n : ℕ) (e : Bor Element) → n < length es → e ≡ get_or es n e → AreSoundRoots n (drop n es) → IsSoundRoot e.now n DEEPEST_ELEMENT
 sound_next es n e h at all = (sound_cut es n e h at all).0
 
 -- and so are those behind it
@@ -57,12 +58,12 @@ paged_all names es n held all at is =
     ∙ ap (λ ps. held ++ ps) (sym (paged_end names es n (either_long (length names) (length es) n at (cases_lt (length names) (length es))))) ∙ is
 
 -- the root of the page at this index is sound
-pub sound_nth : (n : ℕ) (pages : List Page) (i : ℕ) (p : Page) → i < length pages → p ≡ get_or pages i p → AreSoundFrom n pages → IsSoundRoot p.root.now (n + i) 256
+pub sound_nth : (n : ℕ) (pages : List Page) (i : ℕ) (p : Page) → i < length pages → p ≡ get_or pages i p → AreSoundFrom n pages → IsSoundRoot p.root.now (n + i) DEEPEST_ELEMENT
 sound_nth n [] i p l e h = absurd (omega arith)
 sound_nth n (q ∷ qs) zero p l e h =
-    subst (λ (x : Page). IsSoundRoot x.root.now (n + 0) 256) (sym e) (subst (λ k. IsSoundRoot q.root.now k 256) (let z : n ≡ n + 0 = omega arith in z) h.0)
+    subst (λ (x : Page). IsSoundRoot x.root.now (n + 0) DEEPEST_ELEMENT) (sym e) (subst (λ k. IsSoundRoot q.root.now k DEEPEST_ELEMENT) (let z : n ≡ n + 0 = omega arith in z) h.0)
 sound_nth n (q ∷ qs) (suc i) p l e h =
-    subst (λ k. IsSoundRoot p.root.now k 256) (let z : suc n + i ≡ n + suc i = omega arith in z) (sound_nth (suc n) qs i p (omega arith) e h.1)
+    subst (λ k. IsSoundRoot p.root.now k DEEPEST_ELEMENT) (let z : suc n + i ≡ n + suc i = omega arith in z) (sound_nth (suc n) qs i p (omega arith) e h.1)
 
 -- so many pages are before the one at this index
 pub paged_count : (pages : List Page) (i : ℕ) → i < length pages → length (map as_paged (take i pages)) ≡ 0 + i

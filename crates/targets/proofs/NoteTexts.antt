@@ -3,6 +3,7 @@ use Rattle.std.proofs.Common.{◌≡◌, ◌∙◌, ap, refl, subst, sym, ℕ, s
 use Rattle.std.specs.List.{All, AllByRecursion, Contains, flat_map, list_all, list_any}
 use Rattle.std.specs.Option.{option_map_or, option_or}
 use Rattle.std.specs.Prelude.{◌&&◌}
+use Rattle.ix_base.specs.declared.limits.TheConstants.{DEEPEST_ELEMENT}
 use Rattle.std.proofs.lemmas.List.Elements.{All-contains_itself, All-head, All-tail, All-weaker, Contains-append_cases}
 use Rattle.ix_base.specs.declared.content.Arc.{Arc}
 use Rattle.ix_base.specs.declared.content.Content.{Content}
@@ -153,7 +154,7 @@ below-along d above (elem head kids rest) p up s h =
     (Contains-append_cases (below (t ∷ above) kids) (below above rest) p k))
     (Contains-cases (placed_at t above) (below (t ∷ above) kids ++ below above rest) p h)
 
-element-along : (t : Tree) (p : Placed) → IsSoundTree t 256 → Contains (elements_of t) p → AreSoundAlong (path_of p)
+element-along : (t : Tree) (p : Placed) → IsSoundTree t DEEPEST_ELEMENT → Contains (elements_of t) p → AreSoundAlong (path_of p)
 element-along t p s h =
     let n = s.nodes in
     let here : AreSoundAlong (t ∷ []) = ((n.0, n.2, n.3), tt) in
@@ -162,11 +163,11 @@ element-along t p s h =
     (λ k. below-along n.0 (t ∷ []) t.children p here n.3 k)
     (Contains-cases (placed_at t []) (below (t ∷ []) t.children) p h)
 
-path-sound : (n : ℕ) (pages : List Paged) → All (λ p. IsSoundTree p.tree 256) pages → (e : Located) → Contains (marked_from n pages) e → AreSoundAlong (path_of e.placed)
+path-sound : (n : ℕ) (pages : List Paged) → All (λ p. IsSoundTree p.tree DEEPEST_ELEMENT) pages → (e : Located) → Contains (marked_from n pages) e → AreSoundAlong (path_of e.placed)
 path-sound n [] s e h = absurd (Contains-nil e h)
 path-sound n (p ∷ pages) s e h = ⊎_elim
-    (λ here. element-along p.tree e.placed (All-head (λ (q : Paged). IsSoundTree q.tree 256) p pages s) (page_marked-on n p.tree e here).1)
-    (λ later. path-sound (suc n) pages (All-tail (λ (q : Paged). IsSoundTree q.tree 256) p pages s) e later)
+    (λ here. element-along p.tree e.placed (All-head (λ (q : Paged). IsSoundTree q.tree DEEPEST_ELEMENT) p pages s) (page_marked-on n p.tree e here).1)
+    (λ later. path-sound (suc n) pages (All-tail (λ (q : Paged). IsSoundTree q.tree DEEPEST_ELEMENT) p pages s) e later)
     (Contains-append_cases (page_marked n p.tree) (marked_from (suc n) pages) e h)
 
 lang-allowed : (ts : List Tree) → AreSoundAlong ts → (v : List ℕ) → lang_along ts ≡ Some v → are_allowed v ≡ true

@@ -1,4 +1,5 @@
 -- In pages whose trees have rising offsets no two marked elements stand at one place, and each stands on one of the pages.
+use Rattle.ix_base.specs.declared.limits.TheConstants.{DEEPEST_ELEMENT}
 use Rattle.std.proofs.Common.{◌≡◌, ◌∙◌, ap, sym, subst, refl, ℕ, suc, ◌+◌, ◌<◌, ◌≤◌, true, List, [], ◌∷◌, ◌++◌, All, length, map, append-nil, arith, ⊎_elim}
 use Rattle.std.specs.List.{Contains}
 use Rattle.std.proofs.lemmas.Bool.{and_parts, eqb-true}
@@ -110,9 +111,9 @@ marked_from-apart n (p ∷ pages) up x y h k d e =
     (Contains-append_cases here later x h)
 
 -- no two marked elements stand at one place
-pub apart : (pages : List Paged) → All (λ p. IsSoundTree p.tree 256) pages → (x y : Located) → Contains (marked pages) x → Contains (marked pages) y
+pub apart : (pages : List Paged) → All (λ p. IsSoundTree p.tree DEEPEST_ELEMENT) pages → (x y : Located) → Contains (marked pages) x → Contains (marked pages) y
     → same_place x y ≡ true → x ≡ y
 apart pages sound x y h k e =
     let both = and_parts _ _ e in
-    marked_from-apart 0 pages (All-weaker (λ p. IsSoundTree p.tree 256) RisesOn (λ p s. s.offsets) pages sound) x y h k
+    marked_from-apart 0 pages (All-weaker (λ p. IsSoundTree p.tree DEEPEST_ELEMENT) RisesOn (λ p s. s.offsets) pages sound) x y h k
     (eqb-true x.page y.page both.0) (eqb-true (offset_of x) (offset_of y) both.1)

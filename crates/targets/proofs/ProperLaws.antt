@@ -1,4 +1,5 @@
 -- Every content of a whole set is proper.
+use Rattle.ix_base.specs.declared.limits.TheConstants.{DEEPEST_ELEMENT}
 use Rattle.std.proofs.Common.{◌≡◌, ⊎_elim, refl, ℕ, List, [], All}
 use Rattle.std.proofs.lemmas.Bool.{and_from}
 use Rattle.std.proofs.lemmas.List.Elements.{All-weaker}
@@ -58,7 +59,7 @@ first-proper : (ns : List (List ℕ)) (found : List Found) (Else : Outcome → T
 first-proper ns found Else o more h = ⊎_elim (λ b. reported-proper ns found o b.1) (λ e. more e.0 e.1) h
 
 -- what a set of sound pages comes to has proper contents alone
-pub comes-proper : (s : PageSet) → All (λ p. IsSoundTree p.tree 256) s.pages → (o : Outcome) → ComesTo s o → AreProper o
+pub comes-proper : (s : PageSet) → All (λ p. IsSoundTree p.tree DEEPEST_ELEMENT) s.pages → (o : Outcome) → ComesTo s o → AreProper o
 comes-proper s sound o h =
     first-proper (names s) (element_faults s) (FirstOf (names s) (link_faults s) (ComesOfValues s)) o
     (λ e. first-proper (names s) (link_faults s) (ComesOfValues s) o

@@ -1,6 +1,7 @@
 -- Pages in another order come to the same.
 use Rattle.std.proofs.Common.{◌≡◌, ◌∙◌, ◌++◌, ap, refl, subst, sym, ℕ, suc, List, [], ◌∷◌, All, length, map}
 use Rattle.std.specs.Prelude.{◌==◌, slice_index_or}
+use Rattle.ix_base.specs.declared.limits.TheConstants.{DEEPEST_ELEMENT}
 use Rattle.std.specs.List.{Contains, filter, flat_map}
 use Rattle.std.specs.List.Sorted.{IsPermutation}
 use Rattle.std.proofs.lemmas.List.Elements.{All-contains, All-contains_itself, All-weaker}
@@ -125,7 +126,7 @@ module _ (s t : PageSet) (is : IsRenumbered s t) where
 
   -- What it comes to.
 
-  module _ (here : All (λ p. IsSoundTree p.tree 256) s.pages) (there : All (λ p. IsSoundTree p.tree 256) t.pages) where
+  module _ (here : All (λ p. IsSoundTree p.tree DEEPEST_ELEMENT) s.pages) (there : All (λ p. IsSoundTree p.tree DEEPEST_ELEMENT) t.pages) where
     pub comes-moved : (o : Outcome) → ComesTo s o → ComesTo t o
     comes-moved o h =
         first (element_faults s) (element_faults t) is.faults (FirstOf (names s) (link_faults s) (ComesOfValues s)) (FirstOf (names t) (link_faults t) (ComesOfValues t)) o
@@ -176,7 +177,7 @@ module _ (base : List ℕ) where
       }
 
   abbrev Come : Outcome → List Paged → Type 0
-  Come o pages = All (λ p. IsSoundTree p.tree 256) pages × ComesTo (set_of pages) o
+  Come o pages = All (λ p. IsSoundTree p.tree DEEPEST_ELEMENT) pages × ComesTo (set_of pages) o
 
   exchange : (o : Outcome) (front back : List Paged) (a b : Paged) → Come o (front ++ a ∷ b ∷ back) → Come o (front ++ b ∷ a ∷ back)
   exchange o front back a b h =
@@ -184,11 +185,11 @@ module _ (base : List ℕ) where
       let Q = front ++ b ∷ a ∷ back in
       let m : IsPermutation Q P = IsPermutation-append_right front (b ∷ a ∷ back) (a ∷ b ∷ back)
       (IsPermutation-append (b ∷ a ∷ []) (a ∷ b ∷ []) back back (IsPermutation-append_comm (b ∷ []) (a ∷ [])) (IsPermutation-refl back)) in
-      let sound : All (λ p. IsSoundTree p.tree 256) Q = All-weaker (Contains Q) (λ p. IsSoundTree p.tree 256)
-      (λ p at. All-contains (λ p. IsSoundTree p.tree 256) P p h.0 (Contains-permutation Q P p m at)) Q (All-contains_itself Q) in
+      let sound : All (λ p. IsSoundTree p.tree DEEPEST_ELEMENT) Q = All-weaker (Contains Q) (λ p. IsSoundTree p.tree DEEPEST_ELEMENT)
+      (λ p at. All-contains (λ p. IsSoundTree p.tree DEEPEST_ELEMENT) P p h.0 (Contains-permutation Q P p m at)) Q (All-contains_itself Q) in
       (sound, comes-moved (set_of P) (set_of Q) (neighbours front back a b) h.0 sound o h.1)
 
   -- sound pages in another order come to the same
-  pub rearranged : (pages others : List Paged) → IsPermutation pages others → All (λ p. IsSoundTree p.tree 256) pages
+  pub rearranged : (pages others : List Paged) → IsPermutation pages others → All (λ p. IsSoundTree p.tree DEEPEST_ELEMENT) pages
       → (o : Outcome) → ComesTo (set_of pages) o → ComesTo (set_of others) o
   rearranged pages others m sound o h = (by_exchanges (Come o) (exchange o) pages others m (sound, h)).1

@@ -2,6 +2,7 @@
 use Rattle.std.proofs.Common.{◌≡◌, ◌≢◌, ◌∙◌, ap, sym, subst, refl, ℕ, suc, Bool, true, false, cond, not, List, [], ◌∷◌, ◌++◌, Option, None, Some, option_map, map, bytes_eq, ⊎_elim}
 use Rattle.std.specs.List.{All, Contains, after_first, before_first}
 use Rattle.std.specs.Prelude.{◌&&◌, Ok, Err, unwrap_or}
+use Rattle.ix_base.specs.declared.limits.TheConstants.{DEEPEST_ELEMENT}
 use Rattle.std.proofs.lemmas.Bool.{and_parts}
 use Rattle.std.proofs.lemmas.List.Elements.{All-append, All-cons, All-contains, All-head, All-nil, All-tail, Contains-append_cases}
 use Rattle.ix_base.proofs.OnceLemmas.{Contains-from_filter, Contains-nil}
@@ -49,15 +50,15 @@ all-elements t depth h =
     let n = h.nodes in
     All-cons Stands (placed_at t []) (below (t ∷ []) t.children) (n.0, n.2, n.3) (all-below n.0 (t ∷ []) t.children n.3)
 
-page-sound : (n : ℕ) (t : Tree) (e : Located) → IsSoundTree t 256 → Contains (page_marked n t) e → IsSoundAt e.placed.tree
+page-sound : (n : ℕ) (t : Tree) (e : Located) → IsSoundTree t DEEPEST_ELEMENT → Contains (page_marked n t) e → IsSoundAt e.placed.tree
 page-sound n t e h at =
     let on = of-map n (elements_of t) e (Contains-from_filter is_marked (map (on_page n) (elements_of t)) e at).0 in
-    subst (λ (x : Located). IsSoundAt x.placed.tree) (sym on.2) (All-contains Stands (elements_of t) on.0 (all-elements t 256 h) on.1)
+    subst (λ (x : Located). IsSoundAt x.placed.tree) (sym on.2) (All-contains Stands (elements_of t) on.0 (all-elements t DEEPEST_ELEMENT h) on.1)
 
-marked-sound : (n : ℕ) (pages : List Paged) → All (λ p. IsSoundTree p.tree 256) pages → (e : Located) → Contains (marked_from n pages) e → IsSoundAt e.placed.tree
+marked-sound : (n : ℕ) (pages : List Paged) → All (λ p. IsSoundTree p.tree DEEPEST_ELEMENT) pages → (e : Located) → Contains (marked_from n pages) e → IsSoundAt e.placed.tree
 marked-sound n [] h e at = absurd (Contains-nil e at)
 marked-sound n (p ∷ pages) h e at =
-    let P : Paged → Type 0 = λ x. IsSoundTree x.tree 256 in
+    let P : Paged → Type 0 = λ x. IsSoundTree x.tree DEEPEST_ELEMENT in
     ⊎_elim (page-sound n p.tree e (All-head P p pages h)) (marked-sound (suc n) pages (All-tail P p pages h) e)
     (Contains-append_cases (page_marked n p.tree) (marked_from (suc n) pages) e at)
 

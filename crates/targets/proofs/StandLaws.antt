@@ -1,6 +1,7 @@
 -- At each place of sound pages one marked element stands.
 use Rattle.std.proofs.Common.{◌≡◌, ◌∙◌, ap, sym, subst, refl, ℕ, suc, ◌<◌, Bool, true, false, cond, List, [], ◌∷◌, ◌++◌, All, map, arith, ⊎_elim}
 use Rattle.std.specs.Prelude.{◌&&◌, ◌==◌}
+use Rattle.ix_base.specs.declared.limits.TheConstants.{DEEPEST_ELEMENT}
 use Rattle.std.specs.List.{Contains, filter}
 use Rattle.std.proofs.lemmas.Bool.{and_from, eq-eqb, eqb-false, eqb-true, ne_eqb}
 use Rattle.std.proofs.lemmas.List.Elements.{All-head, All-tail, All-weaker, Contains-append_cases}
@@ -91,6 +92,6 @@ none-marked n (p ∷ pages) up =
     other-page x.page y.page (offset_of x == offset_of y) (omega arith))
 
 -- at each place of sound pages one marked element stands
-pub stand-once : (pages : List Paged) → All (λ p. IsSoundTree p.tree 256) pages → StandOnce (marked pages)
+pub stand-once : (pages : List Paged) → All (λ p. IsSoundTree p.tree DEEPEST_ELEMENT) pages → StandOnce (marked pages)
 stand-once pages sound =
-    once-of (marked pages) (none-marked 0 pages (All-weaker (λ p. IsSoundTree p.tree 256) RisesOn (λ p s. s.offsets) pages sound))
+    once-of (marked pages) (none-marked 0 pages (All-weaker (λ p. IsSoundTree p.tree DEEPEST_ELEMENT) RisesOn (λ p s. s.offsets) pages sound))

@@ -5,6 +5,7 @@ use Rattle.std.specs.Option.{option_map_or}
 use Rattle.std.specs.Ordering.{on}
 use Rattle.std.specs.Prelude.{nat_le, ◌&&◌}
 use Rattle.std.proofs.lemmas.Bool.{and_from, and_parts, both_ways, le-leb, or_parts}
+use Rattle.ix_base.specs.declared.limits.TheConstants.{DEEPEST_TUPLE}
 use Rattle.ix_base.specs.declared.content.Content.{Content}
 use Rattle.ix_base.specs.declared.content.Fact.{Fact, out-Fact, the_lemmas}
 use Rattle.ix_base.specs.declared.content.Fact.TheOpen.{Fact-F}
@@ -132,9 +133,9 @@ empty-arranged c h =
     empty-all (sorted R c.facts)
     ∙ all-pass empty_in (sorted R c.facts) (λ f k. all-at empty_in c.facts (sym (empty-all c.facts) ∙ h) f (from-sorted R c.facts f k))
 
-fits-of : (c : Content) → nil_is_empty (facts_of c.facts) ≡ true → depth (facts_of c.facts) ≤ 100 → tuples_fit (said_of c) ≡ true
+fits-of : (c : Content) → nil_is_empty (facts_of c.facts) ≡ true → depth (facts_of c.facts) ≤ DEEPEST_TUPLE → tuples_fit (said_of c) ≡ true
 unfolding tuples_fit
-fits-of c h d = and_from (nil_is_empty (facts_of c.facts)) (nat_le (depth (facts_of c.facts)) 100) h (le-leb (depth (facts_of c.facts)) 100 d)
+fits-of c h d = and_from (nil_is_empty (facts_of c.facts)) (nat_le (depth (facts_of c.facts)) DEEPEST_TUPLE) h (le-leb (depth (facts_of c.facts)) DEEPEST_TUPLE d)
 
 pub tuples-fit : (s : PageSet) → IsClean s → (target : List ℕ) (c : Content) → IsContent (base_at s) (elements s) target c
     → tuples_fit (said_of c) ≡ true

@@ -28,19 +28,12 @@ use scopes::Bases;
 use std::alloc::Global;
 use text_map::TextMap;
 
-/// An attribute in the namespace of links.
+/// The value of an attribute in the namespace of links, or the empty text where it isn't there.
 #[tactic(auto, unfolding(ix_base::specs::Namespaces::xlink_namespace))]
-fn link_attr<'a>(e: &Element<'a>, local: &str) -> Option<&'a str>
-    ensures { option_map (λ s. s.now) result ≡ value_of (tree_of e.now).head.attrs xlink_namespace local.now }
-{
-    attr_of(e, XLINK, local)
-}
-
-/// Its value, or the empty text where it isn't there.
 fn link_value<'a>(e: &Element<'a>, local: &str) -> &'a str
     ensures { result.now ≡ unwrap_or (value_of (tree_of e.now).head.attrs xlink_namespace local.now) [] }
 {
-    match link_attr(e, local) {
+    match attr_of(e, XLINK, local) {
         Some(value) => value,
         None => "",
     }

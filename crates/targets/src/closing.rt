@@ -1,7 +1,7 @@
 //! What the pages of a set come to, class by class.
 ghost use Rattle.std.specs.Prelude.{◌≡◌, [], map, IfOk};
 ghost use Rattle.targets.specs.Faults.{element_faults, link_faults};
-ghost use Rattle.targets.specs.LinkedSets.{IsLinked, IsShallow, all_of, based, bases_of};
+ghost use Rattle.targets.specs.LinkedSets.{IsLinked, IsShallow, IsValued, all_of, based, bases_of};
 ghost use Rattle.targets.specs.Model.{KeepsAll, set_of};
 ghost use Rattle.ix_base.specs.LocatedElements.{base_in};
 ghost use Rattle.ix_base.specs.Once.{SameMembers};
@@ -50,12 +50,15 @@ fn element_faults_of(alloc: Global, pages: &Pages<'_, '_>) -> Result<Breaches, N
     Ok(found)
 }
 
-/// All targets of a set.
-fn whole(alloc: Global, valued: &ValuedSet<'_, '_, '_>) -> Result<Outcome, NoMemory>
-    ensures whole { IfOk result (AreAllTargets (base_in valued.now.bases) valued.now.elements) }
+/// All targets of a set whose items break no rule of values.
+fn whole(alloc: Global, set: LinkedSet<'_, '_, '_>) -> Result<Outcome, NoMemory>
+    requires { IsValued set }
+    ensures whole { IfOk result (AreAllTargets (base_in set.entry.bases) set.entry.elements) }
     ensures written { IfOk result CanBeWritten }
 {
-    let targets = targets_of(alloc, valued)?;
+    let groups = groups_of(alloc, set.linked.index)?;
+    let valued = ValuedSet { set, groups };
+    let targets = targets_of(alloc, &valued)?;
     Ok(Outcome::Whole(targets))
 }
 
@@ -75,9 +78,7 @@ fn comes_of_values(
 {
     let found = value_faults(alloc, &set)?;
     if found.is_empty() {
-        let groups = groups_of(alloc, set.linked.index)?;
-        let valued = ValuedSet { set, groups };
-        return whole(alloc, &valued);
+        return whole(alloc, set);
     }
     Outcome::broken(found, names)
 }

@@ -12,7 +12,7 @@ ghost use Rattle.id_table.specs.Model.{AreChosen, asked};
 ghost use Rattle.id_table.specs.Tables.{all_located, spots_at};
 ghost use Rattle.tuples.specs.OrderNumbers.{fits};
 ghost use Rattle.tuples.specs.Model.{AreMembersOf};
-ghost use Rattle.targets.specs.Faults.{refs_at};
+ghost use Rattle.targets.specs.Faults.{redirected_at, refs_at};
 ghost use Rattle.targets.specs.RoleAddresses.{SeesAll};
 
 use crate::addresses::{SeenRoles, add_redirected};
@@ -95,23 +95,44 @@ fn chained<'a>(
     link(alloc, arena, index, found)
 }
 
-/// Adds the rules on tuples and relationships that are broken, and gives the members and the relationships.
+/// Adds the facts whose targets have no schema and the roles that two addresses have, and gives the addresses of the roles.
+fn addressed<'a>(
+    alloc: Global,
+    index: &Index<'a>,
+    bases: &Bases,
+    found: &mut Breaches,
+) -> Result<SeenRoles<'a>, NoMemory>
+    requires pages { All (λ e. e.page < length bases.now.pages) index.now.spots }
+    ensures faults { OnOk result (found.new ≡ found.old ++ breaking rule.L14 index.now.spots
+        ++ flat_map (redirected_at (base_in bases.now.pages) (asked index.now)) index.now.spots) }
+    ensures seen_roles { IfOk result (SeesAll (base_in bases.now.pages) index.now.spots) }
+{
+    add_lacking_schema(alloc, index, found)?;
+    add_redirected(alloc, index, bases, found)
+}
+
+/// Adds the rules on tuples, relationships, schemas and roles that are broken, and gives the members, the relationships and the roles.
 fn tied<'a>(
     alloc: Global,
     arena: &'a Bump,
     index: &Index<'a>,
+    bases: &Bases,
     found: &mut Breaches,
-) -> Result<(Members<'a>, Relations<'a>), NoMemory>
-    requires { All (λ e. fits e ≡ true) index.now.spots }
+) -> Result<(Members<'a>, Relations<'a>, SeenRoles<'a>), NoMemory>
+    requires fits { All (λ e. fits e ≡ true) index.now.spots }
+    requires pages { All (λ e. e.page < length bases.now.pages) index.now.spots }
     ensures faults { OnOk result (found.new ≡ found.old ++ breaking rule.L8 index.now.spots ++ breaking rule.L9 index.now.spots
         ++ breaking rule.L10 index.now.spots ++ breaking rule.L12 index.now.spots ++ breaking rule.L13 index.now.spots
-        ++ breaking rule.L11 index.now.spots ++ breaking rule.L15 index.now.spots ++ breaking rule.L16 index.now.spots) }
+        ++ breaking rule.L11 index.now.spots ++ breaking rule.L15 index.now.spots ++ breaking rule.L16 index.now.spots
+        ++ breaking rule.L14 index.now.spots ++ flat_map (redirected_at (base_in bases.now.pages) (asked index.now)) index.now.spots) }
     ensures members { IfOk result (λ made. AreMembersOf made.0 index.now.spots) }
     ensures relations { IfOk result (λ made. AreRelationsOf made.1 index.now.spots) }
+    ensures seen_roles { IfOk result (λ made. SeesAll (base_in bases.now.pages) index.now.spots made.2) }
 {
     let members = membership(alloc, arena, index, found)?;
     let relations = relate(alloc, arena, index, found)?;
-    Ok((members, relations))
+    let seen_roles = addressed(alloc, index, bases, found)?;
+    Ok((members, relations, seen_roles))
 }
 
 /// Adds the rules on links that the elements of a set break, and gives what was made of the links.
@@ -133,9 +154,7 @@ pub(crate) fn link_all<'s, 'a>(
     ensures keeps { IfOk result (λ l. (l.index ≡ index.entry) × (l.bases ≡ bases.entry)) }
 {
     let chains = chained(alloc, arena, index, found)?;
-    let (members, relations) = tied(alloc, arena, index, found)?;
-    add_lacking_schema(alloc, index, found)?;
-    let seen_roles = add_redirected(alloc, index, bases, found)?;
+    let (members, relations, seen_roles) = tied(alloc, arena, index, bases, found)?;
     Ok(Linked {
         index,
         bases,

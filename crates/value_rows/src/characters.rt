@@ -3,7 +3,6 @@ ghost use Rattle.std.specs.Prelude.{◌+◌, ◌<◌, ◌^◌, length};
 
 use anyhow::{Result, bail};
 use page_text::{Feed, Mark, Run, TextFault};
-use row_tables::Cell;
 use std::alloc::{AllocError, Global};
 
 /// The sizes of pieces of which plain characters are taken in runs.
@@ -88,19 +87,37 @@ fn is_same(reading: &Reading, other: &Reading) -> bool {
     is_steady(reading) && reading.end == other.end && reading.marks == other.marks
 }
 
-/// The characters by their numbers, with their offsets, and the end.
-fn shown(alloc: Global, reading: &Reading) -> Result<String> {
-    let mut text = String::new(alloc);
-    for mark in &reading.marks {
+/// Appends characters by their numbers, with their offsets.
+fn push_marks(marks: &[Mark], text: &mut String) -> Result<()> {
+    for mark in marks {
         write!(text, "{:X}@{} ", u32::from(mark.ch), mark.offset)?;
     }
-    match reading.end {
+    Ok(())
+}
+
+/// Appends the end.
+fn push_end(end: Result<(), TextFault>, text: &mut String) -> Result<()> {
+    match end {
         Ok(()) => text.push_str("end")?,
         Err(TextFault::BadBytes { offset }) => write!(text, "bad bytes@{offset}")?,
         Err(TextFault::BadChar { offset }) => write!(text, "bad character@{offset}")?,
         Err(TextFault::NoMemory) => bail!("no memory"),
     }
+    Ok(())
+}
+
+/// The characters by their numbers, with their offsets, and the end.
+fn shown(alloc: Global, reading: &Reading) -> Result<String> {
+    let mut text = String::new(alloc);
+    push_marks(&reading.marks, &mut text)?;
+    push_end(reading.end, &mut text)?;
     Ok(text)
+}
+
+/// What is told of a reading of a page that is cut at these places.
+fn told_cut(alloc: Global, reading: &Reading, first: usize, second: usize) -> Result<String> {
+    let text = shown(alloc, reading)?;
+    Ok(format!(in alloc; "cut at {first} and {second}: {text}")?)
 }
 
 /// The first reading that isn't as that of the whole page, where there is one, of each cut into three pieces.
@@ -114,12 +131,17 @@ fn other_cut(alloc: Global, page: &[u8], whole: &Reading) -> Result<Option<Strin
                 &page[second..],
             );
             if !is_same(&reading, whole) {
-                let text = shown(alloc, &reading)?;
-                return Ok(Some(format!(in alloc; "cut at {first} and {second}: {text}")?));
+                return Ok(Some(told_cut(alloc, &reading, first, second)?));
             }
         }
     }
     Ok(None)
+}
+
+/// What is told of a reading in runs of pieces of this size.
+fn told_run(alloc: Global, reading: &Reading, size: usize) -> Result<String> {
+    let text = shown(alloc, reading)?;
+    Ok(format!(in alloc; "runs in pieces of {size}: {text}")?)
 }
 
 /// The same of runs.
@@ -127,25 +149,24 @@ fn other_run(alloc: Global, page: &[u8], whole: &Reading) -> Result<Option<Strin
     for size in SIZES {
         let reading = read_in_runs(alloc, page, size)?;
         if !is_same(&reading, whole) {
-            let text = shown(alloc, &reading)?;
-            return Ok(Some(format!(in alloc; "runs in pieces of {size}: {text}")?));
+            return Ok(Some(told_run(alloc, &reading, size)?));
         }
     }
     Ok(None)
 }
 
+/// What is told of the readings of a page in pieces, the first that isn't as that of the whole page where there is one.
+fn told_of(alloc: Global, page: &[u8], whole: &Reading) -> Result<String> {
+    if let Some(text) = other_cut(alloc, page, whole)? {
+        return Ok(text);
+    }
+    match other_run(alloc, page, whole)? {
+        Some(text) => Ok(text),
+        None => shown(alloc, whole),
+    }
+}
+
 /// The characters of a page, which are the same in any pieces.
-pub(crate) fn read(alloc: Global, cells: &[Cell]) -> Result<String> {
-    let [page] = cells else {
-        bail!("a page is wanted");
-    };
-    let page = page.bytes();
-    let whole = read_in_three(alloc, page, &[], &[]);
-    if let Some(text) = other_cut(alloc, page, &whole)? {
-        return Ok(text);
-    }
-    if let Some(text) = other_run(alloc, page, &whole)? {
-        return Ok(text);
-    }
-    shown(alloc, &whole)
+pub(crate) fn read(alloc: Global, page: &[u8]) -> Result<String> {
+    told_of(alloc, page, &read_in_three(alloc, page, &[], &[]))
 }

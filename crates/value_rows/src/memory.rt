@@ -1,15 +1,16 @@
 //! Objects in memory that stand in for the outside.
-ghost use Rattle.std.specs.Prelude.{◌≡◌, ◌≤◌, length};
+ghost use Rattle.std.specs.Prelude.{◌≡◌, ◌+◌, ◌≤◌, ◌<◌, ◌^◌, IfOk, length};
 ghost use Rattle.ix_base.specs.declared.limits.TheConstants.{LONGEST_NAME};
 ghost use Rattle.ix_base.specs.MemPages.{pages_faults};
 ghost use Rattle.ix_base.specs.MemTargets.{sink_faults};
+ghost use Rattle.ix_base.specs.MemText.{text_faults};
 
 use anyhow::{Context, Result, bail, ensure};
 use ix_base::limits::LONGEST_NAME;
 use ix_base::{
     Failed, List, MemPage, MemPages, MemTargets, MemText, PageSource, TargetSink, Text, TextSink,
 };
-use row_tables::{Cell, owned};
+use row_tables::Cell;
 use std::alloc::Global;
 use std::str;
 
@@ -42,6 +43,54 @@ fn read_three_times(
     Ok([first, second, third])
 }
 
+/// Appends what three reads gave, so much each.
+fn push_reads(bufs: &[[u8; 8]; 3], lens: [usize; 3], text: &mut String) -> Result<()> {
+    for (buf, len) in bufs.iter().zip(lens) {
+        let read = buf.get(..len).context("past the end")?;
+        write!(text, "({})", str::from_utf8(read).context("no text")?)?;
+    }
+    Ok(())
+}
+
+/// Appends what three reads of a page gave, unless one fails.
+fn push_three(pages: &mut MemPages, name: &str, text: &mut String) -> Result<()>
+    requires fresh { pages_faults pages.old ≡ 0 }
+    requires name { length name.now ≤ LONGEST_NAME }
+{
+    let mut bufs = [[0u8; 8]; 3];
+    match read_three_times(pages, name, &mut bufs) {
+        Ok(lens) => push_reads(&bufs, lens, text),
+        Err(Failed) => Ok(text.push_str("failed")?),
+    }
+}
+
+/// Two pages of the name `a`.
+fn two_pages(alloc: Global) -> Result<Vec<MemPage>> {
+    let mut held = Vec::new(alloc);
+    held.push(page(alloc, "a", b"xyz")?)?;
+    held.push(page(alloc, "a", b"no")?)?;
+    Ok(held)
+}
+
+/// Two pages of the name `a`, of which each read gives so many bytes at most, and where one call fails.
+fn pages_of(alloc: Global, step: usize, failing: u64) -> Result<MemPages>
+    requires { 0 < step }
+    ensures { IfOk result (λ pages. pages_faults pages ≡ 0) }
+{
+    let held = two_pages(alloc)?;
+    Ok(MemPages::new(held, step, only(alloc, failing)?))
+}
+
+/// Three reads of a page of this name.
+fn three_of(alloc: Global, pages: &mut MemPages, name: &str) -> Result<String>
+    requires fresh { pages_faults pages.old ≡ 0 }
+    requires name { length name.now ≤ LONGEST_NAME }
+{
+    let mut text = String::new(alloc);
+    push_three(pages, name, &mut text)?;
+    Ok(text)
+}
+
 /// Three reads of a page, of two pages of the name `a`, where one call fails; of an end nothing is read.
 pub(crate) fn pages(alloc: Global, cells: &[Cell]) -> Result<String> {
     let [step, failing, name] = cells else {
@@ -51,20 +100,7 @@ pub(crate) fn pages(alloc: Global, cells: &[Cell]) -> Result<String> {
     ensure!(0 < step, "no step");
     let name = name.text()?;
     ensure!(name.len() <= LONGEST_NAME, "a long name");
-    let mut held = Vec::new(alloc);
-    held.push(page(alloc, "a", b"xyz")?)?;
-    held.push(page(alloc, "a", b"no")?)?;
-    let mut pages = MemPages::new(held, step, only(alloc, failing.number()?)?);
-    let mut bufs = [[0u8; 8]; 3];
-    let Ok(lens) = read_three_times(&mut pages, name, &mut bufs) else {
-        return owned(alloc, "failed");
-    };
-    let mut text = String::new(alloc);
-    for (buf, len) in bufs.iter().zip(lens) {
-        let read = buf.get(..len).context("past the end")?;
-        write!(text, "({})", str::from_utf8(read).context("no text")?)?;
-    }
-    Ok(text)
+    three_of(alloc, &mut pages_of(alloc, step, failing.number()?)?, name)
 }
 
 /// Writes the targets `x` and `y`, up to the first failure.
@@ -94,28 +130,71 @@ fn push_taken(text: &mut String, sink: &MemTargets, name: &str) -> Result<()> {
     Ok(())
 }
 
+/// Appends what two targets took.
+fn push_two(sink: &mut MemTargets, text: &mut String) -> Result<()>
+    requires { sink_faults sink.old ≡ 0 }
+{
+    let end = if write_two(sink).is_ok() {
+        "done"
+    } else {
+        "failed"
+    };
+    text.push_str(end)?;
+    push_taken(text, sink, "x")?;
+    push_taken(text, sink, "y")
+}
+
+/// What two targets took.
+fn two_of(alloc: Global, sink: &mut MemTargets) -> Result<String>
+    requires { sink_faults sink.old ≡ 0 }
+{
+    let mut text = String::new(alloc);
+    push_two(sink, &mut text)?;
+    Ok(text)
+}
+
 /// What two targets took, with so many places and so much room, where one call fails.
 pub(crate) fn targets(alloc: Global, cells: &[Cell]) -> Result<String> {
     let [places, room, failing] = cells else {
         bail!("places, room and the number of a call are wanted");
     };
     let (places, room) = (places.number()? as usize, room.number()? as usize);
-    let mut sink = MemTargets::new(alloc, places, room, only(alloc, failing.number()?)?)?;
-    let mut text = match write_two(&mut sink) {
-        Ok(()) => owned(alloc, "done")?,
-        Err(Failed) => owned(alloc, "failed")?,
-    };
-    push_taken(&mut text, &sink, "x")?;
-    push_taken(&mut text, &sink, "y")?;
-    Ok(text)
+    let failing = only(alloc, failing.number()?)?;
+    two_of(alloc, &mut MemTargets::new(alloc, places, room, failing)?)
 }
 
-/// Appends whether a piece was put, and what a text then has.
-fn push_put(text: &mut String, put: Result<(), Failed>, taken: &[u8]) -> Result<()> {
-    let end = if put.is_ok() { "put" } else { "failed" };
-    let taken = str::from_utf8(taken).context("no text")?;
+/// Puts a piece, and appends whether it was put, and what a text then has.
+fn push_put(out: &mut MemText, piece: &Cell, text: &mut String) -> Result<()>
+    requires { text_faults out.old + 1 < 2 ^ 64 }
+    ensures { text_faults out.new ≤ text_faults out.old + 1 }
+{
+    let end = if out.put(piece.bytes()).is_ok() {
+        "put"
+    } else {
+        "failed"
+    };
+    let taken = str::from_utf8(out.taken()).context("no text")?;
     write!(text, "({end} {taken})")?;
     Ok(())
+}
+
+/// What a text in memory has behind each of three pieces.
+fn push_puts(out: &mut MemText, pieces: [&Cell; 3], text: &mut String) -> Result<()>
+    requires { text_faults out.old ≡ 0 }
+{
+    let [first, second, third] = pieces;
+    push_put(out, first, text)?;
+    push_put(out, second, text)?;
+    push_put(out, third, text)
+}
+
+/// What a text in memory has behind each of three pieces.
+fn puts_of(alloc: Global, out: &mut MemText, pieces: [&Cell; 3]) -> Result<String>
+    requires { text_faults out.old ≡ 0 }
+{
+    let mut text = String::new(alloc);
+    push_puts(out, pieces, &mut text)?;
+    Ok(text)
 }
 
 /// What a text in memory has behind each of three pieces, with so much room, where one call fails.
@@ -124,13 +203,7 @@ pub(crate) fn text(alloc: Global, cells: &[Cell]) -> Result<String> {
         bail!("room, the number of a call and three pieces are wanted");
     };
     let room = room.number()? as usize;
-    let mut out = MemText::new(alloc, room, only(alloc, failing.number()?)?)?;
-    let mut text = String::new(alloc);
-    let put = out.put(first.bytes());
-    push_put(&mut text, put, out.taken())?;
-    let put = out.put(second.bytes());
-    push_put(&mut text, put, out.taken())?;
-    let put = out.put(third.bytes());
-    push_put(&mut text, put, out.taken())?;
-    Ok(text)
+    let failing = only(alloc, failing.number()?)?;
+    let mut out = MemText::new(alloc, room, failing)?;
+    puts_of(alloc, &mut out, [first, second, third])
 }

@@ -13,14 +13,10 @@ fn front(alloc: Global, bytes: &[u8], end: usize) -> Result<String> {
 }
 
 /// The value of a text in the number format of a name.
-pub(crate) fn value(alloc: Global, cells: &[Cell]) -> Result<String> {
-    let [format, text] = cells else {
-        bail!("a format and a text are wanted");
-    };
-    let Some(format) = NumberFormat::named(format.text()?) else {
+pub(crate) fn value(alloc: Global, format: &str, text: &str) -> Result<String> {
+    let Some(format) = NumberFormat::named(format) else {
         return owned(alloc, "no such format");
     };
-    let text = text.text()?;
     let mut out = vec![in alloc; 0u8; text.len() + 1]?;
     match apply(format, text, &mut out) {
         Some(end) => front(alloc, &out, end),
@@ -29,22 +25,26 @@ pub(crate) fn value(alloc: Global, cells: &[Cell]) -> Result<String> {
 }
 
 /// The value of the fixed format of a name.
-pub(crate) fn fixed(alloc: Global, cells: &[Cell]) -> Result<String> {
-    let [format] = cells else {
-        bail!("a format is wanted");
-    };
-    match FixedFormat::named(format.text()?) {
+pub(crate) fn fixed(alloc: Global, format: &str) -> Result<String> {
+    match FixedFormat::named(format) {
         Some(format) => owned(alloc, format.value()),
         None => owned(alloc, "no such format"),
     }
 }
 
 /// Whether a text is an unsigned decimal.
-pub(crate) fn unsigned(alloc: Global, cells: &[Cell]) -> Result<String> {
-    let [text] = cells else {
-        bail!("a text is wanted");
-    };
-    owned(alloc, yes_or_no(is_unsigned(text.text()?)))
+pub(crate) fn unsigned(alloc: Global, text: &str) -> Result<String> {
+    owned(alloc, yes_or_no(is_unsigned(text)))
+}
+
+/// An unsigned decimal, scaled and signed.
+fn moved_by(alloc: Global, digits: &str, scale: i32, is_negative: bool) -> Result<String> {
+    ensure!(is_unsigned(digits), "a decimal that isn't unsigned");
+    ensure!(scale.unsigned_abs() <= 100, "a scale that is too large");
+    ensure!(digits.len() < 1_000_000, "a decimal that is too long");
+    let mut out = vec![in alloc; 0u8; digits.len() + 103]?;
+    let end = scaled(digits, scale, is_negative, &mut out);
+    front(alloc, &out, end)
 }
 
 /// An unsigned decimal, scaled and signed.
@@ -52,12 +52,6 @@ pub(crate) fn moved(alloc: Global, cells: &[Cell]) -> Result<String> {
     let [digits, scale, sign] = cells else {
         bail!("a decimal, a scale and a sign are wanted");
     };
-    let digits = digits.text()?;
     let scale = scale.text()?.parse::<i32>().context("a scale")?;
-    ensure!(is_unsigned(digits), "a decimal that isn't unsigned");
-    ensure!(scale.unsigned_abs() <= 100, "a scale that is too large");
-    ensure!(digits.len() < 1_000_000, "a decimal that is too long");
-    let mut out = vec![in alloc; 0u8; digits.len() + 103]?;
-    let end = scaled(digits, scale, sign.text()? == "-", &mut out);
-    front(alloc, &out, end)
+    moved_by(alloc, digits.text()?, scale, sign.text()? == "-")
 }

@@ -1,7 +1,9 @@
 //! Rules, breaches and reports.
+ghost use Rattle.std.specs.Prelude.{◌≡◌, ◌<◌, [], All, IfOk, OnOk, length};
+
 use anyhow::{Context, Result, bail};
-use ix_base::{Breaches, Found, Place, Rule, Text};
-use row_tables::{Cell, owned, yes_or_no};
+use ix_base::{Breach, Breaches, Found, Place, Rule, Text};
+use row_tables::{owned, yes_or_no};
 use std::alloc::Global;
 
 /// The rules that the rows name.
@@ -26,38 +28,29 @@ const RULES: [(&str, Rule); 16] = [
 
 /// The rule of a name.
 fn rule_of(name: &str) -> Result<Rule> {
-    for (known, rule) in RULES {
-        if known == name {
-            return Ok(rule);
+    for (known, rule) in &RULES {
+        if *known == name {
+            return Ok(*rule);
         }
     }
     bail!("no such rule")
 }
 
 /// The code and the text of a rule.
-pub(crate) fn rule(alloc: Global, cells: &[Cell]) -> Result<String> {
-    let [name] = cells else {
-        bail!("a rule is wanted");
-    };
-    let rule = rule_of(name.text()?)?;
+pub(crate) fn rule(alloc: Global, name: &str) -> Result<String> {
+    let rule = rule_of(name)?;
     Ok(format!(in alloc; "{}: {}", rule.code(), rule.text())?)
 }
 
 /// The class of a rule.
-pub(crate) fn class(alloc: Global, cells: &[Cell]) -> Result<String> {
-    let [name] = cells else {
-        bail!("a rule is wanted");
-    };
-    let rule = rule_of(name.text()?)?;
+pub(crate) fn class(alloc: Global, name: &str) -> Result<String> {
+    let rule = rule_of(name)?;
     Ok(format!(in alloc; "{:?}", rule.class())?)
 }
 
 /// Whether a rule stands in front of another, or is it.
-pub(crate) fn order(alloc: Global, cells: &[Cell]) -> Result<String> {
-    let [front, behind] = cells else {
-        bail!("two rules are wanted");
-    };
-    let (front, behind) = (rule_of(front.text()?)?, rule_of(behind.text()?)?);
+pub(crate) fn order(alloc: Global, front: &str, behind: &str) -> Result<String> {
+    let (front, behind) = (rule_of(front)?, rule_of(behind)?);
     owned(alloc, yes_or_no(front <= behind))
 }
 
@@ -93,34 +86,62 @@ fn names_of(alloc: Global, text: &str) -> Result<Vec<Text>> {
     Ok(names)
 }
 
-/// How many breaches there are, and the lines of their report.
-fn report_on(alloc: Global, names: &[Text], found: &[Found]) -> Result<String> {
-    let mut breaches = Breaches::new(alloc);
+/// Adds breaches on pages, of which there are so many.
+fn add_all(found: &[Found], count: usize, breaches: &mut Breaches) -> Result<()>
+    requires { breaches.old ≡ [] }
+    ensures { OnOk result (All (λ f. f.place.page < count) breaches.new) }
+{
     for found in found {
-        if names.len() <= found.place.page as usize {
+        if count <= found.place.page as usize {
             bail!("no such page");
         }
         breaches.add(found.place, found.rule)?;
     }
-    let mut text = if breaches.is_empty() {
-        owned(alloc, "none")?
+    Ok(())
+}
+
+/// Appends how many breaches there are.
+fn push_len(len: usize, text: &mut String) -> Result<()> {
+    if len == 0 {
+        text.push_str("none")?;
     } else {
-        format!(in alloc; "{}", breaches.len())?
-    };
-    let report = breaches.report(names)?;
-    for line in report.lines.as_slice() {
+        write!(text, "{len}")?;
+    }
+    Ok(())
+}
+
+/// Appends the lines of a report.
+fn push_lines(lines: &[Breach], text: &mut String) -> Result<()> {
+    for line in lines {
         let page = line.page.as_str();
         write!(text, ", {page} {} {}", line.offset, line.rule.code())?;
     }
-    Ok(text)
+    Ok(())
+}
+
+/// Appends how many breaches there are, and the lines of their report.
+fn push_report(breaches: Breaches, names: &[Text], text: &mut String) -> Result<()>
+    requires { All (λ f. f.place.page < length names.now) breaches }
+{
+    push_len(breaches.len(), text)?;
+    let report = breaches.report(names)?;
+    push_lines(report.lines.as_slice(), text)
+}
+
+/// The breaches that a text says, on pages of which there are so many.
+fn breaches_of(alloc: Global, count: usize, text: &str) -> Result<Breaches>
+    ensures { IfOk result (λ breaches. All (λ f. f.place.page < count) breaches) }
+{
+    let mut breaches = Breaches::new(alloc);
+    add_all(&all_found(alloc, text)?, count, &mut breaches)?;
+    Ok(breaches)
 }
 
 /// The report of breaches on pages of these names.
-pub(crate) fn report(alloc: Global, cells: &[Cell]) -> Result<String> {
-    let [names, found] = cells else {
-        bail!("names and breaches are wanted");
-    };
-    let names = names_of(alloc, names.text()?)?;
-    let found = all_found(alloc, found.text()?)?;
-    report_on(alloc, &names, &found)
+pub(crate) fn report(alloc: Global, names: &str, found: &str) -> Result<String> {
+    let names = names_of(alloc, names)?;
+    let breaches = breaches_of(alloc, names.len(), found)?;
+    let mut text = String::new(alloc);
+    push_report(breaches, &names, &mut text)?;
+    Ok(text)
 }

@@ -11,3 +11,6 @@ loop-x-preserved c = record {
       c.loop-x.invariant.len c.loop-x.invariant.inner (located-at c.args.spots.now c.loop-x.x c.index-spots-x.result c.loop-x-test.true c.index-spots-x.is)
       c.is_inner.ensures c.in_ok-push.ensures.items;
 }
+
+pub returns-clause-inner : goal.returns-clause-inner
+returns-clause-inner c = λ k e l at. c.loop-x.invariant.inner k e (omega (arith, l, c.loop-x-test.false)) at

@@ -6,7 +6,7 @@ use Rattle.footnotes.proofs.arcs.groups_of.Goals as goal
 
 pub loop-relationship-preserved : goal.loop-relationship-preserved
 loop-relationship-preserved c = λ q.
-    c.in_ok-enter_all.ensures q ∙ ap (λ l. l ++ relationship_arcs q c.relationship-item.result) (c.loop-relationship.invariant q)
+    c.in_ok-enter_relationship.ensures q ∙ ap (λ l. l ++ relationship_arcs q c.relationship-item.result) (c.loop-relationship.invariant q)
     ∙ sym (more-arcs q c.args.relationships.now c.loop-relationship.relationship-index c.relationship-item.result c.loop-relationship-test.true c.relationship-item.is)
 
 pub returns : goal.returns

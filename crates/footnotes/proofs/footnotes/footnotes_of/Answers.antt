@@ -19,7 +19,7 @@ returns c =
     (λ l e. e
     ∙ filter_map-called (note_in (base_in c.args.bases.now.pages) c.args.chains.now)
     (λ id. option_map (λ (s : Bor Spot). located s.now) (kept_at c.in_ok-called.called id)) notes _ _
-    (λ id. c.in_ok-called.ensures id ∙ ap (λ es. last_called id es None) (ap all_located c.as_slice.ensures.value ∙ c.in_ok-notes.ensures))
+    (λ id. c.in_ok-called.ensures id ∙ ap (λ es. last_called id es None) (ap all_located c.as_slice-2.ensures.value ∙ c.in_ok-notes.ensures))
     (ap texts_of c.as_slice-3.ensures.value ∙ c.each_once.ensures
-    ∙ ap (in_order text_cmp) (c.in_ok-ids.ensures ∙ ap (map label) (ap all_located c.as_slice-2.ensures.value ∙ c.in_ok-notes.ensures))))
+    ∙ ap (in_order text_cmp) (c.in_ok-ids.ensures ∙ ap (map label) (ap all_located c.as_slice.ensures.value ∙ c.in_ok-notes.ensures))))
     c.footnotes_at.ensures

@@ -1,8 +1,11 @@
 use Rattle.std.proofs.Common.{◌∙◌, ◌||◌, ap, List, ℕ, Bool}
-use Rattle.std.specs.List.{filter_map}
+use Rattle.std.proofs.lemmas.List.{take_all}
+use Rattle.std.specs.Borrow.{Bor}
+use Rattle.std.specs.List.{filter_map, list_any}
 use Rattle.std.specs.Prelude.{is_none}
 use Rattle.ix_base.specs.Ids.{one_such}
 use Rattle.id_table.specs.Model.{asked}
+use Rattle.id_table.specs.Tables.{all_located}
 use Rattle.footnotes.specs.ArcLinks.{texts_of}
 use Rattle.footnotes.specs.EndTests.{fits_end}
 use Rattle.footnotes.proofs.LinkLaws.{step-at}
@@ -19,3 +22,15 @@ loop-word-preserved c =
       missing = c.either-is_missing.ensures ∙ ap (λ m. c.loop-word.is_missing || m) c.in_ok-misses.ensures.missing
           ∙ any-at g c.args.words.now c.loop-word.word-index _ c.loop-word.is_missing c.loop-word-test.true c.loop-word.invariant.missing;
     }
+
+pub returns-clause-spots : goal.returns-clause-spots
+returns-clause-spots c =
+    ap all_located c.into_bump_slice.ensures ∙ c.loop-word.invariant.spots
+    ∙ ap (λ (ws : List (Bor (List ℕ))). filter_map (one_such (fits_end c.args.end) (asked c.args.index.now)) (texts_of ws))
+    (take_all c.loop-word.word-index c.args.words.now c.loop-word-test.false)
+
+pub returns-clause-missing : goal.returns-clause-missing
+returns-clause-missing c =
+    c.loop-word.invariant.missing
+    ∙ ap (λ (ws : List (Bor (List ℕ))). list_any (λ id. is_none (one_such (fits_end c.args.end) (asked c.args.index.now) id)) (texts_of ws))
+    (take_all c.loop-word.word-index c.args.words.now c.loop-word-test.false)

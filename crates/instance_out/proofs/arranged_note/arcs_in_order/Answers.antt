@@ -1,10 +1,15 @@
-use Rattle.std.proofs.Common.{◌∙◌, ap, map}
+use Rattle.std.proofs.Common.{◌∙◌, ap, refl, map}
 use Rattle.ix_base.specs.declared.content.Arc.{Arc}
 use Rattle.instance_out.specs.Elements.{arc_text}
 use Rattle.instance_out.specs.declared.sort.Keyed.{Keyed}
 use Rattle.instance_out.proofs.Sorting.{once_by_keys_of}
-use Rattle.instance_out.proofs.Steps.{all_moved}
+use Rattle.instance_out.proofs.Steps.{all_moved, map_pushed}
 use Rattle.instance_out.proofs.arranged_note.arcs_in_order.Goals as goal
+
+pub loop-arc-preserved : goal.loop-arc-preserved
+loop-arc-preserved c =
+    let f : Arc → Keyed Arc = λ x. record { key = arc_text x; item = x } in
+    map_pushed f c.loop-arc.yielded c.in-Some.arc _ _ _ c.loop-arc.invariant c.in_ok-push.ensures.items (rw (c.in_ok-key.ensures) refl)
 
 pub returns : goal.returns
 returns c =

@@ -30,30 +30,26 @@ kept_old ks xs x b inv told h =
     ∙ not_not b (has_text footnote_text xs (footnote_text x)) told)
     ∙ sym (firsts-push footnote_text xs x)
 
-pub loop-footnote-preserved-then-branch : goal.loop-footnote-preserved-then-branch
-loop-footnote-preserved-then-branch c =
+pub loop-footnote-preserved-then-not-is_new : goal.loop-footnote-preserved-then-not-is_new
+loop-footnote-preserved-then-not-is_new c =
     let x = c.in-Some.footnote in
     let xs = c.loop-footnote.yielded in
-    let text : c.as_str.result.now ≡ footnote_text x = c.as_str.ensures ∙ c.in_ok-text.ensures in
     record {
-      kept = kept_new _ _ xs x _ c.loop-footnote.invariant.kept c.in_ok-push.ensures.items
-          (c.in_ok-is_first.ensures.told ∙ ap not (c.loop-footnote.invariant.seen c.as_str.result.now
-          ∙ ap (has_text footnote_text xs) text)) c.if-branch.true;
-      seen = λ t. c.in_ok-is_first.ensures.noted t
-          ∙ ap (λ a. cond (bytes_eq c.as_str.result.now t) true a) (c.loop-footnote.invariant.seen t)
-          ∙ ap (λ s. cond (bytes_eq s t) true (has_text footnote_text xs t)) text ∙ sym (has_text-push footnote_text xs x t);
+      kept = kept_old _ xs x _ c.loop-footnote.invariant.kept
+          (c.in_ok-is_new.ensures.told ∙ ap not (c.loop-footnote.invariant.seen (footnote_text x))) c.if-not-is_new.true;
+      seen = λ t. c.in_ok-is_new.ensures.noted t
+          ∙ ap (λ a. cond (bytes_eq (footnote_text x) t) true a) (c.loop-footnote.invariant.seen t)
+          ∙ sym (has_text-push footnote_text xs x t);
     }
 
 pub loop-footnote-preserved : goal.loop-footnote-preserved
 loop-footnote-preserved c =
     let x = c.in-Some.footnote in
     let xs = c.loop-footnote.yielded in
-    let text : c.as_str.result.now ≡ footnote_text x = c.as_str.ensures ∙ c.in_ok-text.ensures in
     record {
-      kept = kept_old _ xs x _ c.loop-footnote.invariant.kept
-          (c.in_ok-is_first.ensures.told ∙ ap not (c.loop-footnote.invariant.seen c.as_str.result.now
-          ∙ ap (has_text footnote_text xs) text)) c.if-branch.false;
-      seen = λ t. c.in_ok-is_first.ensures.noted t
-          ∙ ap (λ a. cond (bytes_eq c.as_str.result.now t) true a) (c.loop-footnote.invariant.seen t)
-          ∙ ap (λ s. cond (bytes_eq s t) true (has_text footnote_text xs t)) text ∙ sym (has_text-push footnote_text xs x t);
+      kept = kept_new _ _ xs x _ c.loop-footnote.invariant.kept c.in_ok-push.ensures.items
+          (c.in_ok-is_new.ensures.told ∙ ap not (c.loop-footnote.invariant.seen (footnote_text x))) c.if-not-is_new.false;
+      seen = λ t. c.in_ok-is_new.ensures.noted t
+          ∙ ap (λ a. cond (bytes_eq (footnote_text x) t) true a) (c.loop-footnote.invariant.seen t)
+          ∙ sym (has_text-push footnote_text xs x t);
     }

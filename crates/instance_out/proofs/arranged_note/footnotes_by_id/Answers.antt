@@ -1,10 +1,15 @@
-use Rattle.std.proofs.Common.{◌∙◌, ap, map}
+use Rattle.std.proofs.Common.{◌∙◌, ap, refl, map}
 use Rattle.std.proofs.lemmas.Result.{IfOk-weaker}
 use Rattle.ix_base.specs.declared.content.Footnote.{Footnote}
 use Rattle.instance_out.specs.declared.sort.Keyed.{Keyed}
 use Rattle.instance_out.proofs.Sorting.{by_keys_of}
-use Rattle.instance_out.proofs.Steps.{all_moved}
+use Rattle.instance_out.proofs.Steps.{all_moved, map_pushed}
 use Rattle.instance_out.proofs.arranged_note.footnotes_by_id.Goals as goal
+
+pub loop-footnote-preserved : goal.loop-footnote-preserved
+loop-footnote-preserved c =
+    let f : Footnote → Keyed Footnote = λ x. record { key = x.id; item = x } in
+    map_pushed f c.loop-footnote.yielded c.in-Some.footnote _ _ _ c.loop-footnote.invariant c.in_ok-push.ensures.items (rw (c.in_ok-key.ensures, c.as_str.ensures) refl)
 
 pub returns : goal.returns
 returns c =

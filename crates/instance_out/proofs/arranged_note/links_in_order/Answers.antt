@@ -1,10 +1,15 @@
-use Rattle.std.proofs.Common.{◌∙◌, ap, map}
+use Rattle.std.proofs.Common.{◌∙◌, ap, refl, map}
 use Rattle.ix_base.specs.declared.content.NoteLink.{NoteLink}
 use Rattle.instance_out.specs.Arrangement.{arranged_link}
 use Rattle.instance_out.specs.declared.sort.Keyed.{Keyed}
 use Rattle.instance_out.proofs.Sorting.{made_by_keys}
-use Rattle.instance_out.proofs.Steps.{all_moved}
+use Rattle.instance_out.proofs.Steps.{all_moved, map_pushed}
 use Rattle.instance_out.proofs.arranged_note.links_in_order.Goals as goal
+
+pub loop-link-preserved : goal.loop-link-preserved
+loop-link-preserved c =
+    let f : NoteLink → Keyed NoteLink = λ x. record { key = x.role; item = arranged_link x } in
+    map_pushed f c.loop-link.yielded c.in-Some.link _ _ _ c.loop-link.invariant c.in_ok-push.ensures.items (rw (c.in_ok-key.ensures, c.as_str.ensures, c.in_ok-item.ensures) refl)
 
 pub returns : goal.returns
 returns c =

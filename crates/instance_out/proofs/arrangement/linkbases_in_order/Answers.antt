@@ -1,10 +1,15 @@
-use Rattle.std.proofs.Common.{◌∙◌, ap, map}
+use Rattle.std.proofs.Common.{◌∙◌, ap, refl, map}
 use Rattle.ix_base.specs.declared.content.Linkbase.{Linkbase}
 use Rattle.instance_out.specs.Canonical.{line, linkbase_markup}
 use Rattle.instance_out.specs.declared.sort.Keyed.{Keyed}
 use Rattle.instance_out.proofs.Sorting.{once_by_keys_of}
-use Rattle.instance_out.proofs.Steps.{all_moved}
+use Rattle.instance_out.proofs.Steps.{all_moved, map_pushed}
 use Rattle.instance_out.proofs.arrangement.linkbases_in_order.Goals as goal
+
+pub loop-linkbase-preserved : goal.loop-linkbase-preserved
+loop-linkbase-preserved c =
+    let f : Linkbase → Keyed Linkbase = λ x. record { key = line (linkbase_markup x); item = x } in
+    map_pushed f c.loop-linkbase.yielded c.in-Some.linkbase _ _ _ c.loop-linkbase.invariant c.in_ok-push.ensures.items (rw (c.in_ok-key.ensures) refl)
 
 pub returns : goal.returns
 returns c =

@@ -1,10 +1,15 @@
-use Rattle.std.proofs.Common.{◌∙◌, ap, map}
+use Rattle.std.proofs.Common.{◌∙◌, ap, refl, map}
 use Rattle.ix_base.specs.declared.content.RoleRef.{RoleRef}
 use Rattle.instance_out.specs.Canonical.{line, role_markup}
 use Rattle.instance_out.specs.declared.sort.Keyed.{Keyed}
 use Rattle.instance_out.proofs.Sorting.{once_by_keys_of}
-use Rattle.instance_out.proofs.Steps.{all_moved}
+use Rattle.instance_out.proofs.Steps.{all_moved, map_pushed}
 use Rattle.instance_out.proofs.arrangement.roles_in_order.Goals as goal
+
+pub loop-role-preserved : goal.loop-role-preserved
+loop-role-preserved c =
+    let f : RoleRef → Keyed RoleRef = λ x. record { key = line (role_markup x); item = x } in
+    map_pushed f c.loop-role.yielded c.in-Some.role _ _ _ c.loop-role.invariant c.in_ok-push.ensures.items (rw (c.in_ok-key.ensures) refl)
 
 pub returns : goal.returns
 returns c =

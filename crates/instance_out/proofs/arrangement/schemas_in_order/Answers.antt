@@ -1,9 +1,14 @@
-use Rattle.std.proofs.Common.{◌∙◌, ap, map, List, ℕ}
+use Rattle.std.proofs.Common.{◌∙◌, ap, refl, map, List, ℕ}
 use Rattle.instance_out.specs.Canonical.{line, schema_markup}
 use Rattle.instance_out.specs.declared.sort.Keyed.{Keyed}
 use Rattle.instance_out.proofs.Sorting.{once_by_keys_of}
-use Rattle.instance_out.proofs.Steps.{all_moved}
+use Rattle.instance_out.proofs.Steps.{all_moved, map_pushed}
 use Rattle.instance_out.proofs.arrangement.schemas_in_order.Goals as goal
+
+pub loop-href-preserved : goal.loop-href-preserved
+loop-href-preserved c =
+    let f : List ℕ → Keyed (List ℕ) = λ x. record { key = line (schema_markup x); item = x } in
+    map_pushed f c.loop-href.yielded c.in-Some.href _ _ _ c.loop-href.invariant c.in_ok-push.ensures.items (rw (c.in_ok-key.ensures, c.as_str.ensures) refl)
 
 pub returns : goal.returns
 returns c =

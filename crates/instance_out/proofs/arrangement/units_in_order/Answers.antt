@@ -1,9 +1,14 @@
-use Rattle.std.proofs.Common.{◌∙◌, ap, map}
+use Rattle.std.proofs.Common.{◌∙◌, ap, refl, map}
 use Rattle.ix_base.specs.declared.content.Unit.{Unit as UnitContent}
 use Rattle.instance_out.specs.declared.sort.Keyed.{Keyed}
 use Rattle.instance_out.proofs.Sorting.{by_keys_of}
-use Rattle.instance_out.proofs.Steps.{all_moved}
+use Rattle.instance_out.proofs.Steps.{all_moved, map_pushed}
 use Rattle.instance_out.proofs.arrangement.units_in_order.Goals as goal
+
+pub loop-unit-preserved : goal.loop-unit-preserved
+loop-unit-preserved c =
+    let f : UnitContent → Keyed UnitContent = λ x. record { key = x.id; item = x } in
+    map_pushed f c.loop-unit.yielded c.in-Some.unit _ _ _ c.loop-unit.invariant c.in_ok-push.ensures.items (rw (c.in_ok-key.ensures, c.as_str.ensures) refl)
 
 pub returns : goal.returns
 returns c =

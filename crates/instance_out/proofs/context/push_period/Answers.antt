@@ -4,25 +4,23 @@ use Rattle.jiff.proofs.SpanFacts.{signed_arith}
 use Rattle.instance_out.specs.Writable.{IsEnd, IsStart}
 use Rattle.instance_out.proofs.context.push_period.Goals as goal
 
-pub returns-in_ok-push_element-in-Instant : goal.returns-in_ok-push_element-in-Instant
-returns-in_ok-push_element-in-Instant c more =
+pub returns-in_ok-push_moment-in-Instant : goal.returns-in_ok-push_moment-in-Instant
+returns-in_ok-push_moment-in-Instant c more =
     let end : IsEnd c.in-Instant.end = rw c.in-Instant.is at c.requires in
     let fits : FitsSigned w64 c.in-Instant.end = omega (arith, signed_arith) in
-    rw (c.in_ok-push_element-in-Instant.ensures, c.in-Instant.is, c.as_str.ensures, c.in_ok-end-in-Instant.ensures, to_z-of_z w64 c.in-Instant.end fits) refl
+    rw (c.in_ok-push_moment-in-Instant.ensures, c.in-Instant.is, c.in_ok-end-in-Instant.ensures, to_z-of_z w64 c.in-Instant.end fits) refl
 
-pub returns-in_ok-push_element-in-Duration-2 : goal.returns-in_ok-push_element-in-Duration-2
-returns-in_ok-push_element-in-Duration-2 c more =
+pub returns-in_ok-push_moment-in-Duration-2 : goal.returns-in_ok-push_moment-in-Duration-2
+returns-in_ok-push_moment-in-Duration-2 c more =
     let both : IsStart c.in-Duration.start × IsEnd c.in-Duration.end = rw c.in-Duration.is at c.requires in
     let start = both.0 in
     let end = both.1 in
     let fits : FitsSigned w64 c.in-Duration.start = omega (arith, signed_arith, start.least, start.before) in
     let fits_too : FitsSigned w64 c.in-Duration.end = omega (arith, signed_arith, end.after, end.most) in
     rw (
-      c.in_ok-push_element-in-Duration-2.ensures,
-      c.in_ok-push_element-in-Duration.ensures,
+      c.in_ok-push_moment-in-Duration-2.ensures,
+      c.in_ok-push_moment-in-Duration.ensures,
       c.in-Duration.is,
-      c.as_str-in-Duration.ensures,
-      c.as_str-in-Duration-2.ensures,
       c.in_ok-start-in-Duration.ensures,
       c.in_ok-end-in-Duration.ensures,
       to_z-of_z w64 c.in-Duration.start fits,

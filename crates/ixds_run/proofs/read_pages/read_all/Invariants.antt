@@ -1,4 +1,5 @@
 use Rattle.std.proofs.Common.{◌≡◌, ◌⊎◌, ◌≤◌, ◌++◌, vec_len, drop, take, option_map}
+use Rattle.ix_base.specs.declared.limits.TheConstants.{MOST_BYTES, PIECE}
 use Rattle.ixds_run.specs.PageReads.{HasReadSome, IsLast}
 use Rattle.ixds_run.proofs.read_pages.read_all.Given as goal
 
@@ -7,8 +8,8 @@ invariant-loop-number g l = record {
   faults : g.P.PageSource.faults l.pages ≡ g.P.PageSource.faults l.fn.pages;
   numbers : g.P.PageSource.numbers l.pages ≡ g.P.PageSource.numbers l.fn.pages;
   page : g.P.PageSource.page l.pages ≡ g.P.PageSource.page l.fn.pages;
-  room : vec_len l.buffer ≡ 65536;
-  most : l.forest.sums.bytes ≤ 268435456;
+  room : vec_len l.buffer ≡ PIECE;
+  most : l.forest.sums.bytes ≤ MOST_BYTES;
   tags : l.forest.sums.tags ≤ l.forest.sums.bytes;
   read : HasReadSome (g.P.PageSource.page l.fn.pages) l.names (drop l.number l.names) l.number l.forest;
   starts : g.P.PageSource.starts l.pages ≡ option_map (λ starts. starts ++ take l.number l.names) (g.P.PageSource.starts l.fn.pages);

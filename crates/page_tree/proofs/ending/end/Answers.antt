@@ -15,7 +15,7 @@ returns-in-Some-clause-verdict c = λ us z h e n.
     let p = c.args.pending.now in
     let placed = subst (λ x. IsPlaced x p.places us) (sym c.as_str.ensures.value) h in
     ap (λ f. verdict_of (Err f)) c.fault_of.ensures
-    ∙ end-breaks z c.is_ok.result c.args.setting.now.depth (state_of c.args.building) p.is_first us c.args.size (c.is_ok.ensures.value ∙ ap is_ok e ∙ answer-none z) (fault_at c.in-Some.broken)
+    ∙ end-breaks z c.is_ok.result c.args.setting.now.depth (state_of c.args.building.now) p.is_first us c.args.size (c.is_ok.ensures.value ∙ ap is_ok e ∙ answer-none z) (fault_at c.in-Some.broken)
     (c.in-Ok.ensures.breaks c.in-Some.broken c.in-Some.is us placed)
 
 pub returns-in-Err-clause-verdict : goal.returns-in-Err-clause-verdict
@@ -26,7 +26,7 @@ returns-in-Err-clause-verdict c = λ us z h e n.
     let t = state_of c.settle.new.building in
     let placed = subst (λ x. IsPlaced x p.places us) (sym c.as_str.ensures.value) h in
     let bad : z ≡ Some c.in-Err.fault = answer-fault z c.in-Err.fault (sym e ∙ c.in-Err.is) in
-    judged-end z c.is_ok.result c.args.setting.now.depth (state_of c.args.building) p.is_first c.args.size (c.is_ok.ensures.value ∙ ap is_ok e ∙ answer-none z) xs p.places us placed
+    judged-end z c.is_ok.result c.args.setting.now.depth (state_of c.args.building.now) p.is_first c.args.size (c.is_ok.ensures.value ∙ ap is_ok e ∙ answer-none z) xs p.places us placed
     k t (p.is_first && (k == 0)) (c.in-Ok.ensures.leads c.in_default-broken.is us placed) (c.in-Ok.ensures.waits c.in_default-broken.is).0
     (first_offset (drop k us)) refl (verdict_of (Err c.fault_in_text.result))
     (λ w m. c.fault_in_text.ensures.told (λ q. n (ap Err q)) c.args.size w (outline_of t) ∙ ap (λ x. behind_constructs c.args.size x w (outline_of t)) (sym bad))
@@ -39,7 +39,7 @@ returns-in-Ok-root_behind-clause-verdict c = λ us z h e n.
     let t = state_of c.settle.new.building in
     let placed = subst (λ x. IsPlaced x p.places us) (sym c.as_str.ensures.value) h in
     let good : z ≡ None = answer-good z c.in_default-stop.field-0 (sym e ∙ c.in_default-stop.is) in
-    judged-end z c.is_ok.result c.args.setting.now.depth (state_of c.args.building) p.is_first c.args.size (c.is_ok.ensures.value ∙ ap is_ok e ∙ answer-none z) xs p.places us placed
+    judged-end z c.is_ok.result c.args.setting.now.depth (state_of c.args.building.now) p.is_first c.args.size (c.is_ok.ensures.value ∙ ap is_ok e ∙ answer-none z) xs p.places us placed
     k t (p.is_first && (k == 0)) (c.in-Ok.ensures.leads c.in_default-broken.is us placed) (c.in-Ok.ensures.waits c.in_default-broken.is).0
     c.rest_offset-rest.result (c.rest_offset-rest.ensures us h) None
     (λ w m. c.in-Ok-root_behind.ensures.told w m ∙ ap (λ x. behind_constructs c.args.size x w (outline_of t)) (sym good))
@@ -52,14 +52,14 @@ returns-in-Ok-root_behind-clause-root c = λ us z h e.
     let t = state_of c.settle.new.building in
     let placed = subst (λ x. IsPlaced x p.places us) (sym c.as_str.ensures.value) h in
     let good : z ≡ None = answer-good z c.in_default-stop.field-0 (sym e ∙ c.in_default-stop.is) in
-    let r = root-end z c.is_ok.result c.args.setting.now.depth (state_of c.args.building) p.is_first c.args.size (c.is_ok.ensures.value ∙ ap is_ok e ∙ answer-none z) xs p.places us placed
+    let r = root-end z c.is_ok.result c.args.setting.now.depth (state_of c.args.building.now) p.is_first c.args.size (c.is_ok.ensures.value ∙ ap is_ok e ∙ answer-none z) xs p.places us placed
     k t (p.is_first && (k == 0)) (c.in-Ok.ensures.leads c.in_default-broken.is us placed) (c.in-Ok.ensures.waits c.in_default-broken.is).0
     c.rest_offset-rest.result (c.rest_offset-rest.ensures us h)
     (λ w m. c.in-Ok-root_behind.ensures.told w m ∙ ap (λ x. behind_constructs c.args.size x w (outline_of t)) (sym good)) in
     (t, r.0, r.1, r.2, r.3 ∙ sym c.in-Ok-root_behind.ensures.root)
 
-pub returns-clause-verdict : goal.returns-clause-verdict
-returns-clause-verdict c = λ us z h e n.
+pub returns-in-Err-root_behind-clause-verdict : goal.returns-in-Err-root_behind-clause-verdict
+returns-in-Err-root_behind-clause-verdict c = λ us z h e n.
     let p = c.args.pending.now in
     let xs = c.as_str.result.now in
     let k = c.in-Ok.settled.taken in
@@ -67,7 +67,7 @@ returns-clause-verdict c = λ us z h e n.
     let placed = subst (λ x. IsPlaced x p.places us) (sym c.as_str.ensures.value) h in
     let good : z ≡ None = answer-good z c.in_default-stop.field-0 (sym e ∙ c.in_default-stop.is) in
     ap (λ f. verdict_of (Err f)) c.fault_of-in-Err-root_behind.ensures
-    ∙ judged-end z c.is_ok.result c.args.setting.now.depth (state_of c.args.building) p.is_first c.args.size (c.is_ok.ensures.value ∙ ap is_ok e ∙ answer-none z) xs p.places us placed
+    ∙ judged-end z c.is_ok.result c.args.setting.now.depth (state_of c.args.building.now) p.is_first c.args.size (c.is_ok.ensures.value ∙ ap is_ok e ∙ answer-none z) xs p.places us placed
     k t (p.is_first && (k == 0)) (c.in-Ok.ensures.leads c.in_default-broken.is us placed) (c.in-Ok.ensures.waits c.in_default-broken.is).0
     c.rest_offset-rest.result (c.rest_offset-rest.ensures us h) (Some (fault_at c.in-Err-root_behind.broken))
     (λ w m. c.in-Err-root_behind.ensures.told w m ∙ ap (λ x. behind_constructs c.args.size x w (outline_of t)) (sym good))

@@ -23,5 +23,5 @@ returns-clause-choices c =
 
 pub returns-then-not-has_repeats-clause-choices : goal.returns-then-not-has_repeats-clause-choices
 returns-then-not-has_repeats-clause-choices c =
-    apart-choices (names_with c.args.pages.now []) c.args.index.now 0 (c.has_repeats.ensures c.if-not-has_repeats.true)
+    apart-choices (names_with c.args.pages.now []) c.args.index.now 0 (c.has_repeats.ensures.apart c.if-not-has_repeats.true)
     (λ id. ap (λ (cs : List Choice). chosen_in cs id) c.requires)

@@ -1,3 +1,4 @@
+use Rattle.ix_base.specs.declared.limits.TheConstants.{DEEPEST_ELEMENT}
 use Rattle.std.proofs.Common.{◌≡◌, ◌∙◌, ◌+◌, ◌++◌, ◌∷◌, [], All, ap, length, map, subst, sym, take, false, List, arith}
 use Rattle.std.proofs.lemmas.List.{take_more}
 use Rattle.ix_base.specs.Elements.{pages_of}
@@ -29,7 +30,7 @@ loop-page-preserved c =
     let before = take i pages in
     let is : take (i + 1) pages ≡ before ++ p ∷ [] =
     take_more pages i p c.loop-page-test.true ∙ ap (λ (x : Page). before ++ x ∷ []) (sym c.page-item.is) in
-    let sound = subst (λ k. IsSoundRoot p.root.now k 256) (sym (paged_count pages i c.loop-page-test.true))
+    let sound = subst (λ k. IsSoundRoot p.root.now k DEEPEST_ELEMENT) (sym (paged_count pages i c.loop-page-test.true))
     (sound_nth 0 pages i p c.loop-page-test.true c.page-item.is c.requires) in
     c.in_ok-add_page.ensures.ok
     ∙ ap (λ (h : Held). record { spots = h.spots ++ page_marked p.root.now.place.page (tree_of p.root.now); choices = h.choices; is_spent = false })

@@ -1,3 +1,4 @@
+use Rattle.ix_base.specs.declared.limits.TheConstants.{DEEPEST_ELEMENT}
 use Rattle.std.proofs.Common.{◌≡◌, ◌∙◌, ℕ, ◌+◌, ◌++◌, ◌∷◌, List, [], ap, arith, drop, length, length-append, map, min, sym, subst}
 use Rattle.std.proofs.lemmas.List.{map-append}
 use Rattle.std.proofs.lemmas.Slice.Zip.{zip_turn, zip_end}
@@ -32,7 +33,7 @@ loop-name-preserved c =
     record {
       count = ap length now ∙ length-append made (page ∷ []) ∙ ap (λ k. k + 1) c.loop-name.invariant.count ∙ sym more;
       pages = (λ i. all i ++ paged (drop (more i) c.args.names.now) (trees_of (drop (more i) c.args.roots.now))) ∙ pages;
-      sound = subst (AreSoundFrom 0) (sym now) (sound-push 0 made page c.loop-name.invariant.sound (subst (λ k. IsSoundRoot root.now k 256) same next));
+      sound = subst (AreSoundFrom 0) (sym now) (sound-push 0 made page c.loop-name.invariant.sound (subst (λ k. IsSoundRoot root.now k DEEPEST_ELEMENT) same next));
       left = subst (λ (k : ℕ). AreSoundRoots k (drop k c.args.roots.now)) (sym more) (sound_behind c.args.roots.now n root t.1 (t.3 root) c.loop-name.invariant.left);
     }
 

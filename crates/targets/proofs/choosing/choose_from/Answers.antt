@@ -43,4 +43,4 @@ returns-clause-choices c = λ names are has.
 
 pub returns-then-not-has_repeats-clause-choices : goal.returns-then-not-has_repeats-clause-choices
 returns-then-not-has_repeats-clause-choices c = λ names are has.
-    apart-choices names c.args.index.now c.args.first (c.has_repeats.ensures c.if-not-has_repeats.true) has
+    apart-choices names c.args.index.now c.args.first (c.has_repeats.ensures.apart c.if-not-has_repeats.true) has

@@ -7,19 +7,15 @@ use Rattle.ix_base.specs.LocatedElements.{Located, base_in, is_item}
 use Rattle.facts.specs.ItemValue.{IsItem}
 use Rattle.scopes.specs.Model.{Kept}
 use Rattle.targets.specs.Model.{set_of}
-use Rattle.targets.specs.Groups.{AreGroups}
-use Rattle.targets.specs.LinkedSets.{BasedElements}
 use Rattle.targets.proofs.BelowLaws.{values-below}
 use Rattle.targets.proofs.ComesLaws.{keeps-on, no-faults, none-is, on-names}
 use Rattle.targets.proofs.ValuesCome.{values-come}
 use Rattle.targets.proofs.closing.comes_of_values.Goals as goal
 
-pub invariant_of-valued : goal.invariant_of-valued
-invariant_of-valued c = (
-  no-faults (base_in c.args.set.bases) c.args.set.elements c.in_ok-found.found c.in_ok-found.ensures
-      (none-is c.in_ok-found.found c.is_empty.result c.is_empty.ensures c.if-is_empty.true),
-  subst (λ (b : BasedElements). AreGroups c.in_ok-groups.groups b.elements) c.set.view_is c.in_ok-groups.ensures,
-)
+pub whole-requires : goal.whole-requires
+whole-requires c =
+    no-faults (base_in c.args.set.bases) c.args.set.elements c.in_ok-found.found c.in_ok-found.ensures
+    (none-is c.in_ok-found.found c.is_empty.result c.is_empty.ensures c.if-is_empty.true)
 
 pub broken-requires : goal.broken-requires
 broken-requires c =

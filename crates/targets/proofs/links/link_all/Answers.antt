@@ -19,16 +19,14 @@ returns-clause-faults c =
     let on : Rule → List Found = λ r. breaking r es in
     let chains = c.in_ok-chains.ensures.faults
     ∙ ap (λ (x : List Found). x ++ on rule.L1 ++ flat_map (refs_at (asks es)) es ++ on rule.L4 ++ on rule.L5 ++ on rule.L6 ++ on rule.L7) c.requires.none in
-    let ties = c.in_ok-members.ensures.faults
-    ∙ ap (λ (x : List Found). x ++ on rule.L8 ++ on rule.L9 ++ on rule.L10 ++ on rule.L12 ++ on rule.L13 ++ on rule.L11 ++ on rule.L15 ++ on rule.L16) chains in
-    let ends = c.in_ok-add_lacking_schema.ensures ∙ ap (λ (x : List Found). x ++ on rule.L14) ties in
-    let all = c.in_ok-seen_roles.ensures.faults ∙ ap (λ (x : List Found). x ++ flat_map (redirected_at bases (asks es)) es) ends in
+    let all = c.in_ok-members.ensures.faults
+    ∙ ap (λ (x : List Found). x ++ on rule.L8 ++ on rule.L9 ++ on rule.L10 ++ on rule.L12 ++ on rule.L13 ++ on rule.L11 ++ on rule.L15 ++ on rule.L16
+    ++ on rule.L14 ++ flat_map (redirected_at bases (asks es)) es) chains in
     subst (λ (xs : List Found). SameMembers xs (broken bases es)) (sym all) (same-broken bases es)
 
 pub returns-clause-chains : goal.returns-clause-chains
 returns-clause-chains c = λ none.
     let left : (xs ys : List Found) → xs ++ ys ≡ [] → xs ≡ [] = λ xs ys h. (both-none xs ys h).0 in
-    let ends = left _ _ (sym c.in_ok-seen_roles.ensures.faults ∙ none) in
-    let ties = left _ _ (sym c.in_ok-add_lacking_schema.ensures ∙ ends) in
-    let chains = left _ _ (left _ _ (left _ _ (left _ _ (left _ _ (left _ _ (left _ _ (left _ _ (sym c.in_ok-members.ensures.faults ∙ ties)))))))) in
+    let ties = sym c.in_ok-members.ensures.faults ∙ none in
+    let chains = left _ _ (left _ _ (left _ _ (left _ _ (left _ _ (left _ _ (left _ _ (left _ _ (left _ _ (left _ _ ties))))))))) in
     c.in_ok-chains.ensures.chains chains

@@ -33,4 +33,4 @@ loop-spot-preserved c =
 pub returns-then-not-has_repeats-clause-ok : goal.returns-then-not-has_repeats-clause-ok
 returns-then-not-has_repeats-clause-ok c =
     let h = c.args.self.now in
-    sym (ap (λ xs. c.args.breaches.now ++ xs) (none-doubled h (c.has_repeats.ensures c.if-not-has_repeats.true) h.spots) ∙ append-nil c.args.breaches.now)
+    sym (ap (λ xs. c.args.breaches.now ++ xs) (none-doubled h (c.has_repeats.ensures.apart c.if-not-has_repeats.true) h.spots) ∙ append-nil c.args.breaches.now)

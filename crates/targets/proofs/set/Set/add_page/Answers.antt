@@ -1,3 +1,4 @@
+use Rattle.ix_base.specs.declared.limits.TheConstants.{DEEPEST_ELEMENT}
 use Rattle.std.proofs.Common.{◌≡◌, ◌∙◌, ◌∷◌, [], ◌++◌, ap, length, map, subst, sym, take, false, List}
 use Rattle.ix_base.specs.Address.{page_base}
 use Rattle.ix_base.specs.LocatedElements.{Located, marked, page_marked}
@@ -69,8 +70,8 @@ invariant_of-self-2 c = λ u.
     let is : more ≡ pages ++ page ∷ [] = c.in_ok-push.ensures.items ∙ ap (λ n. pages ++ record { name = n; root = c.args.root } ∷ []) c.in_ok-own.ensures in
     let all : index.spots ≡ xs ++ ys = ap (λ (h : Held). h.spots) c.in_ok-add_page.ensures.ok ∙ ap (λ l. l ++ ys) kept.0.spots in
     let front : all_located c.spots-before.result.now ≡ xs = c.spots-before.ensures.elements ∙ kept.0.spots in
-    let sound : IsSoundRoot c.args.root.now (length (map as_paged pages)) 256 =
-    subst (λ (h : HeldSet). IsSoundRoot c.args.root.now (length h.held.pages) 256) (sym c.self.view_is) c.requires in
+    let sound : IsSoundRoot c.args.root.now (length (map as_paged pages)) DEEPEST_ELEMENT =
+    subst (λ (h : HeldSet). IsSoundRoot c.args.root.now (length h.held.pages) DEEPEST_ELEMENT) (sym c.self.view_is) c.requires in
     let whole : index.spots ≡ marked (map as_paged more) = all ∙ marked-more next c.args.root pages more sound is in
     let came : AreLinks (names_with pages next) xs c.self.inside.links = links-before pages next c.self.inside.links kept.1 in
     let linked : AreLinks (names_with c.as_slice.result.now next) index.spots links =

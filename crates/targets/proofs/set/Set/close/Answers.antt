@@ -1,3 +1,4 @@
+use Rattle.ix_base.specs.declared.limits.TheConstants.{DEEPEST_ELEMENT}
 use Rattle.std.proofs.Common.{◌∙◌, ℕ, All, List, ap, map, subst, sym}
 use Rattle.std.proofs.lemmas.Result.{IfOk-weaker}
 use Rattle.ix_base.specs.LocatedElements.{Paged}
@@ -22,8 +23,8 @@ pub returns-clause-rearranged : goal.returns-clause-rearranged
 returns-clause-rearranged c =
     let base = c.as_str.result.now in
     let pages = map as_paged c.as_slice.result.now in
-    let sound : All (λ (p : Paged). IsSoundTree p.tree 256) pages =
-    subst (λ (xs : List Page). All (λ (p : Paged). IsSoundTree p.tree 256) (map as_paged xs)) (sym c.as_slice.ensures.value)
+    let sound : All (λ (p : Paged). IsSoundTree p.tree DEEPEST_ELEMENT) pages =
+    subst (λ (xs : List Page). All (λ (p : Paged). IsSoundTree p.tree DEEPEST_ELEMENT) (map as_paged xs)) (sym c.as_slice.ensures.value)
     (sound-trees 0 c.self.inside.pages.items (c.self.invariant c.if-self.false).0.sound) in
     let same = ap (λ (b : List ℕ). record { base = b; pages = pages }) c.as_str.ensures
     ∙ ap (λ (xs : List Page). record { base = c.self.inside.base; pages = map as_paged xs }) c.as_slice.ensures.value
@@ -34,7 +35,7 @@ returns-clause-rearranged c =
 pub returns-clause-proper : goal.returns-clause-proper
 returns-clause-proper c =
     let s : PageSet = record { base = c.as_str.result.now; pages = map as_paged c.as_slice.result.now } in
-    let sound : All (λ (p : Paged). IsSoundTree p.tree 256) (map as_paged c.as_slice.result.now) =
-    subst (λ (xs : List Page). All (λ (p : Paged). IsSoundTree p.tree 256) (map as_paged xs)) (sym c.as_slice.ensures.value)
+    let sound : All (λ (p : Paged). IsSoundTree p.tree DEEPEST_ELEMENT) (map as_paged c.as_slice.result.now) =
+    subst (λ (xs : List Page). All (λ (p : Paged). IsSoundTree p.tree DEEPEST_ELEMENT) (map as_paged xs)) (sym c.as_slice.ensures.value)
     (sound-trees 0 c.self.inside.pages.items (c.self.invariant c.if-self.false).0.sound) in
     IfOk-weaker c.closed.result _ _ (λ o h. comes-proper s sound o h) c.closed.ensures.comes

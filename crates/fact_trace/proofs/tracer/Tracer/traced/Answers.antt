@@ -12,7 +12,7 @@ use Rattle.fact_trace.specs.declared.page.Page.{Page}
 use Rattle.fact_trace.proofs.RearrangedLaws.{rearranged}
 use Rattle.fact_trace.specs.ValidPages.{BreakNoRule}
 use Rattle.fact_trace.proofs.TracerLaws.{are-apart, as_set, clean-of, of-trees, unbroken-links}
-use Rattle.fact_trace.proofs.tracer.Tracer.finish.Goals as goal
+use Rattle.fact_trace.proofs.tracer.Tracer.traced.Goals as goal
 
 pub traced_all-requires-clause-apart : goal.traced_all-requires-clause-apart
 traced_all-requires-clause-apart c =
@@ -33,7 +33,7 @@ pub returns-clause-rearranged : goal.returns-clause-rearranged
 returns-clause-rearranged c =
     let pages = c.self.inside.pages.items in
     let k = c.self.invariant c.if-self.false in
-    let seen : sources_of pages ≡ c.args.self.sources = ap (λ (h : Held). h.sources) c.self.view_is in
+    let seen : sources_of pages ≡ c.args.self.now.sources = ap (λ (h : Held). h.sources) c.self.view_is in
     let u : BreakNoRule (sources_of pages) = subst BreakNoRule (sym seen) c.requires in
     IfOk-weaker c.traced_all.result _ _
     (λ l e others m. e ∙ ap (λ (ps : List Page). traces (sources_of ps)) c.as_slice.ensures.value
