@@ -72,8 +72,8 @@ fn own_of(
 ) -> Result<Own, NoMemory>
     ensures { IfOk result (λ o. own o ≡ marks.attribute_of (option_map (λ b. b.now) base.entry) (named element.now) (valued attr.now)) }
 {
-    let name = written_name(alloc, &attr.name)?;
-    let value = value_by(alloc, is_link_of(element, &attr.name), base, attr.value)?;
+    let name = written_name(alloc, attr.name)?;
+    let value = value_by(alloc, is_link_of(element, attr.name), base, attr.value)?;
     Ok(Own { name, value })
 }
 

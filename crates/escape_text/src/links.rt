@@ -11,7 +11,7 @@ fn has_link(element: &Element<'_>) -> bool
     ensures { result ≡ link_places.has_link (tree_of element.now).head }
 {
     for attr in element.attrs.written {
-        if is_link_of(&element.name, &attr.name) {
+        if is_link_of(&element.name, attr.name) {
             return true;
         }
     }

@@ -1,6 +1,5 @@
 //! Tables from an id to the elements that have it, each with its kind.
 ghost use Rattle.std.specs.Prelude.{◌≡◌, ◌++◌, ◌∷◌, [], IfOk, OnOk, option_map};
-ghost use Rattle.std.specs.Option.{option_map_or};
 ghost use Rattle.ix_base.specs.Asks.{only};
 ghost use Rattle.ix_base.specs.Elements.{placed};
 ghost use Rattle.ix_base.specs.Ids as ids;
@@ -68,20 +67,6 @@ pub fn entry_of<'a>(spot: &'a Spot<'a>) -> Entry<'a>
     }
 }
 
-/// An element behind those that have its id already, if any do.
-fn sharers_with<'a>(
-    alloc: Global,
-    before: Option<Sharers<'a>>,
-    entry: Entry<'a>,
-) -> Result<Sharers<'a>, NoMemory>
-    ensures { IfOk result (λ s. entries_of s ≡ option_map_or entries_of before.entry [] ++ entry.entry ∷ []) }
-{
-    match before {
-        Some(sharers) => sharers.with(alloc, entry),
-        None => Ok(Sharers::One(entry)),
-    }
-}
-
 /// Enters an element of a kind at its id, where it has one. Says whether another has it, too.
 pub fn enter_entry<'a>(
     alloc: Global,
@@ -96,7 +81,11 @@ pub fn enter_entry<'a>(
     let Some(id) = id_at(spot) else {
         return Ok(false);
     };
-    let sharers = sharers_with(alloc, entries.remove(id), Entry { kind, spot })?;
+    let entry = Entry { kind, spot };
+    let Some(before) = entries.replace(id, Sharers::One(entry))? else {
+        return Ok(false);
+    };
+    let sharers = before.with(alloc, entry)?;
     let is_shared = sharers.as_slice().len() > 1;
     entries.insert(id, sharers)?;
     Ok(is_shared)

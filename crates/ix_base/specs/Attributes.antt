@@ -15,7 +15,7 @@ abbrev pub named : Name → Named
 named n = record { ns = n.ns.now; local = n.local.now }
 
 abbrev pub valued : Attr → Valued
-valued a = record { name = named a.name; value = a.value.now }
+valued a = record { name = named a.name.now; value = a.value.now }
 
 -- the attribute has this name
 abbrev pub is_named : Valued → List ℕ → List ℕ → Bool

@@ -44,7 +44,7 @@ abbrev pub spaces_bound : Scope → List Space
 spaces_bound s = spaces_above s.level
 
 abbrev pub spaces_named : Attrs → List Space
-spaces_named a = map (λ x. space_of x.name) a.written.now
+spaces_named a = map (λ x. space_of x.name.now) a.written.now
 
 abbrev pub node_spaces : Node-F (List Space) (List Space) → List Space
 node_spaces (Node-F.Elem e) = e.now

@@ -17,10 +17,10 @@ pub struct Name<'a> {
     pub number: usize,
 }
 
-/// An attribute. Namespace declarations aren't among the attributes of an element.
+/// An attribute. Namespace declarations aren't among the attributes of an element. Attributes of one name may share it.
 #[derive(Clone, Copy, Debug)]
 pub struct Attr<'a> {
-    pub name: Name<'a>,
+    pub name: &'a Name<'a>,
     pub value: &'a str,
 }
 

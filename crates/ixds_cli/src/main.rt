@@ -10,8 +10,6 @@ ghost use Rattle.ixds_cli.specs.Endings.{EndsWith};
 ghost use Rattle.ixds_cli.specs.Words.{words_in, command_in};
 
 mod complaint;
-#[cfg(test)]
-mod tests;
 mod words;
 mod wrong;
 

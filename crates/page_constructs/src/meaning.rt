@@ -12,7 +12,8 @@ mod tag;
 mod value;
 
 use crate::kind::Kind;
-use crate::token::{Attribute, Token};
+use crate::room::TagRoom;
+use crate::token::Token;
 use bumpalo::Bump;
 use declaration::declared;
 use ix_base::{NoMemory, is_white};
@@ -137,13 +138,12 @@ fn ends_of(kind: Kind) -> (&'static str, &'static str)
     }
 }
 
-/// What a construct of a kind means that starts at an offset; none where it isn't of its form. The attributes of a
-/// tag are collected in a list.
+/// What a construct of a kind means that starts at an offset; none where it isn't of its form. A tag is read into a room.
 #[tactic(auto, unfolding(crate::specs::Meanings::meant_by))]
 pub fn meant<'a, 't>(
     alloc: Global,
     arena: &'a Bump,
-    attrs: &'t mut Vec<Attribute<'a>>,
+    room: &'t mut TagRoom<'a>,
     kind: Kind,
     offset: u64,
     text: &'t str,
@@ -161,7 +161,7 @@ pub fn meant<'a, 't>(
         Kind::Doctype => Ok(doctyped(inner)),
         Kind::Unknown => Ok(None),
         Kind::EndTag => Ok(end_tag(inner)),
-        Kind::StartTag => start_tag(alloc, arena, attrs, offset, inner),
+        Kind::StartTag => start_tag(alloc, arena, room, offset, inner),
         Kind::Reference => Ok(Some(Token::Reference(referred_by(text)))),
         Kind::Text => Ok(worded(text)),
     }

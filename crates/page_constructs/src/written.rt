@@ -14,6 +14,7 @@ pub struct Written<'a> {
     pub local: &'a str,
     ghost parts: { option_map (λ p. (p.now, local.now)) prefix ≡ name_parts name.now },
     ghost local_part: { local.now ≡ local_of name.now },
+    ghost qname: { is_qname_of name.now ≡ true },
 }
 
 /// The prefix and the local part of a written name that has a colon.

@@ -131,15 +131,15 @@ left-attrs attrs i d l =
 
 pub attr-put : (attrs : List Attr) (i : ℕ) (d : Attr) (old : List Space) (now new : BTreeMap ℕ (Bor (List ℕ))) (due : List (List ℕ)) → i < length attrs
     → (not (is_inline (valued (get_or attrs i d)).name) && needs_prefix (valued (get_or attrs i d)).name.ns) ≡ true
-    → new.entries ≡ insert_entry nat_cmp now.entries (get_or attrs i d).name.number (get_or attrs i d).name.ns → AreNumbered (old ++ spaces_named attrs)
+    → new.entries ≡ insert_entry nat_cmp now.entries (get_or attrs i d).name.now.number (get_or attrs i d).name.now.ns → AreNumbered (old ++ spaces_named attrs)
     → IsMetSoFar old (spaces_named attrs) due (attr_spaces (kept_attrs (map valued (drop i attrs)))) (spaces_met now)
     → IsMetSoFar old (spaces_named attrs) due (attr_spaces (kept_attrs (map valued (drop (i + 1) attrs)))) (spaces_met new)
 attr-put attrs i d old now new due l own put h m =
     let a = get_or attrs i d in
     let all = spaces_named attrs in
     met-step old all due (attr_spaces (kept_attrs (map valued (drop i attrs)))) (attr_spaces (kept_attrs (map valued (drop (i + 1) attrs))))
-    (a.name.ns.now ∷ []) (spaces_met now) (spaces_met new) (left-attrs attrs i d l ∙ wanted (valued a) (map valued (drop (i + 1) attrs)) own)
-    (met-put now new a.name.number a.name.ns all put (space-there attrs i d l) (met-numbered old all all (spaces_met now) m.within (λ s c. c) h)) m
+    (a.name.now.ns.now ∷ []) (spaces_met now) (spaces_met new) (left-attrs attrs i d l ∙ wanted (valued a) (map valued (drop (i + 1) attrs)) own)
+    (met-put now new a.name.now.number a.name.now.ns all put (space-there attrs i d l) (met-numbered old all all (spaces_met now) m.within (λ s c. c) h)) m
 
 pub attr-left : (attrs : List Attr) (i : ℕ) (d : Attr) (old now new : List Space) (due : List (List ℕ)) → i < length attrs
     → (not (is_inline (valued (get_or attrs i d)).name) && needs_prefix (valued (get_or attrs i d)).name.ns) ≡ false → new ≡ now

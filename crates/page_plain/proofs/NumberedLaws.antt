@@ -34,10 +34,10 @@ part-behind front xs ys part s c = elim (Contains-append_cases front ys s c) [
 pub numbered-behind : (front xs ys : List Space) → IsPart xs ys → AreNumbered (front ++ xs) → AreNumbered (front ++ ys)
 numbered-behind front xs ys part = numbered-part (front ++ xs) (front ++ ys) (part-behind front xs ys part)
 
-pub space-there : (attrs : List Attr) (i : ℕ) (d : Attr) → i < length attrs → Contains (attr_spaces attrs) (space_of (get_or attrs i d).name)
+pub space-there : (attrs : List Attr) (i : ℕ) (d : Attr) → i < length attrs → Contains (attr_spaces attrs) (space_of (get_or attrs i d).name.now)
 space-there attrs i d l =
     let a = get_or attrs i d in
-    Contains-map (λ x. space_of x.name) attrs a (i, l, get_or_default attrs i a d l)
+    Contains-map (λ x. space_of x.name.now) attrs a (i, l, get_or_default attrs i a d l)
 
 -- those of the attributes of an element
 pub part-attrs : (e : Element) → IsPart (spaces_of e) (spaces_named e.attrs)
@@ -52,9 +52,9 @@ pub numbered_attrs : (prefixed : List Space) (e : Element) → AreNumbered (pref
 numbered_attrs prefixed e = numbered-behind prefixed (spaces_of e) (spaces_named e.attrs) (part-attrs e)
 
 pub numbered_attr : (prefixed : List Space) (attrs : List Attr) (i : ℕ) (d : Attr) → i < length attrs
-    → AreNumbered (prefixed ++ attr_spaces attrs) → AreNumbered (space_of (get_or attrs i d).name ∷ prefixed)
-numbered_attr prefixed attrs i d l = numbered-part (prefixed ++ attr_spaces attrs) (space_of (get_or attrs i d).name ∷ prefixed)
-    (λ s c. elim (Contains-cases (space_of (get_or attrs i d).name) prefixed s c) [
+    → AreNumbered (prefixed ++ attr_spaces attrs) → AreNumbered (space_of (get_or attrs i d).name.now ∷ prefixed)
+numbered_attr prefixed attrs i d l = numbered-part (prefixed ++ attr_spaces attrs) (space_of (get_or attrs i d).name.now ∷ prefixed)
+    (λ s c. elim (Contains-cases (space_of (get_or attrs i d).name.now) prefixed s c) [
       | inl e ↦ Contains-append_right prefixed (attr_spaces attrs) s (subst (λ z. Contains (attr_spaces attrs) z) e (space-there attrs i d l))
       | inr k ↦ Contains-append_left prefixed (attr_spaces attrs) s k
     ])

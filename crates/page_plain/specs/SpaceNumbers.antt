@@ -11,7 +11,7 @@ use Rattle.ix_base.specs.declared.tree.Attr.{Attr}
 
 -- the namespaces of attributes
 abbrev pub attr_spaces : List Attr → List Space
-attr_spaces attrs = map (λ a. space_of a.name) attrs
+attr_spaces attrs = map (λ a. space_of a.name.now) attrs
 
 abbrev pub texts_of : List Space → List (List ℕ)
 texts_of spaces = map (λ s. s.text) spaces

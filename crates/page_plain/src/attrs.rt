@@ -64,12 +64,12 @@ fn push_attr(
     attr: &Attr<'_>,
     out: &mut Text,
 ) -> Result<(), NoMemory>
-    requires { AreNumbered (space_of attr.now.name ∷ prefixes.now.spaces) }
+    requires { AreNumbered (space_of attr.now.name.now ∷ prefixes.now.spaces) }
     ensures { OnOk result (out.new ≡ out.old
         ++ attrs_text (plain.attr_in (plain.numbered 1 prefixes.now.texts) (valued attr.now) ∷ []) []) }
 {
     out.push(" ")?;
-    push_name(alloc, prefixes, &attr.name, out)?;
+    push_name(alloc, prefixes, attr.name, out)?;
     push_value(attr.value, out)
 }
 

@@ -2,7 +2,7 @@
 use Rattle.std.specs.Prelude.{ℕ, Bool, false, true, ◌||◌, List, [], ◌∷◌, Option, Some, None, unwrap_or, if◌then◌else◌, bytes_eq, codes}
 use Rattle.std.specs.List.{list_any, filter_map}
 use Rattle.std.specs.Borrow.{Bor}
-use Rattle.ix_base.specs.Trees.{Bound, Named, Valued, named, valued}
+use Rattle.ix_base.specs.Trees.{Bound, Named, Valued, named}
 use Rattle.ix_base.specs.Scope.{has_prefix, prefix_of, attribute_name}
 use Rattle.ix_base.specs.declared.tree.Name.{Name}
 use Rattle.page_tree.specs.Tags.{declares, is_bound}
@@ -18,7 +18,7 @@ pub record Expansion : Type 0 where
   pub prefix : PrefixState
 
 abbrev pub expansion : Expanded → Expansion
-expansion e = record { valued = valued e.attr; prefix = e.prefix }
+expansion e = record { valued = record { name = named e.name; value = e.value.now }; prefix = e.prefix }
 
 abbrev pub prefix_in : List Bound → List ℕ → PrefixState
 prefix_in scope name = if has_prefix name then (if is_bound scope name then Known else Unknown) else Missing

@@ -8,7 +8,7 @@ use crate::settle::{Break, settle};
 use crate::tree::Building;
 use bumpalo::Bump;
 use ix_base::{Element, NoMemory, Rule};
-use page_constructs::Attribute;
+use page_constructs::TagRoom;
 use page_text::{Feed, Mark};
 use std::alloc::Global;
 use thiserror::Error;
@@ -39,8 +39,8 @@ impl From<NoMemory> for PageFault {
 pub struct TreeBuilder<'a> {
     setting: Setting<'a>,
     building: Building<'a>,
-    /// A list in which the attributes of a tag are collected as they are written, one tag after another.
-    written: Vec<Attribute<'a>>,
+    /// What a tag is read into as it is written, one tag after another.
+    room: TagRoom<'a>,
     feed: Feed,
     /// How many bytes were given.
     fed: u64,
@@ -82,7 +82,7 @@ impl<'a> TreeBuilder<'a> {
                 depth,
             },
             building: Building::new(alloc),
-            written: Vec::new(alloc),
+            room: TagRoom::new(alloc),
             feed: Feed::new(),
             fed: 0,
             pending: Pending::new(alloc),
@@ -103,7 +103,7 @@ impl<'a> TreeBuilder<'a> {
         let settled = settle(
             &self.setting,
             &mut self.building,
-            &mut self.written,
+            &mut self.room,
             false,
             self.pending.is_first,
             self.pending.text.as_str(),
@@ -268,11 +268,11 @@ impl<'a> TreeBuilder<'a> {
         let mut marks = Vec::new(setting.alloc);
         let stop = self.feed.end(&mut marks);
         let mut building = self.building;
-        let mut written = self.written;
+        let mut room = self.room;
         end(
             &setting,
             &mut building,
-            &mut written,
+            &mut room,
             stop,
             &self.pending,
             self.fed,

@@ -19,7 +19,7 @@ use crate::setting::Setting;
 use crate::settle::{Break, settle};
 use crate::tree::Building;
 use ix_base::{Element, Rule};
-use page_constructs::Attribute;
+use page_constructs::TagRoom;
 use page_text::TextFault;
 
 pub(crate) fn fault_of(broken: Break) -> PageFault
@@ -102,7 +102,7 @@ fn rest_offset(pending: &Pending, at: usize) -> Option<u64>
 pub(crate) fn end<'a>(
     setting: &Setting<'a>,
     building: &mut Building<'a>,
-    written: &mut Vec<Attribute<'a>>,
+    room: &mut TagRoom<'a>,
     stop: Result<(), TextFault>,
     pending: &Pending,
     size: u64,
@@ -120,7 +120,7 @@ pub(crate) fn end<'a>(
     let Ok(settled) = settle(
         setting,
         building,
-        written,
+        room,
         stop.is_ok(),
         pending.is_first,
         pending.text.as_str(),

@@ -15,7 +15,7 @@ use crate::refusal::Refusal;
 use crate::setting::Setting;
 use crate::tree::Building;
 use ix_base::{NoMemory, Rule};
-use page_constructs::{Attribute, End, Kind, Sought, kind_of, meant, unsought, whole_size};
+use page_constructs::{End, Kind, Sought, TagRoom, kind_of, meant, unsought, whole_size};
 
 /// Where a page breaks a rule: the offset is in bytes from its front.
 #[derive(Clone, Copy, Debug)]
@@ -48,7 +48,7 @@ pub(crate) struct Settled {
 fn take<'a>(
     setting: &Setting<'a>,
     building: &mut Building<'a>,
-    written: &mut Vec<Attribute<'a>>,
+    room: &mut TagRoom<'a>,
     kind: Kind,
     offset: u64,
     text: &str,
@@ -58,7 +58,7 @@ fn take<'a>(
         Meets setting.now.page building.old building.new (judged setting.now.depth (state_of building.old) construct)
         (state_behind (state_of building.old) construct) result }
 {
-    match meant(setting.alloc, setting.arena, written, kind, offset, text)? {
+    match meant(setting.alloc, setting.arena, room, kind, offset, text)? {
         Some(token) => building.take(setting, &token),
         None => Err(Refusal::Breaks(Rule::W4)),
     }
@@ -68,7 +68,7 @@ fn take<'a>(
 fn step<'a>(
     setting: &Setting<'a>,
     building: &mut Building<'a>,
-    written: &mut Vec<Attribute<'a>>,
+    room: &mut TagRoom<'a>,
     offset: u64,
     ended: bool,
     first: bool,
@@ -92,7 +92,7 @@ fn step<'a>(
     };
     let (construct, _) = text.split_at(size);
     let kind = kind_of(first, text.as_bytes());
-    match take(setting, building, written, kind, offset, construct) {
+    match take(setting, building, room, kind, offset, construct) {
         Ok(()) => Ok(Front::Takes(size)),
         Err(Refusal::Breaks(rule)) => Ok(Front::Breaks(Break { offset, rule })),
         Err(Refusal::NoMemory) => Err(NoMemory),
@@ -110,7 +110,7 @@ fn is_front(first: bool, at: usize) -> bool
 fn step_at<'a>(
     setting: &Setting<'a>,
     building: &mut Building<'a>,
-    written: &mut Vec<Attribute<'a>>,
+    room: &mut TagRoom<'a>,
     places: Places,
     at: usize,
     ended: bool,
@@ -140,7 +140,7 @@ fn step_at<'a>(
     step(
         setting,
         building,
-        written,
+        room,
         start,
         ended,
         is_front(first, at),
@@ -152,11 +152,11 @@ fn step_at<'a>(
 /// Builds the constructs at the front in, one after another, up to one that isn't whole or breaks a rule.
 ///
 /// `ended` says that the text ends the page and its characters end well, `first` that it begins the page, and `sought` how
-/// far the end of its first construct was looked for. In `written` the attributes of a tag are collected, one tag after another.
+/// far the end of its first construct was looked for. A tag is read into `room`, one after another.
 pub(crate) fn settle<'a>(
     setting: &Setting<'a>,
     building: &mut Building<'a>,
-    written: &mut Vec<Attribute<'a>>,
+    room: &mut TagRoom<'a>,
     ended: bool,
     first: bool,
     text: &str,
@@ -183,7 +183,7 @@ pub(crate) fn settle<'a>(
     let mut sought = sought;
     'constructs: while at < bytes.len() {
         match step_at(
-            setting, building, written, places, at, ended, first, text, sought,
+            setting, building, room, places, at, ended, first, text, sought,
         )? {
             Front::Waits(sought) => {
                 return Ok(Settled {

@@ -11,11 +11,11 @@ ghost use Rattle.page_tree.specs.Expansions.{expansion, expansions};
 ghost use Rattle.page_tree.specs.Spaces.{AreFrom, HaveNumbers, spaces_expanded};
 ghost use Rattle.page_tree.specs.Stacks.{frame, frames_of, pages_open, pages_built, spaces_built, spaces_open, AreAll};
 
-use crate::names::{Expanded, attributes_of, element_name};
+use crate::names::{Collected, Expanded, attributes_of, element_name};
 use crate::opened::Open;
 use crate::scope::outermost_scope;
 use bumpalo::Bump;
-use ix_base::{Attr, Element, NoMemory, Node, Place, Scope};
+use ix_base::{Element, NoMemory, Node, Place, Scope};
 use page_constructs::Tag;
 use std::alloc::Global;
 
@@ -74,7 +74,7 @@ pub(crate) fn open_element<'a>(
     scope: Scope<'a>,
     tag: &Tag<'a, '_>,
     expanded: &[Expanded<'a>],
-    attrs: &mut Vec<Attr<'a>>,
+    collected: &mut Collected<'a>,
 ) -> Result<Open<'a>, NoMemory>
     requires children { children.items ≡ [] }
     requires expanded { map expansion expanded.now ≡ expansions (bindings_in scope) (tag_of tag.now) }
@@ -84,7 +84,7 @@ pub(crate) fn open_element<'a>(
     ensures spaces { IfOk result (λ o. AreFrom (spaces_bound scope.entry) (spaces_expanded expanded.now)
         → AreFrom (spaces_bound scope.entry) (spaces_open o)) }
 {
-    let attrs = attributes_of(arena, expanded, attrs)?;
+    let attrs = attributes_of(arena, expanded, collected)?;
     Ok(Open {
         written: tag.name.name,
         place: Place {

@@ -11,7 +11,7 @@ ghost use Rattle.page_tree.specs.Stacks.{frame, frames_of, pages_open, spaces_op
 ghost use Rattle.page_tree.specs.Tags.{head_of, scope_of as scope_under_tag};
 ghost use Rattle.page_constructs.specs.Model.{tag_of};
 
-use crate::names::{Expanded, expand, judge_names};
+use crate::names::{Collected, Expanded, expand, judge_names};
 use crate::opened::Open;
 use crate::refusal::Refusal;
 use crate::scope::scope_of;
@@ -20,7 +20,7 @@ use crate::spaces::Spaces;
 use crate::stack::{
     close_element, empty_list, flush_innermost, innermost_scope, open_element, put,
 };
-use ix_base::{Attr, Element, NoMemory, Node, Rule, Scope};
+use ix_base::{Element, NoMemory, Node, Rule, Scope};
 use page_constructs::Tag;
 use std::alloc::Global;
 
@@ -35,9 +35,9 @@ pub(crate) struct Building<'a> {
     /// The namespaces that were declared so far.
     pub spaces: Spaces<'a>,
     /// Lists in which the parts of a tag are collected, one tag after another: its attributes with their expanded names, and
-    /// those of the element.
+    /// those of the element with names that later ones may share.
     pub expanded: Vec<Expanded<'a>>,
-    pub attrs: Vec<Attr<'a>>,
+    pub collected: Collected<'a>,
     /// Lists of children that ended elements are done with, and the next ones use.
     pub spare: Vec<Vec<Node<'a>>>,
 }
@@ -58,7 +58,7 @@ impl<'a> Building<'a> {
             doctyped: false,
             spaces: Spaces::new(alloc),
             expanded: Vec::new(alloc),
-            attrs: Vec::new(alloc),
+            collected: Collected::new(alloc),
             spare: Vec::new(alloc),
         }
     }
@@ -185,7 +185,7 @@ impl<'a> Building<'a> {
             scope,
             tag,
             self.expanded.as_slice(),
-            &mut self.attrs,
+            &mut self.collected,
         )?;
         Ok(element)
     }

@@ -1,6 +1,6 @@
 //! Whether an attribute stands twice in a tag.
 ghost use Rattle.std.specs.Prelude.{◌≡◌, IfOk, List, map, option_map, bytes_eq};
-ghost use Rattle.std.specs.List.{filter_map};
+ghost use Rattle.std.specs.List.{filter_map, list_any};
 ghost use Rattle.ix_base.specs.Trees.{Bound};
 ghost use Rattle.page_constructs.specs.Model.{attribute_of};
 ghost use Rattle.page_tree.specs.Expansions.{expansion, expansion_of, known_name as known_name_of, repeats_by, named_pair};
@@ -12,8 +12,37 @@ use page_constructs::Attribute;
 use std::alloc::Global;
 use std::collections::BTreeSet;
 
-/// Whether two attributes have one written name.
-fn repeats_name(alloc: Global, attrs: &[Attribute<'_>]) -> Result<bool, NoMemory>
+/// How many attributes are compared each with each. More are put in order.
+const FEW: usize = 8;
+
+/// Whether an attribute of this written name is among some.
+fn is_among(name: &str, attrs: &[Attribute<'_>]) -> bool
+    ensures { result ≡ list_any (bytes_eq name.now) (map (λ a. a.name.name.now) attrs.now) }
+{
+    for attr in attrs {
+        if name == attr.name.name {
+            return true;
+        }
+    }
+    false
+}
+
+/// Whether two of a few attributes have one written name. Each is compared with each.
+fn repeats_among_few(attrs: &[Attribute<'_>]) -> bool
+    ensures { result ≡ repeats_by bytes_eq (map (λ a. a.name.name.now) attrs.now) }
+{
+    let mut left = attrs;
+    while let [first, rest @ ..] = left {
+        if is_among(first.name.name, rest) {
+            return true;
+        }
+        left = rest;
+    }
+    false
+}
+
+/// Whether two of many attributes have one written name.
+fn repeats_among_many(alloc: Global, attrs: &[Attribute<'_>]) -> Result<bool, NoMemory>
     ensures { IfOk result (λ r. r ≡ repeats_by bytes_eq (map (λ a. a.name.name.now) attrs.now)) }
 {
     let mut seen = BTreeSet::new(alloc);
@@ -26,13 +55,23 @@ fn repeats_name(alloc: Global, attrs: &[Attribute<'_>]) -> Result<bool, NoMemory
     Ok(false)
 }
 
+/// Whether two attributes have one written name.
+fn repeats_name(alloc: Global, attrs: &[Attribute<'_>]) -> Result<bool, NoMemory>
+    ensures { IfOk result (λ r. r ≡ repeats_by bytes_eq (map (λ a. a.name.name.now) attrs.now)) }
+{
+    if attrs.len() <= FEW {
+        return Ok(repeats_among_few(attrs));
+    }
+    repeats_among_many(alloc, attrs)
+}
+
 /// The expanded name, where the prefix is bound. The local part comes first, so that namespaces, which may be long, are compared
 /// only where that is the same.
 fn known_name<'a>(expanded: &Expanded<'a>) -> Option<(&'a str, &'a str)>
     ensures { option_map named_pair result ≡ known_name_of (expansion expanded.now) }
 {
     match expanded.prefix {
-        PrefixState::Known => Some((expanded.attr.name.local, expanded.attr.name.ns)),
+        PrefixState::Known => Some((expanded.name.local, expanded.name.ns)),
         PrefixState::Missing | PrefixState::Unknown => None,
     }
 }

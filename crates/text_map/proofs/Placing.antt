@@ -10,18 +10,28 @@ use Rattle.text_map.specs.declared.class.TheConstants.{FULL}
 use Rattle.text_map.specs.declared.tables.Place.{Place}
 use Rattle.text_map.specs.declared.tables.Place.TheVariants.{First, Class, Rest}
 use Rattle.text_map.specs.declared.tables.Tables.{Tables}
-use Rattle.text_map.specs.Places.{any_of, found, items_at_rest, items_found, place_of, rest_at}
+use Rattle.text_map.specs.Places.{any_of, items_at_rest, items_found, place_of, rest_at}
 use Rattle.text_map.specs.Tables.{at, has_room, items_at, items_kept, kept_at, size}
 
 -- What is found.
 
+-- what stands in one place alone is what is found
+pub found-first : {Y : Type 0} (x y z : Option Y) → (x ≡ None → (y ≡ None) × (z ≡ None)) → x ≡ any_of x y z
+found-first None y z n = let e = n refl in λ i. any_of None (sym e.0 i) (sym e.1 i)
+found-first (Some x) y z n = refl
+
+pub found-class : {Y : Type 0} (x y z : Option Y) → x ≡ None → (y ≡ None → z ≡ None) → y ≡ any_of x y z
+found-class {Y = Y} x y z f n = subst (λ w. y ≡ any_of w y z) (sym f) (by y n) where
+  by : (v : Option Y) → (v ≡ None → z ≡ None) → v ≡ any_of None v z
+  by None m = sym (m refl)
+  by (Some v) m = refl
+
+pub found-rest : {Y : Type 0} (x y z : Option Y) → x ≡ None → y ≡ None → z ≡ any_of x y z
+found-rest x y z f c = λ i. any_of (sym f i) (sym c i) z
+
 module _ {Y : Type 0} (F C R : List ℕ → Option Y) (id : List ℕ) (h : Option Y → Y) where
   all : List ℕ → Option Y
   all q = any_of (F q) (C q) (R q)
-
-  nothing-later : (x y z : Option Y) → (x ≡ None → (y ≡ None) × (z ≡ None)) → x ≡ any_of x y z
-  nothing-later None y z n = let e = n refl in λ i. any_of None (sym e.0 i) (sym e.1 i)
-  nothing-later (Some x) y z n = refl
 
   pub at-first : (F id ≡ None → (C id ≡ None) × (R id ≡ None)) → (N : List ℕ → Option Y)
       → ((q : List ℕ) → N q ≡ cond (bytes_eq q id) (Some (h (F q))) (F q))
@@ -30,7 +40,7 @@ module _ {Y : Type 0} (F C R : List ℕ → Option Y) (id : List ℕ) (h : Optio
     where
       by : (b : Bool) → bytes_eq q id ≡ b
           → any_of (cond b (Some (h (F q))) (F q)) (C q) (R q) ≡ cond b (Some (h (any_of (F q) (C q) (R q)))) (any_of (F q) (C q) (R q))
-      by true s = ap (λ x. Some (h x)) (subst (λ p. F p ≡ any_of (F p) (C p) (R p)) (sym ((bytes_eq-Decides q id).0 s)) (nothing-later (F id) (C id) (R id) n))
+      by true s = ap (λ x. Some (h x)) (subst (λ p. F p ≡ any_of (F p) (C p) (R p)) (sym ((bytes_eq-Decides q id).0 s)) (found-first (F id) (C id) (R id) n))
       by false s = refl
 
   pub at-class : F id ≡ None → (C id ≡ None → R id ≡ None) → (N : List ℕ → Option Y)

@@ -77,9 +77,14 @@ fn make_tables<'a, V: Drop>(alloc: Global, tables: &mut Vec<Table<'a, V>>) -> Re
     Ok(())
 }
 
-/// Sets the value of a text in the table of its class.
-fn put_in<'a, V: Drop>(tables: &mut [Table<'a, V>], text: &'a str, value: V) -> Result<(), NoMemory>
+/// Sets the value of a text in the table of its class, and gives the older one.
+fn put_in<'a, V: Drop>(
+    tables: &mut [Table<'a, V>],
+    text: &'a str,
+    value: V,
+) -> Result<Option<V>, NoMemory>
     requires { 0 < length tables.old }
+    ensures older { IfOk result (λ o. o ≡ kept_at tables.old text.entry.now) }
     ensures ok { OnOk result ((q : List ℕ) → kept_at tables.new q
         ≡ (if bytes_eq q text.entry.now then Some value else kept_at tables.old q)) }
     ensures err { OnErr result ((q : List ℕ) → kept_at tables.new q ≡ kept_at tables.old q) }
@@ -90,13 +95,14 @@ fn put_in<'a, V: Drop>(tables: &mut [Table<'a, V>], text: &'a str, value: V) -> 
     put(&mut tables[class], text, value)
 }
 
-/// Sets the value of a text in the table of its class. Makes the tables where there are none yet.
+/// Sets the value of a text in the table of its class, and gives the older one. Makes the tables where there are none yet.
 pub(crate) fn put_classed<'a, V: Drop>(
     alloc: Global,
     tables: &mut Vec<Table<'a, V>>,
     text: &'a str,
     value: V,
-) -> Result<(), NoMemory>
+) -> Result<Option<V>, NoMemory>
+    ensures older { IfOk result (λ o. o ≡ kept_at tables.old.items text.entry.now) }
     ensures ok { OnOk result ((q : List ℕ) → kept_at tables.new.items q
         ≡ (if bytes_eq q text.entry.now then Some value else kept_at tables.old.items q)) }
     ensures err { OnErr result ((q : List ℕ) → kept_at tables.new.items q ≡ kept_at tables.old.items q) }

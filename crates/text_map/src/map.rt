@@ -1,5 +1,5 @@
 //! Tables from texts to values.
-ghost use Rattle.std.specs.Prelude.{◌≡◌, ◌++◌, ◌∷◌, [], ℕ, List, OnOk, OnErr, Some, None, if◌then◌else◌, bytes_eq};
+ghost use Rattle.std.specs.Prelude.{◌≡◌, ◌++◌, ◌∷◌, [], ℕ, List, IfOk, OnOk, OnErr, Some, None, if◌then◌else◌, bytes_eq};
 ghost use Rattle.std.specs.Option.{option_copied};
 ghost use Rattle.text_map.specs.Texts.{IsSet, get_in, items_in};
 
@@ -53,6 +53,18 @@ impl<'a, V> TextMap<'a, V> {
     pub fn insert(&mut self, text: &'a str, value: V) -> Result<(), NoMemory>
     where
         V: Drop,
+        ensures ok { OnOk result (IsSet self.old self.new text.entry.now (Some value)) }
+        ensures err { OnErr result ((q : List ℕ) → get_in self.new q ≡ get_in self.old q) }
+    {
+        self.replace(text, value)?;
+        Ok(())
+    }
+
+    /// Keeps a value for a text, and gives the older one. After a refusal nothing has changed.
+    pub fn replace(&mut self, text: &'a str, value: V) -> Result<Option<V>, NoMemory>
+    where
+        V: Drop,
+        ensures older { IfOk result (λ o. o ≡ get_in self.old text.entry.now) }
         ensures ok { OnOk result (IsSet self.old self.new text.entry.now (Some value)) }
         ensures err { OnErr result ((q : List ℕ) → get_in self.new q ≡ get_in self.old q) }
     {

@@ -1,5 +1,5 @@
 //! One table from texts to values.
-ghost use Rattle.std.specs.Prelude.{◌≡◌, ◌+◌, ◌≤◌, ℕ, List, OnOk, OnErr, Some, None, if◌then◌else◌, bytes_eq, is_some};
+ghost use Rattle.std.specs.Prelude.{◌≡◌, ◌+◌, ◌≤◌, ℕ, List, IfOk, OnOk, OnErr, Some, None, if◌then◌else◌, bytes_eq, is_some};
 ghost use Rattle.text_map.specs.Tables.{added, at, items_at, size};
 
 use indexmap::IndexMap;
@@ -9,19 +9,20 @@ use std::alloc::Global;
 /// A table that finds a text by its hash. Of texts with one hash it goes through each.
 pub(crate) type Table<'a, V> = IndexMap<&'a str, V>;
 
-/// Sets the value of a text.
+/// Sets the value of a text, and gives the older one.
 #[tactic(auto, using(std::proofs::lemmas::Map::Text::text_keys))]
 pub(crate) fn put<'a, V: Drop>(
     table: &mut Table<'a, V>,
     text: &'a str,
     value: V,
-) -> Result<(), NoMemory>
+) -> Result<Option<V>, NoMemory>
+    ensures older { IfOk result (λ o. o ≡ at table.old text.entry.now) }
     ensures ok { OnOk result ((q : List ℕ) → at table.new q ≡ (if bytes_eq q text.entry.now then Some value else at table.old q)) }
     ensures err { OnErr result ((q : List ℕ) → at table.new q ≡ at table.old q) }
     ensures size { size table.new ≤ (if is_some (at table.old text.entry.now) then size table.old else size table.old + 1) }
 {
-    table.insert(text, value)?;
-    Ok(())
+    let older = table.insert(text, value)?;
+    Ok(older)
 }
 
 /// Adds an item at the end of those of a text.
@@ -43,7 +44,8 @@ pub(crate) fn push<'a, T: Drop>(
     }
     let mut items = Vec::new(alloc);
     items.push(item)?;
-    put(table, text, items)
+    put(table, text, items)?;
+    Ok(())
 }
 
 /// Takes a text away, and gives its value.

@@ -1,6 +1,6 @@
 //! Where texts stand: the first ones in one table, further ones in the tables of their classes, and those for which their class has no
 //! room in the order of texts.
-ghost use Rattle.std.specs.Prelude.{◌≡◌, [], ℕ, List, OnOk, OnErr, Some, None, if◌then◌else◌, bytes_eq};
+ghost use Rattle.std.specs.Prelude.{◌≡◌, [], ℕ, List, IfOk, OnOk, OnErr, Some, None, if◌then◌else◌, bytes_eq};
 ghost use Rattle.std.specs.Option.{option_copied};
 ghost use Rattle.text_map.specs.Places.{IsBounded, found, free_place as spec_free_place, items_at_rest, items_found, place_of as spec_place_of, rest_at, texts_in};
 ghost use Rattle.text_map.specs.Tables.{added};
@@ -28,18 +28,19 @@ pub(crate) enum Place {
     Rest,
 }
 
-/// Sets the value of a text among those in order.
+/// Sets the value of a text among those in order, and gives the older one.
 #[tactic(auto, using(std::proofs::lemmas::Map::Text::text_keys))]
 fn put_in_order<'a, V: Drop>(
     rest: &mut BTreeMap<&'a str, V>,
     text: &'a str,
     value: V,
-) -> Result<(), NoMemory>
+) -> Result<Option<V>, NoMemory>
+    ensures older { IfOk result (λ o. o ≡ rest_at rest.old text.entry.now) }
     ensures ok { OnOk result ((q : List ℕ) → rest_at rest.new q ≡ (if bytes_eq q text.entry.now then Some value else rest_at rest.old q)) }
     ensures err { OnErr result ((q : List ℕ) → rest_at rest.new q ≡ rest_at rest.old q) }
 {
-    rest.insert(text, value)?;
-    Ok(())
+    let older = rest.insert(text, value)?;
+    Ok(older)
 }
 
 /// Adds an item at the end of those of a text among those in order.
@@ -60,7 +61,8 @@ fn push_in_order<'a, T: Drop>(
     }
     let mut items = Vec::new(alloc);
     items.push(item)?;
-    put_in_order(rest, text, items)
+    put_in_order(rest, text, items)?;
+    Ok(())
 }
 
 /// Takes a text away from those in order, and gives its value.
@@ -128,10 +130,11 @@ impl<'a, V> Tables<'a, V> {
         self.free_place(text)
     }
 
-    /// Sets the value of a text.
-    pub fn put(&mut self, text: &'a str, value: V) -> Result<(), NoMemory>
+    /// Sets the value of a text, and gives the older one.
+    pub fn put(&mut self, text: &'a str, value: V) -> Result<Option<V>, NoMemory>
     where
         V: Drop,
+        ensures older { IfOk result (λ o. o ≡ found self.old text.entry.now) }
         ensures ok { OnOk result ((q : List ℕ) → found self.new q ≡ (if bytes_eq q text.entry.now then Some value else found self.old q)) }
         ensures err { OnErr result ((q : List ℕ) → found self.new q ≡ found self.old q) }
         ensures bounded { IsBounded self.old → IsBounded self.new }

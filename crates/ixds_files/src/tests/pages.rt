@@ -19,17 +19,18 @@ fn a_page_is_read_in_pieces(rt: HostRuntime) {
     let mut buf = [0; 4];
     pages.start(page).expect(&rt, "a start");
     let n = pages.read(&mut buf).expect(&rt, "a piece");
-    assert!(rt; &buf[..n] == b"0123".as_slice());
+    assert!(rt; n == 4 && buf == *b"0123");
     let n = pages.read(&mut buf).expect(&rt, "the next");
-    assert!(rt; &buf[..n] == b"4567".as_slice());
+    assert!(rt; n == 4 && buf == *b"4567");
+    buf = [0; 4];
     let n = pages.read(&mut buf).expect(&rt, "the last");
-    assert!(rt; &buf[..n] == b"89".as_slice());
+    assert!(rt; n == 2 && buf == *b"89\0\0");
     let n = pages.read(&mut buf).expect(&rt, "the end");
     assert!(rt; n == 0);
     // A second start begins at the first byte again.
     pages.start(page).expect(&rt, "a second start");
     let n = pages.read(&mut buf).expect(&rt, "a read");
-    assert!(rt; &buf[..n] == b"0123".as_slice());
+    assert!(rt; n == 4 && buf == *b"0123");
     assert!(rt; pages.start("ixds_cli_pages/missing.html").is_err());
     assert!(rt; pages.cause() == Some(Cause::Missing));
     fs::remove_dir_all(&rt, "ixds_cli_pages").expect(&rt, "no folder");

@@ -8,25 +8,61 @@ ghost use Rattle.page_constructs.specs.Model.{token_of};
 
 use crate::meaning::span::{Stop, behind_white, equalled, is_white_text, split};
 use crate::meaning::value::value_of;
+use crate::room::TagRoom;
 use crate::token::{Attribute, Tag, Token};
 use crate::written::{Written, is_qname, parted};
 use bumpalo::Bump;
 use ix_base::NoMemory;
 use std::alloc::Global;
 
-/// A name, kept in the arena, in its parts, where it is a qualified name.
-fn kept_name<'a>(arena: &'a Bump, name: &str) -> Result<Option<Written<'a>>, NoMemory>
+/// How many names are remembered. Each name is compared with these at most.
+const MOST_NAMES: usize = 16;
+
+/// The same name among some.
+fn same_name<'a>(names: &[Written<'a>], name: &str) -> Option<Written<'a>>
+    ensures { IfSome result (λ w. w.name.now ≡ name.now) }
+{
+    for known in names {
+        if known.name == name {
+            return Some(*known);
+        }
+    }
+    None
+}
+
+/// Remembers a name. Where as many are remembered as may be, all of them are forgotten.
+fn remember<'a>(names: &mut Vec<Written<'a>>, name: Written<'a>) -> Result<(), NoMemory> {
+    if names.len() >= MOST_NAMES {
+        names.clear();
+    }
+    names.push(name)?;
+    Ok(())
+}
+
+/// A name, kept in the arena, in its parts, where it is a qualified name: one that is remembered, or a new one.
+fn kept_name<'a>(
+    arena: &'a Bump,
+    names: &mut Vec<Written<'a>>,
+    name: &str,
+) -> Result<Option<Written<'a>>, NoMemory>
     ensures { IfOk result (λ r. MatchOption r (is_qname_of name.now ≡ false)
         (λ w. (is_qname_of name.now ≡ true) × (w.name.now ≡ name.now))) }
 {
-    let kept = arena.try_alloc_str(name)?;
-    Ok(parted(kept))
+    if let Some(known) = same_name(names.as_slice(), name) {
+        return Ok(Some(known));
+    }
+    let Some(written) = parted(arena.try_alloc_str(name)?) else {
+        return Ok(None);
+    };
+    remember(names, written)?;
+    Ok(Some(written))
 }
 
 /// An attribute at the front, and what is behind it.
 fn attribute_at<'a, 't>(
     alloc: Global,
     arena: &'a Bump,
+    names: &mut Vec<Written<'a>>,
     text: &'t str,
 ) -> Result<Option<(Attribute<'a>, &'t str)>, NoMemory>
     ensures value { IfOk result (λ r. option_map attribute_and_more r ≡ attribute_at_of text.now) }
@@ -34,7 +70,7 @@ fn attribute_at<'a, 't>(
     ensures text { IfOk result (λ r. IfSome r (λ p. IsUtf8 p.1.now)) }
 {
     let (front, rest) = split(text, Stop::Name);
-    let Some(name) = kept_name(arena, front)? else {
+    let Some(name) = kept_name(arena, names, front)? else {
         return Ok(None);
     };
     match equalled(rest) {
@@ -51,6 +87,7 @@ fn attributes_in<'a>(
     alloc: Global,
     arena: &'a Bump,
     attrs: &mut Vec<Attribute<'a>>,
+    names: &mut Vec<Written<'a>>,
     text: &str,
 ) -> Result<Option<bool>, NoMemory>
     ensures { IfOk result (λ r. (n : ℕ) → length text.now < n
@@ -69,7 +106,7 @@ fn attributes_in<'a>(
         if dark.len() == rest.len() {
             return Ok(None);
         }
-        match attribute_at(alloc, arena, dark)? {
+        match attribute_at(alloc, arena, names, dark)? {
             Some((attribute, more)) => {
                 attrs.push(attribute)?;
                 rest = more;
@@ -83,22 +120,22 @@ fn attributes_in<'a>(
 pub(crate) fn start_tag<'a, 't>(
     alloc: Global,
     arena: &'a Bump,
-    attrs: &'t mut Vec<Attribute<'a>>,
+    room: &'t mut TagRoom<'a>,
     offset: u64,
     inner: &'t str,
 ) -> Result<Option<Token<'a, 't>>, NoMemory>
     ensures { IfOk result (λ r. option_map token_of r ≡ start_tag_of offset inner.now) }
 {
     let (front, rest) = split(inner, Stop::TagName);
-    let Some(name) = kept_name(arena, front)? else {
+    let Some(name) = kept_name(arena, &mut room.names, front)? else {
         return Ok(None);
     };
-    match attributes_in(alloc, arena, attrs, rest)? {
+    match attributes_in(alloc, arena, &mut room.attrs, &mut room.names, rest)? {
         Some(is_empty) => {
             let tag = Tag {
                 offset,
                 name,
-                attrs: attrs.as_slice(),
+                attrs: room.attrs.as_slice(),
             };
             if is_empty {
                 Ok(Some(Token::EmptyTag(tag)))

@@ -27,7 +27,7 @@ loop-attr-preserved c =
             expansions = expanded-next bs all i c.attr-item.result r c.attr-item.is c.loop-attr-test.true old more e (pushed ∙ w.in_ok-push.ensures.items)
                 (ap (option_map expansion) (sym w.in-Some.is) ∙ c.expanded_of.ensures.expansion) c.loop-attr.invariant.expansions;
             spaces = from-more around old more e (pushed ∙ w.in_ok-push.ensures.items)
-                (subst (λ o. IfSome o (λ (x : Expanded). IsFrom around (space_of x.attr.name))) w.in-Some.is c.expanded_of.ensures.space) c.loop-attr.invariant.spaces;
+                (subst (λ o. IfSome o (λ (x : Expanded). IsFrom around (space_of x.name))) w.in-Some.is c.expanded_of.ensures.space) c.loop-attr.invariant.spaces;
           }
       | in_default w ↦ record {
         expansions = ap (λ v. map expansion v.items ++ filter_map (expansion_of bs) (map attribute_of (drop (i + 1) all))) w.expanded-is

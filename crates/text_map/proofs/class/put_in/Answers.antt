@@ -1,6 +1,6 @@
-use Rattle.std.proofs.Common.{None, Some}
-use Rattle.std.proofs.lemmas.Result.{on_err_weaker, on_ok_weaker}
-use Rattle.text_map.proofs.Classes.{class-changed, class-same, class-small}
+use Rattle.std.proofs.Common.{◌∙◌, None, Some, sym}
+use Rattle.std.proofs.lemmas.Result.{IfOk-weaker, on_err_weaker, on_ok_weaker}
+use Rattle.text_map.proofs.Classes.{class-changed, class-found, class-same, class-small}
 use Rattle.text_map.specs.Tables.{at}
 use Rattle.text_map.proofs.class.put_in.Goals as goal
 
@@ -20,3 +20,9 @@ pub returns-clause-small : goal.returns-clause-small
 returns-clause-small g c =
     class-small c.args.tables.now c.index-tables-class.result c.put.new.table c.args.text.now c.class_of-class.result c.class_of-class.ensures.value
     c.requires c.put.ensures.size
+
+pub returns-clause-older : goal.returns-clause-older
+returns-clause-older g c =
+    IfOk-weaker c.put.result _ _
+    (λ o e. e ∙ sym (class-found c.args.tables.now c.index-tables-class.result c.put.new.table c.args.text.now c.class_of-class.result c.class_of-class.ensures.value
+    c.requires)) c.put.ensures.older

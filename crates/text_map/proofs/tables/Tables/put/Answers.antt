@@ -1,10 +1,10 @@
-use Rattle.std.proofs.Common.{ap, is_some}
-use Rattle.std.proofs.lemmas.Result.{on_err_weaker, on_ok_weaker}
+use Rattle.std.proofs.Common.{◌∙◌, ap, is_some}
+use Rattle.std.proofs.lemmas.Result.{IfOk-weaker, on_err_weaker, on_ok_weaker}
 use Rattle.text_map.specs.declared.class.TheConstants.{FULL}
 use Rattle.text_map.specs.Places.{any_of, rest_at}
 use Rattle.text_map.specs.Tables.{at, kept_at, size}
 use Rattle.text_map.proofs.Classes.{stays-small}
-use Rattle.text_map.proofs.Placing.{at-class, at-first, at-rest, before-class, before-first, before-rest, class-room, first-room}
+use Rattle.text_map.proofs.Placing.{at-class, at-first, at-rest, before-class, before-first, before-rest, class-room, first-room, found-class, found-first, found-rest}
 use Rattle.text_map.proofs.tables.Tables.put.Goals as goal
 
 pub returns-in-First-clause-ok : goal.returns-in-First-clause-ok
@@ -61,3 +61,26 @@ returns-in-Rest-clause-err g c =
 
 pub returns-in-Rest-clause-bounded : goal.returns-in-Rest-clause-bounded
 returns-in-Rest-clause-bounded g c = λ b. record { first = b.first; classes = b.classes }
+
+pub returns-in-First-clause-older : goal.returns-in-First-clause-older
+returns-in-First-clause-older g c =
+    let t = c.args.self.now in
+    let id = c.args.text.now in
+    IfOk-weaker c.put.result _ _
+    (λ o e. e ∙ found-first (at t.first id) (kept_at t.classes.items id) (rest_at t.rest id) (before-first t id c.in-First.ensures)) c.put.ensures.older
+
+pub returns-in-Class-clause-older : goal.returns-in-Class-clause-older
+returns-in-Class-clause-older g c =
+    let t = c.args.self.now in
+    let id = c.args.text.now in
+    let b = before-class t id c.in-Class.ensures in
+    IfOk-weaker c.put_classed.result _ _
+    (λ o e. e ∙ found-class (at t.first id) (kept_at t.classes.items id) (rest_at t.rest id) b.0 b.1) c.put_classed.ensures.older
+
+pub returns-in-Rest-clause-older : goal.returns-in-Rest-clause-older
+returns-in-Rest-clause-older g c =
+    let t = c.args.self.now in
+    let id = c.args.text.now in
+    let b = before-rest t id c.in-Rest.ensures in
+    IfOk-weaker c.put_in_order.result _ _
+    (λ o e. e ∙ found-rest (at t.first id) (kept_at t.classes.items id) (rest_at t.rest id) b.0 b.1) c.put_in_order.ensures.older

@@ -1,7 +1,7 @@
 use Rattle.std.proofs.Common.{◌≡◌, drop, map, bytes_eq}
 use Rattle.page_tree.specs.Expansions.{repeats_by}
 use Rattle.page_tree.proofs.TwiceLaws.{name-twice}
-use Rattle.page_tree.proofs.twice.repeats_name.Given as goal
+use Rattle.page_tree.proofs.twice.repeats_among_many.Given as goal
 
 abbrev pub invariant-loop-attr : goal.invariant-loop-attr
 invariant-loop-attr l =

@@ -1,6 +1,6 @@
 use Rattle.std.proofs.Common.{◌∙◌, sym, map}
 use Rattle.page_tree.proofs.TwiceLaws.{name-none, name-found, name-seen, not-true, not-false}
-use Rattle.page_tree.proofs.twice.repeats_name.Goals as goal
+use Rattle.page_tree.proofs.twice.repeats_among_many.Goals as goal
 
 pub loop-attr-init : goal.loop-attr-init
 loop-attr-init c = name-none c.new-seen.result.keys (map (λ a. a.name.name.now) c.args.attrs.now) c.new-seen.ensures.empty
