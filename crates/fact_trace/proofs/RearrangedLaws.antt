@@ -31,7 +31,7 @@ use Rattle.id_table.proofs.Asking.{map-filter}
 use Rattle.id_table.proofs.Rearranged.{asks-same}
 use Rattle.id_table.proofs.Renumbered.{chain-moved, map-same, map-twice}
 use Rattle.page_constructs.proofs.SizeLaws.{same-number}
-use Rattle.targets.specs.LinkedSets.{AreApart}
+use Rattle.target_contents.specs.LinkedSets.{AreApart}
 use Rattle.targets.proofs.Exchanged.{exchanged, numbered, stay_apart, swap_at}
 use Rattle.fact_trace.specs.Model.{AreNew}
 use Rattle.fact_trace.specs.Spans.{Lying, Source, element_spans, elements, lying_at, paged, part_of, source_at, span_of, spans, spans_in, text_elements, text_elements_as, there, traced_cmp, traced_of, traces}

@@ -15,7 +15,7 @@ use Rattle.ix_base.specs.Kinds.{kind_of, same_kind}
 use Rattle.ix_base.specs.LinkRules.{is_at}
 use Rattle.continuations.specs.Model.{AreChainsOf, chain_at}
 use Rattle.continuations.proofs.HeadLaws.{chain_at-start}
-use Rattle.targets.specs.LinkedSets.{AreApart}
+use Rattle.target_contents.specs.LinkedSets.{AreApart}
 use Rattle.std.proofs.lemmas.Bool.{and_parts}
 use Rattle.ix_base.specs.LocatedElements.{Located, is_marked, is_start, located, marked_from, offset_of, on_page, page_marked}
 use Rattle.ix_base.specs.Namespaces.{ix_namespace}
@@ -25,7 +25,7 @@ use Rattle.ix_base.specs.declared.tree.Node.TheFolds.{fold_out-Element}
 use Rattle.ix_base.specs.declared.tree.Spot.{Spot, out-Spot}
 use Rattle.id_table.specs.Tables.{all_located}
 use Rattle.std.specs.Borrow.{Bor}
-use Rattle.targets.proofs.SaidLaws.{tree-at}
+use Rattle.target_contents.proofs.SaidLaws.{tree-at}
 use Rattle.ix_base.proofs.OnceLemmas.{Contains-cases, Contains-first, Contains-later, Contains-nil}
 use Rattle.facts.specs.FractionValue.{part_in}
 use Rattle.facts.specs.NumberValue.{nested_in}
@@ -34,7 +34,7 @@ use Rattle.fact_trace.specs.Model.{ArePagesFrom, IsText, sources_of}
 use Rattle.fact_trace.specs.Spans.{Source, elements, lying_at, number_in, paged, part_of, source_at, text_elements, text_elements_as, there}
 use Rattle.fact_trace.specs.Walks.{IsOfPage}
 use Rattle.fact_trace.specs.declared.page.Page.{Page}
-use Rattle.targets.proofs.ChainLaws.{all-chain}
+use Rattle.target_contents.proofs.ChainLaws.{all-chain}
 
 -- The page of an element.
 

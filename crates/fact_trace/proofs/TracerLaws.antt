@@ -26,16 +26,16 @@ use Rattle.targets.specs.Breaches.{PagesComeTo}
 use Rattle.targets.specs.ValidSets.{IsClean}
 use Rattle.targets.specs.Forest.{AreTrees}
 use Rattle.targets.specs.Forest as forest
-use Rattle.targets.specs.PageSet.{PageSet}
-use Rattle.targets.specs.PageSet as set
-use Rattle.targets.specs.SetOutcomes.{ComesTo}
-use Rattle.targets.specs.declared.outcome.Outcome.TheVariants.{Whole}
+use Rattle.target_contents.specs.PageSet.{PageSet}
+use Rattle.target_contents.specs.PageSet as set
+use Rattle.target_contents.specs.SetOutcomes.{ComesTo}
+use Rattle.target_contents.specs.declared.outcome.Outcome.TheVariants.{Whole}
 use Rattle.targets.proofs.UnbrokenLaws.{elements-apart, link-unbroken}
 use Rattle.fact_trace.specs.Model.{AreNew, ArePagesFrom, Keeps, source_of, sources_of}
 use Rattle.fact_trace.specs.Spans.{Source, elements, paged, traces}
 use Rattle.fact_trace.specs.ValidPages.{BreakNoRule, HaveTrees, names_of}
 use Rattle.fact_trace.proofs.RearrangedLaws.{rearranged}
-use Rattle.targets.specs.LinkedSets.{AreApart}
+use Rattle.target_contents.specs.LinkedSets.{AreApart}
 use Rattle.std.specs.List.Sorted.{IsPermutation}
 use Rattle.fact_trace.specs.declared.page.Page.{Page}
 use Rattle.fact_trace.proofs.AgreeLaws.{Each}

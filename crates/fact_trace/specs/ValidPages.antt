@@ -3,8 +3,8 @@ use Rattle.std.specs.Prelude.{ℕ, List, All, map}
 use Rattle.ix_base.specs.declared.limits.TheConstants.{DEEPEST_ELEMENT}
 use Rattle.page_tree.specs.Page.{page}
 use Rattle.targets.specs.Breaches.{PagesComeTo}
-use Rattle.targets.specs.declared.outcome.Outcome.TheVariants.{Whole}
-use Rattle.targets.specs.declared.outcome.Target.{Target}
+use Rattle.target_contents.specs.declared.outcome.Outcome.TheVariants.{Whole}
+use Rattle.target_contents.specs.declared.outcome.Target.{Target}
 use Rattle.fact_trace.specs.Spans.{Source}
 
 -- the trees are those of the bytes

@@ -7,7 +7,7 @@ ghost use Rattle.ix_base.specs.LocatedElements.{located};
 ghost use Rattle.ix_base.specs.Trees.{tree_of};
 ghost use Rattle.continuations.specs.Model.{AreChainsOf};
 ghost use Rattle.id_table.specs.Tables.{all_located};
-ghost use Rattle.targets.specs.LinkedSets.{AreApart};
+ghost use Rattle.target_contents.specs.LinkedSets.{AreApart};
 ghost use Rattle.fact_trace.specs.Spans as tracing;
 ghost use Rattle.fact_trace.specs.Spans.{elements, lying_at, number_in, part_of, source_at, spans_in, text_elements};
 ghost use Rattle.fact_trace.specs.Model.{ArePagesFrom, IsText, sources_of};

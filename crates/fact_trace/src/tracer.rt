@@ -9,7 +9,7 @@ ghost use Rattle.ix_base.specs.Trees.{tree_of};
 ghost use Rattle.ix_base.specs.declared.rule.Rule.TheVariants as rules;
 ghost use Rattle.continuations.specs.Model.{AreChainsOf};
 ghost use Rattle.page_tree.specs.Page.{page as page_of};
-ghost use Rattle.targets.specs.LinkedSets.{AreApart};
+ghost use Rattle.target_contents.specs.LinkedSets.{AreApart};
 ghost use Rattle.fact_trace.specs.Model.{ArePagesFrom, sources_of};
 ghost use Rattle.fact_trace.specs.Spans.{Source, elements, traces};
 ghost use Rattle.fact_trace.specs.ValidPages.{BreakNoRule, names_of};

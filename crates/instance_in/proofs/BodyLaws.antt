@@ -21,9 +21,9 @@ use Rattle.ix_base.specs.Steps.{◌>>=◌, each}
 use Rattle.ix_base.specs.Trees.{Nodes, none, chars, elem, Tree}
 use Rattle.ix_base.specs.UnitForm.{unit}
 use Rattle.instance_out.specs.Denotation.{Labelled, arc_in, are_parts, content_in, ends_of, facts_among, facts_in, footnote_in, linkbase_in, locator_in, notes_in, parts_in, reference_in, schema_in, xlink_at}
-use Rattle.instance_out.specs.Lists.{are_apart}
+use Rattle.instance_lines.specs.Lists.{are_apart}
 use Rattle.instance_tree.specs.ReaderWords.{is_typed}
-use Rattle.instance_out.specs.Holdings.{all_notes}
+use Rattle.instance_lines.specs.Holdings.{all_notes}
 use Rattle.instance_out.specs.Proper.{AreBodies, IsBody}
 use Rattle.instance_out.proofs.RunLaws.{Each}
 

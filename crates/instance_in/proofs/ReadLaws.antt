@@ -11,7 +11,7 @@ use Rattle.page_tree.proofs.SoundPages.{page-sound}
 use Rattle.page_tree.specs.Page.{page}
 use Rattle.instance_out.proofs.BackLaws.{one-text, shallow-text}
 use Rattle.instance_out.proofs.SeenLaws.{denotes-one}
-use Rattle.instance_out.specs.Canonical.{canon}
+use Rattle.instance_lines.specs.Canonical.{canon}
 use Rattle.instance_out.specs.Denotation.{content_in, denotes}
 use Rattle.instance_out.specs.Proper.{is_proper}
 use Rattle.instance_out.specs.Theorem.{IsTextOfTree}

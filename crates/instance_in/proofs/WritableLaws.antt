@@ -12,7 +12,7 @@ use Rattle.ix_base.specs.declared.content.Period.TheVariants as period
 use Rattle.ix_base.specs.Facts.{facts_of}
 use Rattle.ix_base.specs.PlainContents.{said_of}
 use Rattle.instance_out.specs.Proper.{are_normal_dims, forms_fit, is_normal_context, is_normal_period, is_normal_unit, is_proper, last_moment, nil_is_empty, tuples_fit}
-use Rattle.instance_out.specs.Writable.{IsEnd, IsStart, IsTimely, IsWritable, depth}
+use Rattle.instance_lines.specs.Writable.{IsEnd, IsStart, IsTimely, IsWritable, depth}
 use Rattle.instance_out.proofs.ProperLaws.{passed}
 
 period-timely : (p : Period) → is_normal_period p ≡ true → IsTimely p

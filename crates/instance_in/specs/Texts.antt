@@ -2,7 +2,7 @@
 use Rattle.std.specs.Prelude.{◌≡◌, ℕ, List, Result, Ok, Err}
 use Rattle.ix_base.specs.declared.content.Content.{Content}
 use Rattle.ix_base.specs.PlainContents.{said_of}
-use Rattle.instance_out.specs.Canonical.{canon}
+use Rattle.instance_lines.specs.Canonical.{canon}
 use Rattle.instance_out.specs.Proper.{Proper}
 use Rattle.instance_in.specs.declared.ReadBack.{ReadBack}
 use Rattle.instance_in.specs.declared.ReadBack.TheVariants as fault

@@ -4,7 +4,7 @@
 ghost use Rattle.std.specs.Prelude.{◌≡◌, ◌&&◌, bytes_eq, IfOk};
 ghost use Rattle.ix_base.specs.declared.content.Content.{Content as Meant};
 ghost use Rattle.ix_base.specs.PlainContents.{said_of};
-ghost use Rattle.instance_out.specs.Canonical.{canon};
+ghost use Rattle.instance_lines.specs.Canonical.{canon};
 ghost use Rattle.instance_out.specs.Proper.{is_proper};
 ghost use Rattle.instance_in.specs.Outcomes.{HasText};
 ghost use Rattle.instance_in.specs.Texts.{Gives, IsTextOf};

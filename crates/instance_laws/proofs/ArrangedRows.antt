@@ -15,11 +15,11 @@ use Rattle.ix_base.specs.Once.{in_order}
 use Rattle.ix_base.specs.SortedLists.{sorted, text_cmp}
 use Rattle.ix_base.specs.WrittenMarkup.{nothing}
 use Rattle.ix_base.proofs.StableLemmas.{sorted-map}
-use Rattle.instance_out.specs.Arrangement.{arranged_link, by_line}
-use Rattle.instance_out.specs.Canonical.{Spaces, item_markup, line_cmp, schema_markup}
-use Rattle.instance_out.specs.Elements.{fact_markup}
-use Rattle.instance_out.specs.Prefixes.{fixed, xml}
-use Rattle.instance_out.proofs.MarkupLaws.{fact_markup-Item}
+use Rattle.instance_lines.specs.Arrangement.{arranged_link, by_line}
+use Rattle.instance_lines.specs.Canonical.{Spaces, item_markup, line_cmp, schema_markup}
+use Rattle.instance_lines.specs.Elements.{fact_markup}
+use Rattle.instance_lines.specs.Prefixes.{fixed, xml}
+use Rattle.instance_lines.proofs.MarkupLaws.{fact_markup-Item}
 
 -- A schema that is named twice stands once. The quote behind an address comes after `!`, so the shorter address is the later line.
 row_schemas : in_order (by_line schema_markup) (codes "http://e/a" ∷ codes "http://e/a!" ∷ codes "http://e/a" ∷ [])

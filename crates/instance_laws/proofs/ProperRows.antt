@@ -21,7 +21,7 @@ use Rattle.ix_base.specs.Namespaces.{xml_namespace, iso4217_namespace, link_name
 use Rattle.ix_base.specs.PlainContents.{Said}
 use Rattle.ix_base.specs.Token.{token_of, is_token}
 use Rattle.ix_base.specs.Trees.{none, chars}
-use Rattle.instance_out.specs.Prefixes.{fixed, xml}
+use Rattle.instance_lines.specs.Prefixes.{fixed, xml}
 use Rattle.instance_out.specs.Proper.{Proper, IsBody, is_proper, tests, ids_fit, names_fit, texts_fit, lists_fit, parts_fit, roles_fit, forms_fit, numbers_fit, unitless_fit, fractions_fit, tuples_fit, links_fit, orders_fit, tokens_fit}
 
 abbrev e : List ℕ → OwnName

@@ -19,11 +19,11 @@ use Rattle.ix_base.proofs.FactLaws.{before-Item}
 use Rattle.ix_base.specs.Namespaces.{xml_namespace, iso4217_namespace, link_namespace, xbrldi_namespace, xbrli_namespace, xlink_namespace, xsi_namespace}
 use Rattle.ix_base.specs.Once.{in_order}
 use Rattle.ix_base.specs.SortedLists.{sorted}
-use Rattle.instance_out.specs.Prefixes.{fixed, xml}
-use Rattle.instance_out.proofs.Calendar.{day_at-days}
-use Rattle.instance_out.proofs.DayLaws.{is_civil}
+use Rattle.instance_lines.specs.Prefixes.{fixed, xml}
+use Rattle.instance_lines.proofs.Calendar.{day_at-days}
+use Rattle.instance_lines.proofs.DayLaws.{is_civil}
 use Rattle.instance_laws.proofs.DenotationRows.{note}
-use Rattle.instance_out.specs.Canonical.{Spaces, line, line_cmp, root_line, context_markup, unit_markup, fact_markups, link_markup, content_spaces, children, lines_with, canon_lines}
+use Rattle.instance_lines.specs.Canonical.{Spaces, line, line_cmp, root_line, context_markup, unit_markup, fact_markups, link_markup, content_spaces, children, lines_with, canon_lines}
 
 abbrev e : List ℕ → OwnName
 e local = record { ns = codes "http://example.com/e"; local = local }

@@ -8,7 +8,7 @@ use Rattle.ix_base.specs.declared.content.Fact.TheVariants as fact
 use Rattle.ix_base.specs.declared.content.Item.{Item}
 use Rattle.ix_base.specs.Facts.{none, facts_of}
 use Rattle.ix_base.proofs.FactLaws.{before-Item}
-use Rattle.instance_out.specs.Writable.{IsTimely, IsWritable, depth}
+use Rattle.instance_lines.specs.Writable.{IsTimely, IsWritable, depth}
 
 -- a content of one context and one item
 pub one_item-writable : (c : Content) (x : Context) (i : Item) → c.contexts ≡ x ∷ [] → c.facts ≡ fact.Item i ∷ [] → IsTimely x.period → IsWritable c

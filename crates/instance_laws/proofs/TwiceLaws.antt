@@ -16,11 +16,11 @@ use Rattle.ix_base.specs.Facts.{facts_of}
 use Rattle.ix_base.specs.Once.{in_order}
 use Rattle.ix_base.specs.SortedLists.{sorted, text_cmp}
 use Rattle.ix_base.specs.WrittenMarkup.{Markup}
-use Rattle.instance_out.specs.Arrangement.{arranged, arranged_link, by_line, firsts}
-use Rattle.instance_out.specs.Canonical.{Spaces, arcrole_markup, content_spaces, line, linkbase_markup, role_markup, schema_markup}
-use Rattle.instance_out.specs.Elements.{arc_text, fact_markup, footnote_text}
-use Rattle.instance_out.proofs.ArrangedLaws.{IsFront, Rises, in_order-in_order, sorted-rises, sorted-risen, sorted-sorted, spaces-arranged}
-use Rattle.instance_out.proofs.Sorting.{map-map, sorted-map}
+use Rattle.instance_lines.specs.Arrangement.{arranged, arranged_link, by_line, firsts}
+use Rattle.instance_lines.specs.Canonical.{Spaces, arcrole_markup, content_spaces, line, linkbase_markup, role_markup, schema_markup}
+use Rattle.instance_lines.specs.Elements.{arc_text, fact_markup, footnote_text}
+use Rattle.instance_lines.proofs.ArrangedLaws.{IsFront, Rises, in_order-in_order, sorted-rises, sorted-risen, sorted-sorted, spaces-arranged}
+use Rattle.instance_lines.proofs.Sorting.{map-map, sorted-map}
 
 -- Of things that rise some are left.
 module _ {X : Type 0} {R : X → X → Ordering} (o : IsTotalOrder R) where

@@ -1,9 +1,9 @@
 //! Laws of arranged contents, for the crates that rest on them.
 ghost use Rattle.std.specs.Prelude.{◌≡◌};
 ghost use Rattle.ix_base.specs.declared.content.Content.{Content};
-ghost use Rattle.instance_out.specs.Arrangement.{arranged, with_arranged_links};
-ghost use Rattle.instance_out.specs.Canonical.{canon_lines};
-ghost use Rattle.instance_out.specs.Writable.{IsWritable};
+ghost use Rattle.instance_lines.specs.Arrangement.{arranged, with_arranged_links};
+ghost use Rattle.instance_lines.specs.Canonical.{canon_lines};
+ghost use Rattle.instance_lines.specs.Writable.{IsWritable};
 
 /// An arranged content can be written where the content can.
 pub fn arranged_writable()

@@ -4,7 +4,7 @@ ghost use Rattle.std.specs.Prelude.{◌≡◌, None};
 ghost use Rattle.ix_base.specs.declared.content.Content.{Content};
 ghost use Rattle.ix_base.specs.PlainContents.{said_of};
 ghost use Rattle.page_tree.specs.Break.{w};
-ghost use Rattle.instance_out.specs.Canonical.{canon};
+ghost use Rattle.instance_lines.specs.Canonical.{canon};
 ghost use Rattle.instance_out.specs.Proper.{Proper};
 ghost use Rattle.instance_out.specs.Theorem.{DenotesOne, IsReadBack, IsTextOfTree, ProperIsDenoted};
 

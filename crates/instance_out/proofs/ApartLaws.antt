@@ -11,7 +11,7 @@ use Rattle.ix_base.specs.declared.content.Footnote.{Footnote}
 use Rattle.ix_base.specs.declared.content.NoteLink.{NoteLink}
 use Rattle.page_constructs.proofs.SpanLaws.{bytes-one, bytes-same, bytes-apart, either, and_both}
 use Rattle.ix_base.specs.SortedLists.{text_cmp}
-use Rattle.instance_out.specs.Lists.{are_apart, strictly, has, is_within}
+use Rattle.instance_lines.specs.Lists.{are_apart, strictly, has, is_within}
 use Rattle.instance_out.specs.Proper.{same_note, counted_once}
 use Rattle.instance_out.proofs.RunLaws.{Each}
 

@@ -14,14 +14,14 @@ use Rattle.ix_base.specs.NcName.{are_allowed}
 use Rattle.ix_base.specs.Scope.{outermost, namespace_of}
 use Rattle.ix_base.specs.Trees.{Bound, Tree}
 use Rattle.ix_base.specs.WrittenMarkup.{Markup, nothing, words, written}
-use Rattle.instance_out.specs.Prefixes.{declaration, declared_for}
+use Rattle.instance_lines.specs.Prefixes.{declaration, declared_for}
 use Rattle.page_tree.specs.FineMarkup.{is_fine, IsFine, begins_dark, scope_in}
 use Rattle.page_tree.specs.Break.{w}
 use Rattle.page_tree.specs.Page.{page}
 use Rattle.page_tree.proofs.FineLaws.{deeper}
 use Rattle.page_tree.proofs.PageLaws.{one, unbroken}
 use Rattle.page_tree.proofs.WrittenPages.{written-page}
-use Rattle.instance_out.specs.Canonical.{Spaces, canon, canon_lines, first_line, root, schema_markup, linkbase_markup, role_markup, arcrole_markup, context_markup, unit_markup, fact_markups}
+use Rattle.instance_lines.specs.Canonical.{Spaces, canon, canon_lines, first_line, root, schema_markup, linkbase_markup, role_markup, arcrole_markup, context_markup, unit_markup, fact_markups}
 use Rattle.instance_out.specs.GoodMarkup.{good_linkbase, good_role, good_context, good_unit, good_link, allowed_if, declared_scope, is_element}
 use Rattle.page_constructs.proofs.SpanLaws.{and_both}
 use Rattle.instance_out.proofs.LinkFine.{Pass, pass-append, pass-map, lines-fine, feed, link-fine, spaces-good}
@@ -33,7 +33,7 @@ use Rattle.ix_base.specs.PlainContents.{Said, said_of}
 use Rattle.instance_out.specs.Denotation.{denotes}
 use Rattle.instance_out.specs.Instance.{lines_of, bodied, lines_for, root_for}
 use Rattle.instance_out.specs.MarkupTrees.{tree_in}
-use Rattle.instance_out.specs.Holdings.{all_notes, all_names, said_spaces}
+use Rattle.instance_lines.specs.Holdings.{all_notes, all_names, said_spaces}
 use Rattle.instance_out.specs.Proper.{AreBodies, Proper}
 use Rattle.instance_out.proofs.ProperLaws.{each-map, each-flat, each-of}
 use Rattle.instance_out.proofs.SeenLaws.{denotes-one}

@@ -19,7 +19,7 @@ use Rattle.page_constructs.proofs.SpanLaws.{bytes-one, bytes-apart, and_both, on
 use Rattle.ix_base.specs.Markup.{Manner, LeftOut, Opened, Kept, manner, is_silent, silent_by, ends_short, is_written, attribute_of, value_by, is_link_of, attribute_cmp, own_attributes, declaration, put_words, element_by, body}
 use Rattle.page_tree.specs.Spellings.{read as meant}
 use Rattle.page_tree.specs.FineMarkup.{head_at, nodes_at, past}
-use Rattle.instance_out.specs.Lists.{rises}
+use Rattle.instance_lines.specs.Lists.{rises}
 use Rattle.page_tree.proofs.FineNames.{ncname-colon}
 use Rattle.instance_out.proofs.RunLaws.{Each}
 use Rattle.std.proofs.lemmas.List.{nil_from_length}

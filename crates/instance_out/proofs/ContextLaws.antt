@@ -19,9 +19,9 @@ use Rattle.ix_base.specs.Namespaces.{xbrli_namespace, xbrldi_namespace}
 use Rattle.ix_base.specs.Times.{start_time, end_time}
 use Rattle.ix_base.specs.Trees.{Bound, Named, Head, Nodes, none, elem}
 use Rattle.ix_base.specs.WrittenMarkup.{nothing, start_text, close_text}
-use Rattle.instance_out.specs.Prefixes.{name_text}
-use Rattle.instance_out.specs.Moments.{start_text as start_moment, end_text as end_moment}
-use Rattle.instance_out.specs.Canonical.{Spaces, attr, text_markup, text_element, each_markup, around, period_markup, dim_markup, context_markup}
+use Rattle.instance_lines.specs.Prefixes.{name_text}
+use Rattle.instance_lines.specs.Moments.{start_text as start_moment, end_text as end_moment}
+use Rattle.instance_lines.specs.Canonical.{Spaces, attr, text_markup, text_element, each_markup, around, period_markup, dim_markup, context_markup}
 use Rattle.page_tree.specs.FineMarkup.{head_at, nodes_at, past}
 use Rattle.instance_out.specs.MarkupTrees.{tree_in}
 use Rattle.instance_out.specs.Proper.{is_full}

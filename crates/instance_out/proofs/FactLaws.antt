@@ -12,8 +12,8 @@ use Rattle.ix_base.specs.Namespaces.{xbrli_namespace, xsi_namespace}
 use Rattle.ix_base.specs.Token.{token_of}
 use Rattle.ix_base.specs.Trees.{Bound, Head, Nodes, none, elem}
 use Rattle.ix_base.specs.WrittenMarkup.{Attribute as Given, Markup, nothing, start_text, leaf_text, close_text}
-use Rattle.instance_out.specs.Prefixes.{name_text}
-use Rattle.instance_out.specs.Canonical.{Spaces, attr, attr_if, accuracy_attrs, nil_attr, text_markup, text_element, item_markup, tuple_markup, facts_markup}
+use Rattle.instance_lines.specs.Prefixes.{name_text}
+use Rattle.instance_lines.specs.Canonical.{Spaces, attr, attr_if, accuracy_attrs, nil_attr, text_markup, text_element, item_markup, tuple_markup, facts_markup}
 use Rattle.page_tree.specs.FineMarkup.{head_at, nodes_at, past}
 use Rattle.instance_out.specs.Denotation.{accuracy_by, is_nil, value_by, item_in, fact_by, members_by, is_part, outside, facts_in}
 use Rattle.instance_out.proofs.NameLaws.{Knows, IsRead, given, knows-xbrli, knows-xsi}

@@ -24,18 +24,18 @@ use Rattle.ix_base.specs.NcName.{is_ncname, is_allowed, are_allowed}
 use Rattle.ix_base.specs.Namespaces.{xmlns_namespace}
 use Rattle.ix_base.specs.Trees.{Bound}
 use Rattle.ix_base.specs.WrittenMarkup.{Markup}
-use Rattle.instance_out.specs.Moments.{date_text, clock_text, time_text, start_text, end_text}
-use Rattle.instance_out.proofs.Calendar.{day_at-is}
+use Rattle.instance_lines.specs.Moments.{date_text, clock_text, time_text, start_text, end_text}
+use Rattle.instance_lines.proofs.Calendar.{day_at-is}
 use Rattle.page_tree.specs.FineMarkup.{is_fine}
 use Rattle.page_constructs.proofs.AllowedText.{low-allowed, allowed-append}
-use Rattle.instance_out.specs.Canonical.{context_names, dim_names, member_names, unit_names, fact_names}
+use Rattle.instance_lines.specs.Canonical.{context_names, dim_names, member_names, unit_names, fact_names}
 use Rattle.instance_out.specs.GoodMarkup.{allowed_if, good_linkbase, good_role, good_name, good_period, good_member, good_dim, good_context, good_unit, good_accuracy, good_value, good_item, good_facts, fit, is_spaced, good_footnote, good_arc, good_link, declared_scope}
 use Rattle.page_constructs.proofs.SpanLaws.{and_both}
 use Rattle.instance_out.proofs.TimesFine.{date-allowed, clock-allowed}
 use Rattle.ix_base.specs.PlainContents.{Said}
-use Rattle.instance_out.specs.Lists.{of_option}
-use Rattle.instance_out.specs.Holdings.{items_in, fact_ids, all_names, said_spaces, accuracy_texts, value_texts, member_texts, item_texts, context_texts, note_texts, arc_texts, link_texts, ref_texts, all_texts}
-use Rattle.instance_out.specs.Writable.{depth}
+use Rattle.instance_lines.specs.Lists.{of_option}
+use Rattle.instance_lines.specs.Holdings.{items_in, fact_ids, all_names, said_spaces, accuracy_texts, value_texts, member_texts, item_texts, context_texts, note_texts, arc_texts, link_texts, ref_texts, all_texts}
+use Rattle.instance_lines.specs.Writable.{depth}
 use Rattle.instance_out.specs.Proper.{is_name, is_fact_name, names_fit, texts_fit, is_normal_period, are_normal_dims, is_normal_context, is_normal_unit, forms_fit, nil_is_empty, tuples_fit, tests, is_proper}
 use Rattle.instance_out.proofs.RunLaws.{Each}
 use Rattle.instance_out.proofs.ProperLaws.{each-both, each-map, each-parts, each-flat, each-of, all-of, passed}

@@ -15,15 +15,15 @@ use Rattle.ix_base.specs.declared.content.Period.{Period}
 use Rattle.ix_base.specs.declared.content.RoleRef.{RoleRef}
 use Rattle.ix_base.specs.declared.content.Unit.{Unit as UnitContent}
 use Rattle.ix_base.specs.declared.content.Value.{Value}
-use Rattle.instance_out.specs.Moments.{start_text as start_moment, end_text as end_moment}
-use Rattle.instance_out.specs.Prefixes.{name_text}
+use Rattle.instance_lines.specs.Moments.{start_text as start_moment, end_text as end_moment}
+use Rattle.instance_lines.specs.Prefixes.{name_text}
 use Rattle.page_tree.specs.FineMarkup.{is_fine, IsFine, HasValues, IsPlainTag, is_simple_name, are_simple_names, names_of}
 use Rattle.page_constructs.proofs.AllowedText.{low-allowed, allowed-nil, allowed-before, allowed-tail}
 use Rattle.page_tree.proofs.FineLaws.{text-fine, nothing-fine, node-fine, leaf-fine, no-values, more-values, values-append}
 use Rattle.page_tree.proofs.FineTags.{simple-tag, named-tag}
 use Rattle.page_tree.proofs.PlainText.{good-written}
 use Rattle.page_constructs.proofs.SpanLaws.{and_both}
-use Rattle.instance_out.specs.Canonical.{Spaces, attr, attr_if, text_markup, text_element, each_markup, around, schema_markup, linkbase_markup, role_markup, arcrole_markup, period_markup, member_markup, dim_markup, context_markup, measures_markup, ratio_markup, unit_markup, accuracy_attrs, nil_attr, item_attrs, value_markup, item_markup, tuple_markup, facts_markup, fact_markups}
+use Rattle.instance_lines.specs.Canonical.{Spaces, attr, attr_if, text_markup, text_element, each_markup, around, schema_markup, linkbase_markup, role_markup, arcrole_markup, period_markup, member_markup, dim_markup, context_markup, measures_markup, ratio_markup, unit_markup, accuracy_attrs, nil_attr, item_attrs, value_markup, item_markup, tuple_markup, facts_markup, fact_markups}
 use Rattle.instance_out.specs.GoodMarkup.{allowed_if, good_linkbase, good_role, good_period, good_member, good_dim, good_context, good_unit, good_accuracy, good_value, good_item, good_facts, fit, declared_scope, is_element}
 use Rattle.instance_out.proofs.RootFine.{known, known-bound, own-name}
 use Rattle.ix_base.specs.Trees as trees

@@ -15,13 +15,13 @@ use Rattle.ix_base.specs.declared.content.Arc.{Arc}
 use Rattle.ix_base.specs.declared.content.Footnote.{Footnote}
 use Rattle.ix_base.specs.declared.content.NoteLink.{NoteLink}
 use Rattle.ix_base.specs.declared.content.OwnName.{OwnName}
-use Rattle.instance_out.specs.Prefixes.{xml, is_known, with_space, spaces_of}
+use Rattle.instance_lines.specs.Prefixes.{xml, is_known, with_space, spaces_of}
 use Rattle.page_tree.specs.FineMarkup.{is_fine, is_fine_tag, scope_in, IsFine, HasValues, begins_dark, is_simple_name, are_simple_names, names_of, IsPlainTag}
 use Rattle.page_constructs.proofs.AllowedText.{is_low, low-allowed, allowed-append}
 use Rattle.page_tree.proofs.FineLaws.{nothing-fine, node-fine, leaf-fine, no-values, more-values}
 use Rattle.page_tree.proofs.FineTags.{simple-tag}
 use Rattle.page_constructs.proofs.SpanLaws.{and_both, bytes-one, clash}
-use Rattle.instance_out.specs.Canonical.{Spaces, attr_if, each_markup, locator_markup, footnote_markup, arc_markup, link_markup, arc_line_cmp}
+use Rattle.instance_lines.specs.Canonical.{Spaces, attr_if, each_markup, locator_markup, footnote_markup, arc_markup, link_markup, arc_line_cmp}
 use Rattle.ix_base.specs.FilledMarkup.{then as joins, filled}
 use Rattle.instance_out.specs.GoodMarkup.{allowed_if, is_spaced, good_footnote, good_arc, good_link, declared_scope, is_space, is_element}
 use Rattle.instance_out.specs.Instance.{lines_of}

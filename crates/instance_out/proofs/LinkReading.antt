@@ -15,12 +15,12 @@ use Rattle.ix_base.specs.SortedLists.{sorted, text_cmp}
 use Rattle.ix_base.specs.Steps.{each}
 use Rattle.ix_base.specs.Trees.{Bound, Named, Nodes, none, Tree}
 use Rattle.ix_base.specs.WrittenMarkup.{Attribute as Given, Markup, nothing, node, start_text, leaf_text, close_text}
-use Rattle.instance_out.specs.Canonical.{Spaces, attr, attr_if, type_attr, href_attr, each_markup, arc_line_cmp, schema_markup, linkbase_markup, role_markup, arcrole_markup, locator_markup, footnote_markup, arc_markup, link_markup}
+use Rattle.instance_lines.specs.Canonical.{Spaces, attr, attr_if, type_attr, href_attr, each_markup, arc_line_cmp, schema_markup, linkbase_markup, role_markup, arcrole_markup, locator_markup, footnote_markup, arc_markup, link_markup}
 use Rattle.ix_base.specs.FilledMarkup.{then as joins, filled}
 use Rattle.page_constructs.proofs.SpanLaws.{bytes-one}
 use Rattle.ix_base.specs.Markup.{markup}
 use Rattle.instance_out.specs.Denotation.{Labelled, schema_in, linkbase_in, reference_in, locator_in, footnote_in, arc_in, labelled, ends_of, notes_in}
-use Rattle.instance_out.specs.Lists.{are_apart, has}
+use Rattle.instance_lines.specs.Lists.{are_apart, has}
 use Rattle.page_tree.specs.FineMarkup.{head_at, nodes_at, past}
 use Rattle.instance_out.specs.MarkupTrees.{tree_in}
 use Rattle.instance_out.proofs.NameLaws.{Knows, knows-link, knows-xlink, knows-xml}

@@ -8,9 +8,9 @@ use Rattle.ix_base.specs.Namespaces.{xml_namespace, iso4217_namespace, link_name
 use Rattle.ix_base.specs.Scope.{is_qname, namespace_of, element_name}
 use Rattle.ix_base.specs.Token.{token_of}
 use Rattle.ix_base.specs.Trees.{Bound, Named}
-use Rattle.instance_out.specs.Prefixes.{fixed, xml, declared_for, prefix_in, name_text}
+use Rattle.instance_lines.specs.Prefixes.{fixed, xml, declared_for, prefix_in, name_text}
 use Rattle.page_tree.proofs.FineNames.{ncname-colon, colon-splits, prefixed-qname, local-qname}
-use Rattle.instance_out.specs.Canonical.{Spaces}
+use Rattle.instance_lines.specs.Canonical.{Spaces}
 use Rattle.instance_out.proofs.TokenLaws.{qname-token}
 
 -- The scope knows the prefixes of an instance that has these further namespaces: each prefix is a name and is bound to its

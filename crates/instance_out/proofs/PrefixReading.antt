@@ -14,11 +14,11 @@ use Rattle.ix_base.specs.NcName.{is_ncname, is_name_start, is_name_char}
 use Rattle.ix_base.specs.Namespaces.{xml_namespace, iso4217_namespace, link_namespace, xbrldi_namespace, xbrli_namespace, xlink_namespace, xsi_namespace}
 use Rattle.ix_base.specs.Scope.{namespace_of, bound_over, declared_over, scope_under, outermost}
 use Rattle.ix_base.specs.Trees.{Bound}
-use Rattle.instance_out.specs.Prefixes.{xml, fixed, numeral, numbered, declared_for, declaration, prefix_in, is_known, with_space, spaces_of}
+use Rattle.instance_lines.specs.Prefixes.{xml, fixed, numeral, numbered, declared_for, declaration, prefix_in, is_known, with_space, spaces_of}
 use Rattle.page_tree.specs.Tags.{binding_of}
 use Rattle.page_constructs.proofs.AllowedText.{is_low, low-ncname}
 use Rattle.page_constructs.proofs.SpanLaws.{bytes-one, bytes-same, bytes-apart, either}
-use Rattle.instance_out.specs.Canonical.{Spaces, root}
+use Rattle.instance_lines.specs.Canonical.{Spaces, root}
 use Rattle.page_tree.specs.Spellings.{read as meant}
 use Rattle.page_tree.specs.FineMarkup.{scope_in}
 use Rattle.instance_out.specs.GoodMarkup.{declared_scope}

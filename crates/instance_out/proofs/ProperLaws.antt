@@ -28,18 +28,18 @@ use Rattle.ix_base.specs.SortedLists.{sorted, put, put_by, text_cmp}
 use Rattle.ix_base.specs.Elements.{tree_at}
 use Rattle.ix_base.specs.Trees.{Bound, Head, Nodes}
 use Rattle.ix_base.specs.WrittenMarkup.{Markup}
-use Rattle.instance_out.specs.Prefixes.{declaration, declared_for}
+use Rattle.instance_lines.specs.Prefixes.{declaration, declared_for}
 use Rattle.page_constructs.proofs.SpanLaws.{and_both}
-use Rattle.instance_out.specs.Canonical.{Spaces, root, arc_line_cmp, context_names, dim_names, member_names, unit_names, fact_names}
+use Rattle.instance_lines.specs.Canonical.{Spaces, root, arc_line_cmp, context_names, dim_names, member_names, unit_names, fact_names}
 use Rattle.ix_base.specs.PlainContents.{Said}
 use Rattle.instance_out.specs.Denotation.{is_part, parts_in, content_in}
-use Rattle.instance_out.specs.Lists.{are_apart, of_option, rises, strictly, has, is_within}
+use Rattle.instance_lines.specs.Lists.{are_apart, of_option, rises, strictly, has, is_within}
 use Rattle.instance_out.specs.Proper.{is_full, counted_once, all_ids, ids_fit, is_name, is_fact_name, names_fit, link_in_order, lists_fit, is_normal_period, are_normal_dims, is_normal_context, is_normal_unit, forms_fit, is_none_nil, nil_is_empty, tuples_fit, note_ids, arc_ends, is_whole_link, links_fit, tokens_fit, tests, is_proper}
 use Rattle.page_tree.specs.FineMarkup.{head_at}
 use Rattle.instance_out.specs.MarkupTrees.{tree_in}
 use Rattle.instance_out.specs.Instance.{root_for}
-use Rattle.instance_out.specs.Holdings.{ref_texts, all_notes, all_arcs, all_names, said_spaces, fact_ids, token_texts}
-use Rattle.instance_out.specs.Writable.{depth}
+use Rattle.instance_lines.specs.Holdings.{ref_texts, all_notes, all_arcs, all_names, said_spaces, fact_ids, token_texts}
+use Rattle.instance_lines.specs.Writable.{depth}
 use Rattle.instance_out.proofs.NameLaws.{Knows, is_listed, given, IsRead, name-read, knows-xbrli}
 use Rattle.instance_out.proofs.RunLaws.{Each}
 use Rattle.instance_out.proofs.ContextLaws.{xbrli_name, AreReadIn, IsReadDim, AreNormal, IsNormalPeriod, IsNormalContext}

@@ -6,7 +6,7 @@ use Rattle.ix_base.specs.NcName.{is_allowed, are_allowed, is_ncname}
 use Rattle.ix_base.specs.Namespaces.{xml_namespace, xmlns_namespace, iso4217_namespace, link_namespace, xbrldi_namespace, xbrli_namespace, xlink_namespace, xsi_namespace}
 use Rattle.ix_base.specs.Scope.{namespace_of, outermost, is_qname}
 use Rattle.ix_base.specs.Trees.{Bound}
-use Rattle.instance_out.specs.Prefixes.{xml, fixed, numbered, declared_for, declaration, prefix_in, qualified, name_text}
+use Rattle.instance_lines.specs.Prefixes.{xml, fixed, numbered, declared_for, declaration, prefix_in, qualified, name_text}
 use Rattle.ix_base.specs.declared.content.OwnName.{OwnName}
 use Rattle.page_tree.specs.FineMarkup.{declaring, is_fine_binding, are_apart, is_simple, are_bound, is_fine_tag}
 use Rattle.page_tree.specs.Tags.{is_unbound, is_bad}
@@ -15,7 +15,7 @@ use Rattle.page_tree.proofs.FineNames.{ncname-colon, prefixed-qname, local-qname
 use Rattle.page_tree.proofs.FineLaws.{bytes-swapped}
 use Rattle.page_tree.proofs.FineTags.{simple-ncname}
 use Rattle.page_constructs.proofs.SpanLaws.{and_both}
-use Rattle.instance_out.specs.Canonical.{Spaces, root}
+use Rattle.instance_lines.specs.Canonical.{Spaces, root}
 use Rattle.instance_out.specs.GoodMarkup.{declared_scope, is_space}
 use Rattle.instance_out.proofs.ApartLaws.{not-is}
 use Rattle.instance_out.proofs.PrefixReading.{AreOther, AreFresh, declared-fresh, declared-names, numbered-name, prefix-name, bound-prefix}

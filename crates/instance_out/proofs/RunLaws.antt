@@ -6,7 +6,7 @@ use Rattle.ix_base.specs.ElementContent.{is_of, elements_in, named_in, is_blank_
 use Rattle.ix_base.specs.Steps.{each}
 use Rattle.ix_base.specs.Trees.{Bound, Named, Head, Nodes, elem, Tree}
 use Rattle.ix_base.specs.WrittenMarkup.{Markup}
-use Rattle.instance_out.specs.Canonical.{each_markup, text_markup}
+use Rattle.instance_lines.specs.Canonical.{each_markup, text_markup}
 use Rattle.page_tree.specs.FineMarkup.{nodes_at}
 
 abbrev pub Each : {X : Type 0} → (X → Type 0) → List X → Type 0

@@ -7,7 +7,7 @@ use Rattle.ix_base.specs.declared.content.Footnote.{Footnote}
 use Rattle.ix_base.specs.Scope.{outermost}
 use Rattle.ix_base.specs.Trees.{Bound}
 use Rattle.ix_base.specs.WrittenMarkup.{Markup, nothing, words, node, leaf, verbatim, written}
-use Rattle.instance_out.specs.Canonical.{Spaces, canon, first_line}
+use Rattle.instance_lines.specs.Canonical.{Spaces, canon, first_line}
 use Rattle.ix_base.specs.FilledMarkup.{then as joins}
 use Rattle.page_constructs.proofs.SpanLaws.{bytes-one, bytes-same}
 use Rattle.ix_base.specs.Markup.{body, markup}
@@ -16,7 +16,7 @@ use Rattle.instance_out.specs.Denotation.{denotes}
 use Rattle.instance_out.specs.Instance.{root_for}
 use Rattle.page_tree.specs.FineMarkup.{nodes_at}
 use Rattle.instance_out.specs.MarkupTrees.{tree_in}
-use Rattle.instance_out.specs.Holdings.{all_notes, said_spaces, all_names}
+use Rattle.instance_lines.specs.Holdings.{all_notes, said_spaces, all_names}
 use Rattle.instance_out.specs.Proper.{IsBody, AreBodies, Proper}
 use Rattle.instance_out.specs.Theorem.{ProperIsDenoted}
 use Rattle.instance_out.proofs.NameLaws.{Knows, knows-xml}

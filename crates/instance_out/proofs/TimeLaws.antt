@@ -11,8 +11,8 @@ use Rattle.ix_base.specs.Days.{Day, day_at, days_before}
 use Rattle.ix_base.specs.Forms.{is_digit}
 use Rattle.ix_base.specs.Times.{is_like, is_day, number_at, day_of, clock_of, time_of, start_time, end_time}
 use Rattle.ix_base.specs.Token.{token_of}
-use Rattle.instance_out.specs.Moments.{date_text, clock_text, time_text, start_text, end_text}
-use Rattle.instance_out.proofs.Calendar.{IsProper, day_at-is}
+use Rattle.instance_lines.specs.Moments.{date_text, clock_text, time_text, start_text, end_text}
+use Rattle.instance_lines.proofs.Calendar.{IsProper, day_at-is}
 use Rattle.page_constructs.proofs.AllowedText.{all-append}
 use Rattle.page_constructs.proofs.SpanLaws.{bytes-apart}
 use Rattle.instance_out.proofs.TokenLaws.{IsDark, token-dark}

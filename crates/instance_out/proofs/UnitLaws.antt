@@ -14,8 +14,8 @@ use Rattle.ix_base.specs.Namespaces.{xbrli_namespace}
 use Rattle.ix_base.specs.Trees.{Bound, Head, Nodes, none, elem}
 use Rattle.ix_base.specs.UnitForm.{unit, measures_in, divided, ratio_in}
 use Rattle.ix_base.specs.WrittenMarkup.{nothing, start_text, close_text}
-use Rattle.instance_out.specs.Prefixes.{name_text}
-use Rattle.instance_out.specs.Canonical.{Spaces, text_markup, measure_markup, measures_markup, ratio_markup, unit_markup}
+use Rattle.instance_lines.specs.Prefixes.{name_text}
+use Rattle.instance_lines.specs.Canonical.{Spaces, text_markup, measure_markup, measures_markup, ratio_markup, unit_markup}
 use Rattle.page_tree.specs.FineMarkup.{head_at, nodes_at, past}
 use Rattle.instance_out.specs.MarkupTrees.{tree_in}
 use Rattle.instance_out.proofs.NameLaws.{Knows, IsRead, knows-xbrli}

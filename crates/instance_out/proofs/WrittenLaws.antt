@@ -9,15 +9,15 @@ use Rattle.ix_base.specs.declared.content.Footnote.{Footnote}
 use Rattle.ix_base.specs.declared.content.NoteLink.{NoteLink}
 use Rattle.ix_base.specs.Facts.{Facts, facts_of}
 use Rattle.ix_base.specs.WrittenMarkup.{Markup, nothing, words, written, start_text}
-use Rattle.instance_out.specs.Prefixes.{declaration, declared_for}
-use Rattle.instance_out.specs.Canonical.{Spaces, root, line, first_line, last_line, root_line, line_cmp, arc_line_cmp, each_markup, schema_markup, linkbase_markup, role_markup, arcrole_markup, context_markup, unit_markup, fact_markups, locator_markup, footnote_markup, arc_markup, link_markup, content_spaces, children, lines_with, canon}
+use Rattle.instance_lines.specs.Prefixes.{declaration, declared_for}
+use Rattle.instance_lines.specs.Canonical.{Spaces, root, line, first_line, last_line, root_line, line_cmp, arc_line_cmp, each_markup, schema_markup, linkbase_markup, role_markup, arcrole_markup, context_markup, unit_markup, fact_markups, locator_markup, footnote_markup, arc_markup, link_markup, content_spaces, children, lines_with, canon}
 use Rattle.ix_base.specs.SortedLists.{text_cmp}
 use Rattle.ix_base.specs.FilledMarkup.{AreBodies}
 use Rattle.ix_base.proofs.FilledLemmas.{written-then, written-more, written-filled}
 use Rattle.ix_base.specs.PlainContents.{said_of}
 use Rattle.instance_out.specs.Instance.{lines_of, bodied, lines_for, root_for}
-use Rattle.instance_out.specs.Lists.{rises, strictly}
-use Rattle.instance_out.specs.Holdings.{said_spaces}
+use Rattle.instance_lines.specs.Lists.{rises, strictly}
+use Rattle.instance_lines.specs.Holdings.{said_spaces}
 use Rattle.instance_out.specs.Proper.{link_in_order, lists_fit, is_proper}
 use Rattle.instance_out.proofs.RunLaws.{Each}
 use Rattle.instance_out.proofs.ProperLaws.{sorted-rises, once-strictly, strictly-rises, passed}

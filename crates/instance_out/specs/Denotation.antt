@@ -25,7 +25,7 @@ use Rattle.ix_base.specs.Steps.{◌>>=◌, each}
 use Rattle.ix_base.specs.Trees.{Named, Valued, Head, Nodes, none, chars, elem, Tree}
 use Rattle.ix_base.specs.UnitForm.{unit}
 use Rattle.ix_base.specs.Markup.{markup}
-use Rattle.instance_out.specs.Lists.{are_apart}
+use Rattle.instance_lines.specs.Lists.{are_apart}
 use Rattle.ix_base.specs.PlainContents.{Said, said_of}
 
 -- Attributes.

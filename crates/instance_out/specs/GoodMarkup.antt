@@ -26,9 +26,9 @@ use Rattle.ix_base.specs.NcName.{is_ncname, are_allowed}
 use Rattle.ix_base.specs.Scope.{scope_under, outermost}
 use Rattle.ix_base.specs.Trees.{Bound}
 use Rattle.ix_base.specs.WrittenMarkup.{Markup, nothing, node, leaf}
-use Rattle.instance_out.specs.Canonical.{Spaces}
-use Rattle.instance_out.specs.Moments.{start_text as start_moment, end_text as end_moment}
-use Rattle.instance_out.specs.Prefixes.{declared_for}
+use Rattle.instance_lines.specs.Canonical.{Spaces}
+use Rattle.instance_lines.specs.Moments.{start_text as start_moment, end_text as end_moment}
+use Rattle.instance_lines.specs.Prefixes.{declared_for}
 use Rattle.page_tree.specs.FineMarkup.{is_fine}
 
 -- Scopes and elements.

@@ -4,8 +4,8 @@ use Rattle.ix_base.specs.declared.content.NoteLink.{NoteLink}
 use Rattle.ix_base.specs.FilledMarkup.{then, filled}
 use Rattle.ix_base.specs.PlainContents.{Said}
 use Rattle.ix_base.specs.WrittenMarkup.{Markup, nothing, words, node}
-use Rattle.instance_out.specs.Canonical.{Spaces, root, schema_markup, linkbase_markup, role_markup, arcrole_markup, context_markup, unit_markup, fact_markups, link_markup}
-use Rattle.instance_out.specs.Prefixes.{declaration, declared_for}
+use Rattle.instance_lines.specs.Canonical.{Spaces, root, schema_markup, linkbase_markup, role_markup, arcrole_markup, context_markup, unit_markup, fact_markups, link_markup}
+use Rattle.instance_lines.specs.Prefixes.{declaration, declared_for}
 
 -- each on a line of its own
 abbrev pub lines_of : List Markup → Markup

@@ -26,11 +26,11 @@ use Rattle.ix_base.specs.SortedLists.{text_cmp}
 use Rattle.ix_base.specs.Sound.{AreSound}
 use Rattle.ix_base.specs.Token.{is_token}
 use Rattle.ix_base.specs.Trees.{Nodes}
-use Rattle.instance_out.specs.Canonical.{line_cmp, arc_line_cmp, fact_names, schema_markup, linkbase_markup, role_markup, arcrole_markup, fact_markups}
-use Rattle.instance_out.specs.Holdings.{items_in, fact_ids, all_names, all_notes, all_arcs, all_texts, token_texts, said_spaces}
-use Rattle.instance_out.specs.Lists.{are_apart, is_within, of_option, rises, strictly}
+use Rattle.instance_lines.specs.Canonical.{line_cmp, arc_line_cmp, fact_names, schema_markup, linkbase_markup, role_markup, arcrole_markup, fact_markups}
+use Rattle.instance_lines.specs.Holdings.{items_in, fact_ids, all_names, all_notes, all_arcs, all_texts, token_texts, said_spaces}
+use Rattle.instance_lines.specs.Lists.{are_apart, is_within, of_option, rises, strictly}
 use Rattle.ix_base.specs.PlainContents.{Said}
-use Rattle.instance_out.specs.Writable.{depth}
+use Rattle.instance_lines.specs.Writable.{depth}
 
 -- 1. Ids are NCNames, and stand once. A footnote in two links counts as one.
 

@@ -6,7 +6,7 @@ use Rattle.ix_base.specs.PlainContents.{said_of}
 use Rattle.ix_base.specs.Scope.{outermost}
 use Rattle.ix_base.specs.Trees.{Tree}
 use Rattle.ix_base.specs.WrittenMarkup.{Markup, written}
-use Rattle.instance_out.specs.Canonical.{canon, first_line}
+use Rattle.instance_lines.specs.Canonical.{canon, first_line}
 use Rattle.instance_out.specs.Denotation.{denotes}
 use Rattle.instance_out.specs.Proper.{Proper}
 use Rattle.page_tree.specs.Page.{page}

@@ -12,9 +12,9 @@ use Rattle.ix_base.specs.ElementContent.{named_in}
 use Rattle.ix_base.specs.Namespaces.{link_namespace}
 use Rattle.ix_base.specs.Steps.{◌>>=◌, each}
 use Rattle.ix_base.specs.Trees.{Nodes, Tree}
-use Rattle.instance_out.proofs.PrefixLaws.{bytes_eq-sym}
+use Rattle.instance_lines.proofs.PrefixLaws.{bytes_eq-sym}
 use Rattle.instance_out.specs.Denotation.{Labelled, arc_in, ends_of, footnote_in, id_behind, labelled, locator_in, notes_in, typed_as, xlink_at}
-use Rattle.instance_out.specs.Lists.{are_apart}
+use Rattle.instance_lines.specs.Lists.{are_apart}
 use Rattle.instance_tree.specs.declared.ends.End.{End}
 use Rattle.instance_tree.specs.ReaderWords.{HasEnds, arc_by, arc_with, arcs_in, end_of, id_at, is_typed, labels_of, link_by, link_with}
 

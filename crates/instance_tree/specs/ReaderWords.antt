@@ -17,7 +17,7 @@ use Rattle.ix_base.specs.OwnNames.{own}
 use Rattle.ix_base.specs.Steps.{◌>>=◌, each}
 use Rattle.ix_base.specs.Trees.{Nodes, Tree}
 use Rattle.instance_out.specs.Denotation.{Labelled, arc_in, ends_of, fact_by, facts_in, is_nil, labelled, members_by, outside, typed_as, xlink_at}
-use Rattle.instance_out.specs.Lists.{are_apart}
+use Rattle.instance_lines.specs.Lists.{are_apart}
 use Rattle.instance_tree.specs.declared.ends.End.{End}
 
 -- the element has this xlink:type

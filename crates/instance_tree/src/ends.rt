@@ -1,7 +1,7 @@
 //! The ends of arcs: what arcs name by labels.
 ghost use Rattle.std.specs.Prelude.{◌≡◌, ℕ, List, Some, not, if◌then◌else◌, bytes_eq, is_some, map, option_map, IfOk, IfSome};
 ghost use Rattle.instance_out.specs.Denotation as denotation;
-ghost use Rattle.instance_out.specs.Lists.{are_apart};
+ghost use Rattle.instance_lines.specs.Lists.{are_apart};
 ghost use Rattle.instance_tree.specs.ReaderWords.{HasEnds, end_of, id_at, labels_of};
 
 use ix_base::{Footnote, NoMemory, Text};

@@ -3,10 +3,10 @@ use Rattle.std.proofs.Common.{◌≡◌, ◌⊎◌, ◌∙◌, sym, refl, ℕ, �
 use Rattle.ix_base.specs.Outside.{TextGainsFront}
 use Rattle.ixds_run.specs.Answers.{Answers, Outside}
 use Rattle.command_words.specs.Commands.{number_of, pages_of}
-use Rattle.ixds_run.specs.Gains.{GainsStarts, GainsText}
-use Rattle.ixds_run.specs.CommandBytes.{AreSome, IfTold, bytes_told}
-use Rattle.ixds_run.specs.PageReads.{IsAmong}
-use Rattle.ixds_run.specs.Texts.{cannot_read_line, usage_text}
+use Rattle.page_verdicts.specs.Gains.{GainsStarts, GainsText}
+use Rattle.page_verdicts.specs.CommandBytes.{AreSome, IfTold, bytes_told}
+use Rattle.page_verdicts.specs.PageReads.{IsAmong}
+use Rattle.page_verdicts.specs.Texts.{cannot_read_line, usage_text}
 use Rattle.command_words.specs.declared.command.Command.{Command}
 use Rattle.ixds_run.specs.declared.status.Status.{Status}
 use Rattle.ixds_run.specs.declared.status.Status.TheVariants.{Done, Broken, Usage, ReadFault, WriteFault, NoMemory}

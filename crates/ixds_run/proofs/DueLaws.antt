@@ -11,23 +11,23 @@ use Rattle.ixds_run.specs.declared.status.Status.{Status}
 use Rattle.ixds_run.specs.declared.status.Status.TheVariants as status
 use Rattle.ixds_run.specs.declared.status.Status.TheVariants.{Broken, Done, ReadFault, Usage, WriteFault}
 use Rattle.command_words.specs.Commands.{IsGiven, dir_of, number_of, pages_of}
-use Rattle.ixds_run.specs.CommandKinds.{with_pages}
+use Rattle.page_verdicts.specs.CommandKinds.{with_pages}
 use Rattle.command_words.specs.declared.command.Command.{Command}
 use Rattle.command_words.specs.declared.command.Command.TheVariants.{Extract, Check, Sample, Plain, Trace, Session}
-use Rattle.ixds_run.specs.declared.verdict.Verdict.{Verdict}
-use Rattle.ixds_run.specs.declared.verdict.Verdict.TheVariants.{Reported, Extracted, Printed}
+use Rattle.page_verdicts.specs.declared.verdict.Verdict.{Verdict}
+use Rattle.page_verdicts.specs.declared.verdict.Verdict.TheVariants.{Reported, Extracted, Printed}
 use Rattle.page_session.specs.HandedPages.{names_of}
 use Rattle.ixds_run.specs.Rearrangement.{IsRearranged}
 use Rattle.ixds_run.specs.DueOutcomes.{AreReadBack, InstanceLines, DueOutcome, HasBreach, instance_lines, default_len, due_of, targets_under, whole_target}
 use Rattle.ixds_run.specs.DueTables.{IsDueFrom, status_of, ready_lines, outcome_of, ready, ready_under}
 use Rattle.ixds_run.specs.SessionOutcomes.{behind}
-use Rattle.ixds_run.specs.Verdicts.{CommandMakes, PagesMake}
-use Rattle.ixds_run.specs.PageReads.{IsRead}
+use Rattle.page_verdicts.specs.Verdicts.{CommandMakes, PagesMake}
+use Rattle.page_verdicts.specs.PageReads.{IsRead}
 use Rattle.ixds_run.specs.declared.due.Due.{Due}
-use Rattle.ixds_run.specs.declared.read_pages.Forest.{Forest}
+use Rattle.page_verdicts.specs.declared.read_pages.Forest.{Forest}
 use Rattle.ixds_run.specs.declared.due.DueTarget.{DueTarget}
 use Rattle.targets.proofs.MadeLaws.{cut_at}
-use Rattle.targets.specs.declared.outcome.Target.{Target}
+use Rattle.target_contents.specs.declared.outcome.Target.{Target}
 
 abbrev under : List ℕ → InstanceLines → Begun
 under dir b = record { dir = dir; name = b.name; bytes = concat b.lines; finished = true }

@@ -17,12 +17,12 @@ use Rattle.page_session.specs.declared.session.Session.{Session}
 use Rattle.targets.specs.Breaches.{bytes_in}
 use Rattle.ixds_run.specs.DueTables.{outcome_of}
 use Rattle.ixds_run.specs.ScriptRuns.{HasFollowed, IsEnded, IsLastPut, OfLines, Started, with_checks}
-use Rattle.ixds_run.specs.Gains.{GainsStarts}
+use Rattle.page_verdicts.specs.Gains.{GainsStarts}
 use Rattle.ixds_run.specs.SessionOutcomes.{AreChecked, IsChecked, IsCourseDue, IsExtracted, broken_line}
 use Rattle.page_session.specs.Sources.{told, told_both}
-use Rattle.ixds_run.specs.Texts.{cannot_read_line}
+use Rattle.page_verdicts.specs.Texts.{cannot_read_line}
 use Rattle.ixds_run.specs.declared.due.Due.{Due}
-use Rattle.ixds_run.proofs.ForestLaws.{bytes-more, telling_more}
+use Rattle.page_verdicts.proofs.ForestLaws.{bytes-more, telling_more}
 
 -- Names and bytes.
 

@@ -13,16 +13,16 @@ use Rattle.page_session.specs.declared.script.ScriptLine.{ScriptLine}
 use Rattle.targets.specs.Breaches.{bytes_in}
 use Rattle.ixds_run.specs.DueTables.{outcome_of}
 use Rattle.ixds_run.specs.ScriptRuns.{IsEnded, IsLastPut, OfLines, Started, WhyUnfollowed, WhyUnread}
-use Rattle.ixds_run.specs.Gains.{GainsStarts}
-use Rattle.ixds_run.specs.PageReads.{IsAmong}
+use Rattle.page_verdicts.specs.Gains.{GainsStarts}
+use Rattle.page_verdicts.specs.PageReads.{IsAmong}
 use Rattle.ixds_run.specs.SessionBytes.{OfScript, names_said, to_read}
 use Rattle.ixds_run.specs.SessionOutcomes.{IsSaidDue, IsSession, broken_line}
-use Rattle.ixds_run.specs.Texts.{cannot_read_line}
+use Rattle.page_verdicts.specs.Texts.{cannot_read_line}
 use Rattle.ixds_run.specs.declared.due.Due.{Due}
-use Rattle.ixds_run.specs.declared.read_pages.Stopped.{Stopped}
-use Rattle.ixds_run.specs.declared.read_pages.Stopped.TheVariants as stopped
+use Rattle.page_verdicts.specs.declared.read_pages.Stopped.{Stopped}
+use Rattle.page_verdicts.specs.declared.read_pages.Stopped.TheVariants as stopped
 use Rattle.ixds_run.proofs.FollowLaws.{started_more}
-use Rattle.ixds_run.proofs.ForestLaws.{none_started}
+use Rattle.page_verdicts.proofs.ForestLaws.{none_started}
 use Rattle.ixds_run.proofs.ScriptLaws.{script_small}
 use Rattle.ixds_run.proofs.SessionLaws.{of_nothing}
 

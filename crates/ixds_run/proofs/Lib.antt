@@ -3,13 +3,9 @@ pub mod AnswerLaws
 pub mod DueLaws
 pub mod FollowLaws
 pub mod FollowedLaws
-pub mod ForestLaws
-pub mod HeldLaws
-pub mod JudgeLaws
 pub mod LineLaws
 pub mod MemoryLaws
 pub mod OutcomeLaws
-pub mod PlainLaws
 pub mod ReadBackLaws
 pub mod ReadyLaws
 pub mod RearrangedPages
@@ -18,5 +14,3 @@ pub mod ScriptLaws
 pub mod SessionLaws
 pub mod SummaryLaws
 pub mod TargetLaws
-pub mod TraceLaws
-pub mod VerdictLaws

@@ -22,12 +22,12 @@ use Rattle.page_session.specs.declared.script.ScriptLine.{ScriptLine}
 use Rattle.page_session.specs.declared.session.Session.{Session}
 use Rattle.ixds_run.specs.DueTables.{outcome_of}
 use Rattle.ixds_run.specs.ScriptRuns.{HasFollowed, IsEnded, IsLastPut, IsLineFollowed, IsSilent, OfLines, OnLines, Started, WhyUnfollowed, ended}
-use Rattle.ixds_run.specs.Gains.{GainsStarts}
+use Rattle.page_verdicts.specs.Gains.{GainsStarts}
 use Rattle.ixds_run.specs.SessionOutcomes.{IsChecked, IsExtracted, broken_line}
-use Rattle.ixds_run.specs.Texts.{cannot_read_line}
+use Rattle.page_verdicts.specs.Texts.{cannot_read_line}
 use Rattle.ixds_run.specs.declared.due.Due.{Due}
-use Rattle.ixds_run.specs.declared.read_pages.Stopped.{Stopped}
-use Rattle.ixds_run.specs.declared.read_pages.Stopped.TheVariants as stopped
+use Rattle.page_verdicts.specs.declared.read_pages.Stopped.{Stopped}
+use Rattle.page_verdicts.specs.declared.read_pages.Stopped.TheVariants as stopped
 use Rattle.ixds_run.proofs.FollowLaws.{checks_here, closes_here, front_started, full_read, has_room, last_put, leads_here, puts_here, room_read, started_none, starts_here, starts_one, stops_here}
 
 module _ (script : List ℕ) (l : ScriptLine) (old new : Source) (s s' : Session) (text text' : List ℕ) where

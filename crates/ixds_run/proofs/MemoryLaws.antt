@@ -15,18 +15,18 @@ use Rattle.ix_base.specs.declared.memory.shelf.Slot.{Slot}
 use Rattle.ix_base.specs.declared.memory.targets.MemTargets.{MemTargets}
 use Rattle.ix_base.specs.declared.memory.text.MemText.{MemText}
 use Rattle.ixds_run.specs.Answers.{Answers}
-use Rattle.ixds_run.specs.CommandBytes.{bytes_told}
+use Rattle.page_verdicts.specs.CommandBytes.{bytes_told}
 use Rattle.command_words.specs.Commands.{number_of, pages_of}
 use Rattle.ixds_run.specs.Deliveries.{Gives, GivesFront, GivesPart}
-use Rattle.ixds_run.specs.Gains.{IsCut}
+use Rattle.page_verdicts.specs.Gains.{IsCut}
 use Rattle.ixds_run.specs.InMemory.{AreFit, memory_outside}
-use Rattle.ixds_run.specs.PageReads.{IsAmong}
+use Rattle.page_verdicts.specs.PageReads.{IsAmong}
 use Rattle.page_session.specs.Sources.{told, told_both}
 use Rattle.command_words.specs.declared.command.Command.{Command}
 use Rattle.command_words.specs.declared.command.Command.TheVariants.{Extract, Check, Sample, Plain, Trace, Session}
 use Rattle.ixds_run.specs.declared.status.Status.{Status}
 use Rattle.ixds_run.specs.declared.status.Status.TheVariants.{Done, Broken, Usage, ReadFault, WriteFault, NoMemory}
-use Rattle.ixds_run.proofs.HeldLaws.{some_is}
+use Rattle.page_verdicts.proofs.HeldLaws.{some_is}
 
 -- each of the pages that are told is there
 told-there : (page : List ℕ → Option (List ℕ)) (front back : List (List ℕ)) (name : List ℕ) (bs : List (List ℕ))

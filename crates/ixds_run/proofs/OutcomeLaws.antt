@@ -15,30 +15,30 @@ use Rattle.ix_base.specs.declared.rule.Rule.{Rule}
 use Rattle.ix_base.specs.declared.rule.Rule.TheVariants.{P1}
 use Rattle.ix_base.proofs.SaidLaws.{same-facts}
 use Rattle.facts.specs.ItemValue.{IsItem}
-use Rattle.instance_out.specs.Arrangement.{arranged}
+use Rattle.instance_lines.specs.Arrangement.{arranged}
 use Rattle.page_tree.specs.Break.{Fault, w}
 use Rattle.page_tree.specs.Page.{page}
-use Rattle.targets.specs.Contents.{IsContent, IsGathered, SaysItem}
-use Rattle.targets.specs.Faults.{AreOfItems, element_faults, link_faults, value_fault}
+use Rattle.target_contents.specs.Contents.{IsContent, IsGathered, SaysItem}
+use Rattle.target_contents.specs.Faults.{AreOfItems, element_faults, link_faults, value_fault}
 use Rattle.targets.specs.Forest.{AreTrees, page_set, paged}
-use Rattle.targets.specs.SetOutcomes.{ComesOfValues, ComesTo, FirstOf, IsReport, ComesToTargets}
-use Rattle.targets.specs.PageSet.{PageSet, asked, base_at, elements, names as names_of}
-use Rattle.targets.specs.TargetFacts.{AreFacts, members_read, one_less}
-use Rattle.targets.specs.declared.outcome.Outcome.{Outcome}
-use Rattle.targets.specs.declared.outcome.Outcome.TheVariants.{Broken, Whole}
-use Rattle.targets.specs.declared.outcome.Target.{Target}
-use Rattle.ixds_run.proofs.JudgeLaws.{no_faults}
+use Rattle.target_contents.specs.SetOutcomes.{ComesOfValues, ComesTo, FirstOf, IsReport, ComesToTargets}
+use Rattle.target_contents.specs.PageSet.{PageSet, asked, base_at, elements, names as names_of}
+use Rattle.target_contents.specs.TargetFacts.{AreFacts, members_read, one_less}
+use Rattle.target_contents.specs.declared.outcome.Outcome.{Outcome}
+use Rattle.target_contents.specs.declared.outcome.Outcome.TheVariants.{Broken, Whole}
+use Rattle.target_contents.specs.declared.outcome.Target.{Target}
+use Rattle.page_verdicts.proofs.JudgeLaws.{no_faults}
 use Rattle.command_words.specs.Commands.{dir_of, number_of, pages_of}
 use Rattle.sample_page.specs.Sample.{sample_base}
-use Rattle.ixds_run.specs.Verdicts.{IsOfSet, IsShown, IsShownBy, IsTraced, IsTracedBy, PagesMake, Reports, trace_text, verdict_of}
+use Rattle.page_verdicts.specs.Verdicts.{IsOfSet, IsShown, IsShownBy, IsTraced, IsTracedBy, PagesMake, Reports, trace_text, verdict_of}
 use Rattle.ixds_run.specs.DueOutcomes.{DueOutcome, IsOutcome, due_of, targets_under, text_of}
 use Rattle.page_plain.specs.Bare.{is_inline}
 use Rattle.targets.specs.Breaches.{PagesComeTo, on_page, text_faults}
-use Rattle.ixds_run.specs.Texts.{breach_line}
+use Rattle.page_verdicts.specs.Texts.{breach_line}
 use Rattle.command_words.specs.declared.command.Command.{Command}
 use Rattle.command_words.specs.declared.command.Command.TheVariants.{Extract, Check, Sample, Plain, Trace, Session}
-use Rattle.ixds_run.specs.declared.verdict.Verdict.{Verdict}
-use Rattle.ixds_run.specs.declared.verdict.Verdict.TheVariants.{Printed}
+use Rattle.page_verdicts.specs.declared.verdict.Verdict.{Verdict}
+use Rattle.page_verdicts.specs.declared.verdict.Verdict.TheVariants.{Printed}
 use Rattle.ixds_run.specs.declared.status.Status.TheVariants as status
 
 -- what is due of what a set comes to

@@ -6,25 +6,25 @@ use Rattle.ix_base.specs.Sound.{IsSoundTree}
 use Rattle.ix_base.specs.Trees.{Tree}
 use Rattle.ix_base.specs.declared.breach.Found.{Found}
 use Rattle.ix_base.specs.declared.content.Content.{Content}
-use Rattle.instance_out.specs.Canonical.{canon}
+use Rattle.instance_lines.specs.Canonical.{canon}
 use Rattle.instance_out.specs.Proper.{Proper}
 use Rattle.instance_out.specs.Theorem.{IsReadBack}
 use Rattle.page_tree.specs.Page.{page}
 use Rattle.targets.specs.ValidSets.{AreProper}
-use Rattle.targets.specs.SetOutcomes.{IsReport}
-use Rattle.targets.specs.declared.outcome.Outcome.{Outcome}
-use Rattle.targets.specs.declared.outcome.Outcome.TheVariants.{Broken, Whole}
-use Rattle.targets.specs.declared.outcome.Target.{Target}
+use Rattle.target_contents.specs.SetOutcomes.{IsReport}
+use Rattle.target_contents.specs.declared.outcome.Outcome.{Outcome}
+use Rattle.target_contents.specs.declared.outcome.Outcome.TheVariants.{Broken, Whole}
+use Rattle.target_contents.specs.declared.outcome.Target.{Target}
 use Rattle.targets.proofs.ProperLaws.{comes-proper}
 use Rattle.targets.specs.Forest.{paged}
 use Rattle.ix_base.specs.declared.rule.Rule.TheVariants.{P1}
 use Rattle.page_plain.specs.Bare.{is_inline}
 use Rattle.ixds_run.specs.DueOutcomes.{AreReadBack}
 use Rattle.sample_page.specs.Sample.{sample_base}
-use Rattle.ixds_run.specs.Verdicts.{IsOfSet, IsShown, IsShownBy, IsTracedBy, PagesMake, Reports, verdict_of}
+use Rattle.page_verdicts.specs.Verdicts.{IsOfSet, IsShown, IsShownBy, IsTracedBy, PagesMake, Reports, verdict_of}
 use Rattle.command_words.specs.declared.command.Command.{Command}
 use Rattle.command_words.specs.declared.command.Command.TheVariants.{Extract, Check, Sample, Plain, Trace, Session}
-use Rattle.ixds_run.specs.declared.verdict.Verdict.{Verdict}
+use Rattle.page_verdicts.specs.declared.verdict.Verdict.{Verdict}
 use Rattle.targets.specs.Breaches.{PagesComeTo, on_page, text_faults}
 use Rattle.ixds_run.proofs.SoundPages.{sound_pages}
 

@@ -5,21 +5,21 @@ use Rattle.std.specs.Global.{Global}
 use Rattle.ix_base.specs.Outside.{TextGainsFront}
 use Rattle.page_session.specs.Sources.{Source}
 use Rattle.ixds_run.specs.Answers.{Answers, Outside}
-use Rattle.ixds_run.specs.CommandBytes.{AreSome, bytes_told}
+use Rattle.page_verdicts.specs.CommandBytes.{AreSome, bytes_told}
 use Rattle.command_words.specs.Commands.{dir_of}
-use Rattle.ixds_run.specs.CommandKinds.{is_session}
+use Rattle.page_verdicts.specs.CommandKinds.{is_session}
 use Rattle.ixds_run.specs.Deliveries.{Gives}
 use Rattle.ixds_run.specs.DueTables.{outcome_of, status_of, targets_due}
 use Rattle.ixds_run.specs.ScriptRuns.{IsFollowed}
-use Rattle.ixds_run.specs.Gains.{GainsAll, GainsPart, GainsText}
+use Rattle.page_verdicts.specs.Gains.{GainsAll, GainsPart, GainsText}
 use Rattle.ixds_run.specs.ReadyTexts.{IsPrepared, IsReady}
 use Rattle.ixds_run.specs.SessionAnswers.{Answered, Following, SessionAnswers, SessionGives}
 use Rattle.ixds_run.specs.SessionBytes.{OfScript}
 use Rattle.command_words.specs.declared.command.Command.{Command}
 use Rattle.command_words.specs.declared.command.Command.TheVariants.{Extract, Check, Sample, Plain, Trace, Session}
 use Rattle.ixds_run.specs.declared.due.Due.{Due}
-use Rattle.ixds_run.specs.declared.read_pages.Stopped.{Stopped}
-use Rattle.ixds_run.specs.declared.read_pages.Stopped.TheVariants as stopped
+use Rattle.page_verdicts.specs.declared.read_pages.Stopped.{Stopped}
+use Rattle.page_verdicts.specs.declared.read_pages.Stopped.TheVariants as stopped
 use Rattle.ixds_run.specs.declared.status.Status.{Status}
 use Rattle.ixds_run.specs.declared.status.Status.TheVariants.{Done, Broken, ReadFault, WriteFault, NoMemory}
 use Rattle.ixds_run.proofs.AnswerLaws.{complete_by, fault_answer, memory_answer, of_some, told_of}

@@ -17,28 +17,28 @@ use Rattle.ix_base.specs.Trees.{Tree}
 use Rattle.ix_base.proofs.ExchangeLemmas.{by_exchanges}
 use Rattle.page_tree.specs.Break.{Fault, w}
 use Rattle.page_tree.specs.Page.{page}
-use Rattle.targets.specs.declared.outcome.Outcome.{Outcome}
-use Rattle.targets.specs.declared.outcome.Outcome.TheVariants.{Broken, Whole}
+use Rattle.target_contents.specs.declared.outcome.Outcome.{Outcome}
+use Rattle.target_contents.specs.declared.outcome.Outcome.TheVariants.{Broken, Whole}
 use Rattle.targets.specs.Forest.{AreTrees, page_set, paged}
-use Rattle.targets.specs.SetOutcomes.{IsReport, ComesTo}
+use Rattle.target_contents.specs.SetOutcomes.{IsReport, ComesTo}
 use Rattle.targets.specs.Breaches.{PagesComeTo, size_rule, tags_in, all_tags_in, bytes_in, fault_row, on_page, set_rule, text_fault, text_faults}
 use Rattle.fact_trace.specs.Model.{AreNew}
 use Rattle.fact_trace.specs.Spans.{Source, traces}
 use Rattle.fact_trace.specs.ValidPages.{BreakNoRule, HaveTrees}
-use Rattle.targets.specs.declared.outcome.Target.{Target}
+use Rattle.target_contents.specs.declared.outcome.Target.{Target}
 use Rattle.command_words.specs.Commands.{IsGiven, pages_of}
-use Rattle.ixds_run.specs.CommandKinds.{with_pages}
+use Rattle.page_verdicts.specs.CommandKinds.{with_pages}
 use Rattle.page_session.specs.HandedPages.{Handed, bytes_of, names_of}
 use Rattle.ixds_run.specs.Rearrangement.{IsRearranged}
 use Rattle.sample_page.specs.Sample.{sample_base}
-use Rattle.ixds_run.specs.Texts.{trace_line}
-use Rattle.ixds_run.specs.Verdicts.{CommandMakes, IsShown, IsTraced, PagesMake, sources}
+use Rattle.page_verdicts.specs.Texts.{trace_line}
+use Rattle.page_verdicts.specs.Verdicts.{CommandMakes, IsShown, IsTraced, PagesMake, sources}
 use Rattle.command_words.specs.declared.command.Command.{Command}
 use Rattle.command_words.specs.declared.command.Command.TheVariants.{Extract, Check, Sample, Plain, Trace, Session}
-use Rattle.ixds_run.specs.declared.verdict.Verdict.{Verdict}
-use Rattle.ixds_run.specs.declared.verdict.Verdict.TheVariants.{Printed}
+use Rattle.page_verdicts.specs.declared.verdict.Verdict.{Verdict}
+use Rattle.page_verdicts.specs.declared.verdict.Verdict.TheVariants.{Printed}
 use Rattle.ixds_run.proofs.SoundPages.{sound_pages}
-use Rattle.ixds_run.proofs.TraceLaws.{are_new}
+use Rattle.page_verdicts.proofs.TraceLaws.{are_new}
 use Rattle.targets.proofs.Exchanged.{exchanged, numbered, said_at, swap_at}
 use Rattle.targets.proofs.FaultsMoved.{found_moved}
 use Rattle.targets.proofs.Rearranged.{rearranged}

@@ -7,7 +7,7 @@ use Rattle.ix_base.specs.contracts.breach.ClassPartialEq.TheImpl.{ghosts as clas
 use Rattle.ix_base.specs.declared.breach.Breach.{Breach}
 use Rattle.ix_base.specs.declared.breach.Class.{Class}
 use Rattle.ix_base.specs.declared.breach.Class.TheVariants as class
-use Rattle.ixds_run.specs.Texts.{breach_line}
+use Rattle.page_verdicts.specs.Texts.{breach_line}
 
 of_one_class : (c : Class) (b : Breach) → first_any (map (λ k. filter (λ x. classes.eq c k) (b ∷ [])) all_classes) ≡ b ∷ []
 of_one_class class.S b = refl

@@ -3,18 +3,18 @@ use Rattle.std.proofs.Common.{◌≡◌, ◌⊎◌, refl, ℕ, ◌<◌, false, I
 use Rattle.ix_base.specs.Outside.{TextGainsFront}
 use Rattle.ixds_run.specs.Answers.{Answers, Outside}
 use Rattle.command_words.specs.Commands.{number_of}
-use Rattle.ixds_run.specs.CommandKinds.{is_session}
-use Rattle.ixds_run.specs.Gains.{GainsStarts, GainsText}
-use Rattle.ixds_run.specs.PageReads.{IsAmong}
+use Rattle.page_verdicts.specs.CommandKinds.{is_session}
+use Rattle.page_verdicts.specs.Gains.{GainsStarts, GainsText}
+use Rattle.page_verdicts.specs.PageReads.{IsAmong}
 use Rattle.ixds_run.specs.SessionAnswers.{Answered, Following, SessionAnswers, TellsUnread}
 use Rattle.ixds_run.specs.SessionBytes.{OfScript, to_read}
-use Rattle.ixds_run.specs.Texts.{cannot_read_line}
+use Rattle.page_verdicts.specs.Texts.{cannot_read_line}
 use Rattle.command_words.specs.declared.command.Command.{Command}
 use Rattle.command_words.specs.declared.command.Command.TheVariants.{Extract, Check, Sample, Plain, Trace, Session}
 use Rattle.ixds_run.specs.declared.status.Status.{Status}
 use Rattle.ixds_run.specs.declared.status.Status.TheVariants.{Done, Broken, Usage, ReadFault, WriteFault, NoMemory}
 use Rattle.ixds_run.proofs.AnswerLaws.{memory_answer, not_one, some_all}
-use Rattle.ixds_run.proofs.ForestLaws.{none_started}
+use Rattle.page_verdicts.proofs.ForestLaws.{none_started}
 
 -- what is so of all texts and bytes is so of some
 pub of_script : {P Q : List ℕ → List (List ℕ) → Type 0} (page : List ℕ → Option (List ℕ)) (script : List ℕ) → ((text : List ℕ) (bs : List (List ℕ)) → P text bs → Q text bs)

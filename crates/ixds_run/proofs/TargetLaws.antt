@@ -5,7 +5,7 @@ use Rattle.std.proofs.lemmas.List.{append-nil, map-append, take-append-drop}
 use Rattle.ixds_run.specs.DueTables.{ready}
 use Rattle.ixds_run.specs.declared.due.DueTarget.{DueTarget}
 use Rattle.ix_base.specs.Outside.{Begun, begun, last_grown, last_finished, GainsFront}
-use Rattle.ixds_run.specs.Gains.{GainsAll, GainsCut, GainsPart, Words}
+use Rattle.page_verdicts.specs.Gains.{GainsAll, GainsCut, GainsPart, Words}
 
 -- a target with these bytes, unfinished and finished
 abbrev pub unfinished : List ℕ → List ℕ → List ℕ → Begun

@@ -5,12 +5,12 @@ use Rattle.ix_base.specs.declared.outside.PageSource as source
 use Rattle.ix_base.specs.declared.outside.TargetSink as sink
 use Rattle.ix_base.specs.declared.outside.TextSink as text
 use Rattle.command_words.specs.Commands.{dir_of, number_of, pages_of}
-use Rattle.ixds_run.specs.Gains.{GainsStarts, GainsText, Words, words_asked}
+use Rattle.page_verdicts.specs.Gains.{GainsStarts, GainsText, Words, words_asked}
 use Rattle.ixds_run.specs.Deliveries.{Gives, GivesFront, GivesPart}
-use Rattle.ixds_run.specs.CommandBytes.{IfTold, OfBytes}
+use Rattle.page_verdicts.specs.CommandBytes.{IfTold, OfBytes}
 use Rattle.ixds_run.specs.DueOutcomes.{HasBreach}
-use Rattle.ixds_run.specs.PageReads.{IsAmong, StopsInTime}
-use Rattle.ixds_run.specs.Texts.{cannot_read_line, usage_text}
+use Rattle.page_verdicts.specs.PageReads.{IsAmong, StopsInTime}
+use Rattle.page_verdicts.specs.Texts.{cannot_read_line, usage_text}
 use Rattle.command_words.specs.declared.command.Command.{Command}
 use Rattle.ixds_run.specs.declared.status.Status.{Status}
 use Rattle.ixds_run.specs.declared.status.Status.TheVariants.{Done, Broken, Usage, ReadFault, WriteFault, NoMemory}

@@ -1,7 +1,7 @@
 -- What a run gives of what is due.
 use Rattle.std.specs.Prelude.{◌≡◌, ℕ, List, Option}
 use Rattle.ix_base.specs.Outside.{Begun, TextGainsFront}
-use Rattle.ixds_run.specs.Gains.{GainsAll, GainsPart, GainsText, Words}
+use Rattle.page_verdicts.specs.Gains.{GainsAll, GainsPart, GainsText, Words}
 use Rattle.command_words.specs.declared.command.Command.{Command}
 use Rattle.ixds_run.specs.declared.status.Status.{Status}
 use Rattle.ixds_run.specs.DueOutcomes.{DueOutcome, IsOutcome}

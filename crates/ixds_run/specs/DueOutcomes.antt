@@ -3,18 +3,18 @@ use Rattle.std.specs.Prelude.{◌≡◌, ℕ, true, IsTrue, List, [], ◌∷◌,
 use Rattle.std.specs.List.{concat, flat_map}
 use Rattle.ix_base.specs.Forms.{is_empty}
 use Rattle.ix_base.specs.Outside.{Begun}
-use Rattle.instance_out.specs.Canonical.{canon, canon_lines}
+use Rattle.instance_lines.specs.Canonical.{canon, canon_lines}
 use Rattle.instance_out.specs.Theorem.{IsReadBack}
 use Rattle.command_words.specs.Commands.{dir_of, number_of}
 use Rattle.ixds_run.specs.Rearrangement.{IsRearranged}
-use Rattle.ixds_run.specs.Texts.{breach_line, sample_text, summary_of}
+use Rattle.page_verdicts.specs.Texts.{breach_line, sample_text, summary_of}
 use Rattle.command_words.specs.declared.command.Command.{Command}
 use Rattle.ixds_run.specs.declared.status.Status.{Status}
 use Rattle.ixds_run.specs.declared.status.Status.TheVariants as status
-use Rattle.ixds_run.specs.Verdicts.{CommandMakes, is_report}
-use Rattle.ixds_run.specs.declared.verdict.Verdict.{Verdict}
-use Rattle.ixds_run.specs.declared.verdict.Verdict.TheVariants.{Reported, Extracted, Printed}
-use Rattle.targets.specs.declared.outcome.Target.{Target}
+use Rattle.page_verdicts.specs.Verdicts.{CommandMakes, is_report}
+use Rattle.page_verdicts.specs.declared.verdict.Verdict.{Verdict}
+use Rattle.page_verdicts.specs.declared.verdict.Verdict.TheVariants.{Reported, Extracted, Printed}
+use Rattle.target_contents.specs.declared.outcome.Target.{Target}
 
 -- what a command has due: a status, a text, and targets, each as it stands when it is finished
 pub record DueOutcome : Type 0 where

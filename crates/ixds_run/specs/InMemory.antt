@@ -9,7 +9,7 @@ use Rattle.ix_base.specs.declared.memory.pages.MemPages.{MemPages}
 use Rattle.ix_base.specs.declared.memory.targets.MemTargets.{MemTargets}
 use Rattle.ix_base.specs.declared.memory.text.MemText.{MemText}
 use Rattle.ixds_run.specs.Answers.{Outside}
-use Rattle.ixds_run.specs.CommandBytes.{bytes_told}
+use Rattle.page_verdicts.specs.CommandBytes.{bytes_told}
 use Rattle.ixds_run.specs.DueOutcomes.{DueOutcome, IsOutcome}
 use Rattle.command_words.specs.declared.command.Command.{Command}
 

@@ -1,14 +1,14 @@
 -- What is ready of a command before anything of it is given.
 use Rattle.std.specs.Prelude.{IfOk, Result}
 use Rattle.page_session.specs.Sources.{Source}
-use Rattle.ixds_run.specs.SourceCalls.{AreGathered}
-use Rattle.ixds_run.specs.CommandBytes.{AreSome, bytes_told}
+use Rattle.page_verdicts.specs.SourceCalls.{AreGathered}
+use Rattle.page_verdicts.specs.CommandBytes.{AreSome, bytes_told}
 use Rattle.ixds_run.specs.DueTables.{IsDueFrom}
 use Rattle.ixds_run.specs.ScriptRuns.{IsFollowed, IsSilent}
 use Rattle.command_words.specs.declared.command.Command.{Command}
 use Rattle.command_words.specs.declared.command.Command.TheVariants.{Session}
 use Rattle.ixds_run.specs.declared.due.Due.{Due}
-use Rattle.ixds_run.specs.declared.read_pages.Stopped.{Stopped}
+use Rattle.page_verdicts.specs.declared.read_pages.Stopped.{Stopped}
 
 -- The pages of a command were read or made, and this is due of them; or why it isn't.
 pub record IsPrepared (c : Command) (old new : Source) (Same : Type 0) (result : Result Due Stopped) : Type 0 where

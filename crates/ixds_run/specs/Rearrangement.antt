@@ -3,7 +3,7 @@ use Rattle.std.specs.Prelude.{◌≡◌, ℕ, List}
 use Rattle.std.specs.List.Sorted.{IsPermutation}
 use Rattle.page_session.specs.HandedPages.{Handed, bytes_of, names_of}
 use Rattle.command_words.specs.Commands.{pages_of}
-use Rattle.ixds_run.specs.CommandKinds.{with_pages}
+use Rattle.page_verdicts.specs.CommandKinds.{with_pages}
 use Rattle.command_words.specs.declared.command.Command.{Command}
 
 -- the command d with the bytes cs asks the same as the command c with the bytes bs, but for the order of the pages

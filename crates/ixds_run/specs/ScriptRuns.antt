@@ -15,14 +15,14 @@ use Rattle.page_session.specs.declared.script.ScriptLine.{ScriptLine}
 use Rattle.page_session.specs.declared.session.Session.{Session}
 use Rattle.targets.specs.Breaches.{bytes_in}
 use Rattle.ixds_run.specs.DueTables.{outcome_of}
-use Rattle.ixds_run.specs.Gains.{GainsStarts}
-use Rattle.ixds_run.specs.PageReads.{IsAmong}
+use Rattle.page_verdicts.specs.Gains.{GainsStarts}
+use Rattle.page_verdicts.specs.PageReads.{IsAmong}
 use Rattle.ixds_run.specs.SessionBytes.{OfScript, to_read}
 use Rattle.ixds_run.specs.SessionOutcomes.{AreChecked, IsCourseDue, IsSession}
-use Rattle.ixds_run.specs.Texts.{cannot_read_line}
+use Rattle.page_verdicts.specs.Texts.{cannot_read_line}
 use Rattle.ixds_run.specs.declared.due.Due.{Due}
-use Rattle.ixds_run.specs.declared.read_pages.Stopped.{Stopped}
-use Rattle.ixds_run.specs.declared.read_pages.Stopped.TheVariants as stopped
+use Rattle.page_verdicts.specs.declared.read_pages.Stopped.{Stopped}
+use Rattle.page_verdicts.specs.declared.read_pages.Stopped.TheVariants as stopped
 
 -- the name of a page that a line puts isn't too long for a source
 abbrev pub IsShort : Line → Type 0

@@ -3,11 +3,11 @@ use Rattle.std.specs.Prelude.{◌≡◌, ◌⊎◌, ℕ, ◌<◌, ◌≤◌, IsT
 use Rattle.ix_base.specs.Outside.{TextGainsFront}
 use Rattle.ixds_run.specs.Answers.{Answers, Outside}
 use Rattle.ixds_run.specs.DueOutcomes.{DueOutcome}
-use Rattle.ixds_run.specs.Gains.{GainsAll, GainsPart, GainsStarts, GainsText}
-use Rattle.ixds_run.specs.PageReads.{IsAmong}
+use Rattle.page_verdicts.specs.Gains.{GainsAll, GainsPart, GainsStarts, GainsText}
+use Rattle.page_verdicts.specs.PageReads.{IsAmong}
 use Rattle.ixds_run.specs.SessionBytes.{OfScript, to_read}
 use Rattle.ixds_run.specs.SessionOutcomes.{IsSession}
-use Rattle.ixds_run.specs.Texts.{cannot_read_line}
+use Rattle.page_verdicts.specs.Texts.{cannot_read_line}
 use Rattle.command_words.specs.declared.command.Command.{Command}
 use Rattle.command_words.specs.declared.command.Command.TheVariants.{Session}
 use Rattle.ixds_run.specs.declared.status.Status.{Status}

@@ -9,10 +9,10 @@ use Rattle.page_session.specs.Script.{script_of}
 use Rattle.page_session.specs.declared.script.Script.{Script}
 use Rattle.page_session.specs.declared.script.Script.TheVariants.{Good, Bad}
 use Rattle.ixds_run.specs.DueOutcomes.{AreReadBack, DueOutcome, due_of}
-use Rattle.ixds_run.specs.Texts.{breach_line}
-use Rattle.ixds_run.specs.Verdicts.{IsOfSet}
+use Rattle.page_verdicts.specs.Texts.{breach_line}
+use Rattle.page_verdicts.specs.Verdicts.{IsOfSet}
 use Rattle.ixds_run.specs.declared.status.Status.TheVariants as status
-use Rattle.ixds_run.specs.declared.verdict.Verdict.{Verdict}
+use Rattle.page_verdicts.specs.declared.verdict.Verdict.{Verdict}
 
 -- a rule that a script breaks, which is told at the start of a line; nothing else is due
 abbrev pub broken_line : (script : List ℕ) → Rule → (start : ℕ) → DueOutcome

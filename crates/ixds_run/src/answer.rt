@@ -4,7 +4,7 @@ ghost use Rattle.ix_base.specs.Outside.{TextGainsFront};
 ghost use Rattle.page_session.specs.Sources.{source_told};
 ghost use Rattle.ixds_run.specs.Answers.{outside};
 ghost use Rattle.command_words.specs.Commands.{IsGiven};
-ghost use Rattle.ixds_run.specs.Gains.{GainsText};
+ghost use Rattle.page_verdicts.specs.Gains.{GainsText};
 ghost use Rattle.ixds_run.specs.ReadyTexts.{IsReady};
 ghost use Rattle.ixds_run.specs.SessionAnswers.{Answered};
 
@@ -12,10 +12,10 @@ use crate::Status;
 use crate::deliver::deliver;
 use crate::due::Due;
 use crate::prepare::prepared;
-use crate::read_pages::Stopped;
 use crate::session::follow;
 use command_words::Command;
 use ix_base::{PageSource, TargetSink, TextSink};
+use page_verdicts::Stopped;
 use std::alloc::Global;
 
 /// Follows a command's script, or reads its pages or makes them, and makes ready what is due.

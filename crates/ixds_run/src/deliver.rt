@@ -1,7 +1,7 @@
 //! Writing what is due.
 ghost use Rattle.std.specs.Prelude.{◌≡◌, ◌⊎◌, ◌+◌, ◌^◌, ◌<◌, ◌∷◌, [], map, Option, None, Some, option_map, OnOk, OnErr, IfSome, IsTrue, length};
 ghost use Rattle.ix_base.specs.Outside.{TextGainsFront};
-ghost use Rattle.ixds_run.specs.Gains.{GainsAll, GainsCut, GainsPart, GainsText, words_asked};
+ghost use Rattle.page_verdicts.specs.Gains.{GainsAll, GainsCut, GainsPart, GainsText, words_asked};
 ghost use Rattle.ixds_run.specs.DueTables.{ready, status_of, targets_due};
 ghost use Rattle.ixds_run.specs.declared.status.Status.TheVariants as status;
 

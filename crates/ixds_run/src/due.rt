@@ -1,18 +1,17 @@
 //! What is due, ready to be given.
 ghost use Rattle.std.specs.Prelude.{◌≡◌, ◌<◌, [], List, ℕ, Option, All, IfOk, None, map, true, false};
-ghost use Rattle.instance_out.specs.Writable.{IsWritable};
+ghost use Rattle.instance_lines.specs.Writable.{IsWritable};
 ghost use Rattle.ixds_run.specs.DueOutcomes.{instance_lines, default_len, due_of, text_of};
 ghost use Rattle.ixds_run.specs.DueTables.{ready_lines, outcome_of, status_of};
-ghost use Rattle.ixds_run.specs.Verdicts.{AreWritable};
-ghost use Rattle.ixds_run.specs.declared.verdict.Verdict.TheVariants.{Extracted, Printed, Reported};
+ghost use Rattle.page_verdicts.specs.Verdicts.{AreWritable};
+ghost use Rattle.page_verdicts.specs.declared.verdict.Verdict.TheVariants.{Extracted, Printed, Reported};
 
 use crate::Status;
-use crate::lines::sample_text;
 use crate::report::lines_of;
 use crate::summary::summary;
-use crate::verdict::Verdict;
 use instance_out::{Prepared, prepare};
 use ix_base::{NoMemory, Report, Text};
+use page_verdicts::{Verdict, sample_text};
 use std::alloc::Global;
 use targets::Target;
 

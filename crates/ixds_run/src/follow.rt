@@ -7,20 +7,18 @@ ghost use Rattle.page_session.specs.Sources.{source_told};
 ghost use Rattle.page_session.specs.declared.script.Line.TheVariants as script_line;
 ghost use Rattle.ixds_run.specs.DueOutcomes.{due_of};
 ghost use Rattle.ixds_run.specs.DueTables.{outcome_of};
-ghost use Rattle.ixds_run.specs.Verdicts.{verdict_of};
+ghost use Rattle.page_verdicts.specs.Verdicts.{verdict_of};
 ghost use Rattle.ixds_run.specs.ScriptRuns.{IsLineFollowed, IsShort, IsSilent, ended};
 ghost use Rattle.ixds_run.specs.SessionOutcomes.{IsChecked, IsExtracted, broken_line};
 
 use crate::due::{Due, ready};
 use crate::laws::said_read_back;
-use crate::lines::cannot_read;
-use crate::read_pages::Stopped;
 use crate::report::{line_of, lines_of};
 use crate::summary::summary;
-use crate::verdict::verdict_of;
 use ix_base::{Breach, NoMemory, PageSource, Rule, Text};
 use page_session::laws::lines_by_calls;
 use page_session::{Line, PutFault, ScriptLine, Session};
+use page_verdicts::{Stopped, cannot_read, verdict_of};
 use std::alloc::Global;
 use targets::Outcome;
 

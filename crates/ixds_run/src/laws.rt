@@ -14,13 +14,13 @@ ghost use Rattle.ixds_run.specs.Deliveries.{Gives};
 ghost use Rattle.ixds_run.specs.InMemory.{AreFit, memory_outside};
 ghost use Rattle.page_session.specs.HandedPages.{Handed, bytes_of, names_of};
 ghost use Rattle.ixds_run.specs.Rearrangement.{IsRearranged};
-ghost use Rattle.ixds_run.specs.Texts.{breach_line};
+ghost use Rattle.page_verdicts.specs.Texts.{breach_line};
 ghost use Rattle.command_words.specs.declared.command.Command.{Command};
 ghost use Rattle.ixds_run.specs.declared.status.Status.{Status};
 ghost use Rattle.ixds_run.specs.declared.status.Status.TheVariants.{NoMemory};
-ghost use Rattle.ixds_run.specs.declared.verdict.Verdict.{Verdict};
-ghost use Rattle.ixds_run.specs.Verdicts.{CommandMakes, PagesMake};
-ghost use Rattle.targets.specs.declared.outcome.Outcome.{Outcome};
+ghost use Rattle.page_verdicts.specs.declared.verdict.Verdict.{Verdict};
+ghost use Rattle.page_verdicts.specs.Verdicts.{CommandMakes, PagesMake};
+ghost use Rattle.target_contents.specs.declared.outcome.Outcome.{Outcome};
 
 use fact_trace::laws::traced_in_any_order;
 use facts::laws::one_item;

@@ -7,32 +7,24 @@ ghost use Rattle.command_words.specs.Commands.{command_of};
 ghost use Rattle.ixds_run.specs.SessionAnswers.{Answered};
 
 mod answer;
-mod command_pages;
 mod deliver;
 mod due;
 mod follow;
-mod judge;
 pub mod laws;
-mod lines;
-mod made_pages;
-mod open_page;
-mod plain;
 mod prepare;
-mod read_pages;
 mod report;
 mod session;
 mod status;
 mod summary;
-mod trace;
-mod verdict;
+mod usage;
 
 use answer::answer;
 pub use command_words::{Command, command_of};
 use ix_base::{PageSource, TargetSink, Text, TextSink};
-use lines::put_usage;
 pub use sample_page::sample_pages;
 pub use status::Status;
 use std::alloc::Global;
+use usage::put_usage;
 
 /// Runs the words of a command line, without the program's name.
 ///

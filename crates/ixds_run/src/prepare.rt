@@ -2,20 +2,18 @@
 ghost use Rattle.std.specs.Prelude.{◌≡◌, ◌+◌, ◌^◌, ◌<◌, false, ℕ, List, IfOk};
 ghost use Rattle.page_session.specs.Sources.{source_told};
 ghost use Rattle.command_words.specs.Commands.{IsGiven, pages_of};
-ghost use Rattle.ixds_run.specs.CommandKinds.{is_session, keeps_pages};
+ghost use Rattle.page_verdicts.specs.CommandKinds.{is_session, keeps_pages};
 ghost use Rattle.ixds_run.specs.DueTables.{IsDueFrom};
 ghost use Rattle.ixds_run.specs.ScriptRuns.{IsSilent};
-ghost use Rattle.ixds_run.specs.PageReads.{IsRead, IsSound};
+ghost use Rattle.page_verdicts.specs.PageReads.{IsRead, IsSound};
 ghost use Rattle.ixds_run.specs.ReadyTexts.{IsPrepared};
 
-use crate::command_pages::gathered;
 use crate::due::{Due, ready};
 use crate::laws::{said_in_any_order, said_read_back};
-use crate::read_pages::{Forest, Stopped};
-use crate::verdict::verdict_from;
 use bumpalo::Bump;
 use command_words::Command;
 use ix_base::{NoMemory, PageSource};
+use page_verdicts::{Forest, Stopped, gathered, verdict_from};
 use std::alloc::Global;
 
 /// What is due from a command whose pages were read or made.

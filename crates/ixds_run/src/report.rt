@@ -2,7 +2,7 @@
 ghost use Rattle.std.specs.Prelude.{◌≡◌, ◌++◌, IfOk, OnOk};
 ghost use Rattle.std.specs.List.{flat_map};
 ghost use Rattle.ix_base.specs.Breaches.{class_of};
-ghost use Rattle.ixds_run.specs.Texts.{breach_line, place_text};
+ghost use Rattle.page_verdicts.specs.Texts.{breach_line, place_text};
 
 use ix_base::{Breach, Class, NoMemory, Report, Text};
 use std::alloc::Global;

@@ -4,17 +4,16 @@ ghost use Rattle.ix_base.specs.declared.limits.TheConstants.{LONGEST_NAME};
 ghost use Rattle.page_session.specs.Course.{names_read};
 ghost use Rattle.page_session.specs.Sources.{source_told};
 ghost use Rattle.ixds_run.specs.ScriptRuns.{AreLines, IsEnded, IsFollowed, IsSilent, OfLines, WhyUnfollowed};
-ghost use Rattle.ixds_run.specs.Gains.{GainsStarts};
+ghost use Rattle.page_verdicts.specs.Gains.{GainsStarts};
 
 use crate::due::Due;
 use crate::follow::{due_of_line, follow_line};
-use crate::lines::cannot_read;
-use crate::read_pages::Stopped;
 use bumpalo::Bump;
 use ix_base::{PageSource, Rule, Text};
 use page_session::laws::lines_by_calls;
 use page_session::reading::ReadError;
 use page_session::{Script, ScriptLine, Session, read_script};
+use page_verdicts::{Stopped, cannot_read};
 use std::alloc::Global;
 
 /// Follows the lines of a script with a session of their own, up to what is due at their end.

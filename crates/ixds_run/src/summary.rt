@@ -3,8 +3,8 @@ ghost use Rattle.std.specs.Prelude.{◌≡◌, ◌+◌, ◌++◌, length, map, I
 ghost use Rattle.std.specs.Fmt.{decimal};
 ghost use Rattle.std.specs.List.{flat_map};
 ghost use Rattle.ix_base.specs.Facts.{Facts, before, facts_of};
-ghost use Rattle.ixds_run.specs.Summary.{item_count, link_ids, note_ids, tuple_count};
-ghost use Rattle.ixds_run.specs.Texts.{facts_text, others_text, shown_name, summary_line, summary_of};
+ghost use Rattle.page_verdicts.specs.Summary.{item_count, link_ids, note_ids, tuple_count};
+ghost use Rattle.page_verdicts.specs.Texts.{facts_text, others_text, shown_name, summary_line, summary_of};
 
 use ix_base::{Content, Fact, Footnote, NoMemory, NoteLink, Text, each_once};
 use std::alloc::Global;
@@ -159,7 +159,7 @@ fn lines_of(alloc: Global, targets: &[Target]) -> Result<Text, NoMemory>
 }
 
 /// The lines of the summary.
-#[tactic(auto, unfolding(crate::specs::Texts::summary_of))]
+#[tactic(auto, unfolding(page_verdicts::specs::Texts::summary_of))]
 pub fn summary(alloc: Global, targets: &[Target]) -> Result<Text, NoMemory>
     ensures { IfOk result (λ t. t ≡ summary_of targets.now) }
 {

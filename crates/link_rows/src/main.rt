@@ -1,5 +1,5 @@
-//! Runs rows of calls on sets of pages, on their links and on what their facts say, and tells of each table how many rows it has,
-//! or the first row that isn't as it is due.
+//! Runs rows of calls on sets of pages, on their links, also as the pages come one by one, and on what their facts say, and tells of
+//! each table how many rows it has, or the first row that isn't as it is due.
 //!
 //! `row_tables` says what a table is, and how it is written.
 #![tactic(auto)]
@@ -12,6 +12,7 @@ mod markups;
 mod members;
 mod notes;
 mod sets;
+mod standing;
 
 use anyhow::{Context, Result, bail};
 use bumpalo::Bump;
@@ -86,6 +87,7 @@ fn seen_on(alloc: Global, arena: &Bump, table: &str, cells: &[Cell]) -> Result<S
     match table {
         "item_fields" => items::fields(alloc, arena, cells),
         "items" => items::value(alloc, arena, cells),
+        "links_as_pages_come" => standing::counts(alloc, arena, cells),
         "views" => items::viewed(alloc, arena, cells),
         _ => of_pages(alloc, arena, table, cells),
     }

@@ -1,4 +1,5 @@
 //! What tags are read into.
+ghost use Rattle.std.specs.Prelude.{◌≡◌, []};
 
 use crate::token::Attribute;
 use crate::written::Written;
@@ -14,7 +15,10 @@ pub struct TagRoom<'a> {
 
 impl<'a> TagRoom<'a> {
     /// Room for no tag so far.
-    pub fn new(alloc: Global) -> TagRoom<'a> {
+    pub fn new(alloc: Global) -> TagRoom<'a>
+        ensures attributes { result.attrs.items ≡ [] }
+        ensures names { result.names.items ≡ [] }
+    {
         TagRoom {
             attrs: Vec::new(alloc),
             names: Vec::new(alloc),

@@ -20,8 +20,8 @@ use Rattle.targets.specs.Breaches.{fault_row, on_page, set_rule, text_fault, tex
 use Rattle.page_session.specs.declared.kept.Held.{Held}
 use Rattle.page_session.specs.declared.kept.Held.TheVariants as held
 use Rattle.page_session.specs.declared.kept.Kept.{Kept}
-use Rattle.targets.specs.SetOutcomes.{ComesTo, IsReport}
-use Rattle.targets.specs.declared.outcome.Outcome.{Outcome}
+use Rattle.target_contents.specs.SetOutcomes.{ComesTo, IsReport}
+use Rattle.target_contents.specs.declared.outcome.Outcome.{Outcome}
 
 pub names_are : (ks : List Kept) (ps : List Handed) → AreKept ks ps → names_kept ks ≡ names_of ps
 names_are [] [] all = refl

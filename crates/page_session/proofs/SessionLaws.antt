@@ -11,7 +11,7 @@ use Rattle.page_session.specs.Sessions.{AreKept, HasDropped, HasPut, IsHeld, OfP
 use Rattle.targets.specs.Breaches.{bytes_in, all_tags_in, tags_in, set_rule}
 use Rattle.page_session.specs.declared.kept.Kept.{Kept}
 use Rattle.page_session.specs.declared.session.Session.{Session}
-use Rattle.targets.specs.declared.outcome.Outcome.{Outcome}
+use Rattle.target_contents.specs.declared.outcome.Outcome.{Outcome}
 use Rattle.page_session.proofs.KeptLaws.{kept_more, more_bytes, more_tags, fewer_bytes, fewer_tags, drop_at, drop_none}
 use Rattle.page_session.proofs.ReadLaws.{held_bytes, held_tags}
 

@@ -5,7 +5,7 @@ use Rattle.std.proofs.lemmas.List.Sums.{fold-append}
 use Rattle.std.proofs.lemmas.Slice.Eq.{bytes_eq-Decides}
 use Rattle.page_session.specs.HandedPages.{Handed, handed, bytes_of, names_of, put_in, drop_in}
 use Rattle.targets.specs.Breaches.{PagesComeTo}
-use Rattle.targets.specs.declared.outcome.Outcome.{Outcome}
+use Rattle.target_contents.specs.declared.outcome.Outcome.{Outcome}
 use Rattle.page_names.specs.Names.{has_repeat}
 use Rattle.page_session.specs.Sessions.{AreKept, IsSame, StandsFor, base_of}
 use Rattle.page_session.specs.Steps.{Does, Goes, Step, puts, drops, after, stepped}

@@ -5,7 +5,7 @@ ghost use Rattle.page_session.specs.HandedPages.{Handed, bytes_of, names_of};
 ghost use Rattle.page_session.specs.Sessions.{AreKept, break_row, breaks_from, names_kept, tree_row, trees_kept};
 ghost use Rattle.targets.specs.Breaches.{PagesComeTo, set_rule};
 ghost use Rattle.targets.specs.Forest.{AreSoundRoots, page_set, trees_of};
-ghost use Rattle.targets.specs.SetOutcomes.{CanBeWritten, ComesTo};
+ghost use Rattle.target_contents.specs.SetOutcomes.{CanBeWritten, ComesTo};
 
 use crate::kept::{Held, Kept};
 use crate::root::SoundRoot;

@@ -9,7 +9,7 @@ ghost use Rattle.page_session.specs.Steps.{Does, Goes, Step, after};
 ghost use Rattle.page_session.specs.declared.script.Line.TheVariants as line;
 ghost use Rattle.page_session.specs.declared.session.Session.{Session};
 ghost use Rattle.targets.specs.Breaches.{PagesComeTo};
-ghost use Rattle.targets.specs.declared.outcome.Outcome.{Outcome};
+ghost use Rattle.target_contents.specs.declared.outcome.Outcome.{Outcome};
 
 /// A session that stands for what steps led to stands, after one step more, for what all of them lead to.
 pub fn one_step_more()

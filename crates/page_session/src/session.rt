@@ -32,7 +32,7 @@ impl<'a> Session<'a> {
     ghost use Rattle.page_session.specs.HandedPages.{Handed, bytes_of, handed, is_one_too_many, is_there, names_of};
     ghost use Rattle.page_session.specs.Sessions.{HasDropped, HasPut, HasPutCause, IsOver, IsSame, IsWithin, OfPage, StandsFor, base_of, bytes_put, names_in, tags_put};
     ghost use Rattle.targets.specs.Breaches.{PagesComeTo};
-    ghost use Rattle.targets.specs.SetOutcomes.{CanBeWritten};
+    ghost use Rattle.target_contents.specs.SetOutcomes.{CanBeWritten};
 
     /// A session without pages, under this base.
     pub fn new(alloc: Global, arena: &'a Bump, base: &str) -> Result<Session<'a>, NoMemory>

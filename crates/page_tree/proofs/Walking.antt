@@ -1,5 +1,5 @@
 -- The walk that finds the first break goes as the machine goes.
-use Rattle.std.proofs.Common.{◌≡◌, ℕ, Bool, List, [], ◌∷◌, length, map, Option, Some, None, option_and_then, Result, Ok, Err, refl, sym, ap, ◌∙◌}
+use Rattle.std.proofs.Common.{◌≡◌, ℕ, Bool, List, [], ◌∷◌, length, Option, Some, None, option_and_then, Result, Ok, Err, refl, sym, ap, ◌∙◌}
 use Rattle.ix_base.specs.Trees.{Tree}
 use Rattle.page_text.specs.declared.TextFault.{TextFault}
 use Rattle.page_text.specs.declared.TextFault.TheVariants.{BadBytes, BadChar, NoMemory}
@@ -8,7 +8,7 @@ use Rattle.page_constructs.specs.Constructs.{Construct, Byte, cut}
 use Rattle.page_constructs.specs.Meanings.{meant}
 use Rattle.page_constructs.specs.Tokens.{Token, start, empty, close, words, refer, section, declaration, doctype, silent}
 use Rattle.page_tree.specs.Break.{Outline, Fault, blank, broken_by, outline_behind, walk_past, walk_on, walked, ended, verdict, w}
-use Rattle.page_tree.specs.Machine.{Frame, State, begin, outlined, outline_of, flushed, moved, unless_broken, step, steps, whole, built}
+use Rattle.page_tree.specs.Machine.{Frame, State, begin, outline_of, moved, unless_broken, step, steps, whole, built}
 use Rattle.page_tree.proofs.Spelled.{st}
 use Rattle.page_tree.proofs.Building.{page_of_built, and-then-some}
 
@@ -18,10 +18,6 @@ AllMeant [] [] = Unit {0}
 AllMeant [] (t ∷ ts) = ⊥
 AllMeant (c ∷ cs) [] = ⊥
 AllMeant (c ∷ cs) (t ∷ ts) = (meant c ≡ Some t) × AllMeant cs ts
-
-flushed-outlined : (fs : List Frame) (text : List ℕ) → map outlined (flushed fs text) ≡ map outlined fs
-flushed-outlined [] text = refl
-flushed-outlined (f ∷ fs) text = refl
 
 -- the outline behind a construct that breaks nothing is that of the state behind it
 pub outline-moved : (n : ℕ) (fs : List Frame) (text : List ℕ) (root : Option Tree) (d : Bool) (t : Token) → broken_by n (outline_of (st fs text root d)) t ≡ None

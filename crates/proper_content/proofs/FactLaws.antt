@@ -7,7 +7,7 @@ use Rattle.ix_base.specs.declared.content.Fact.TheFolds.{fold_out-Fact, fold_out
 use Rattle.ix_base.specs.declared.content.Tuple.{Tuple}
 use Rattle.ix_base.specs.Facts.{Facts, none, before, facts_of}
 use Rattle.instance_out.specs.Proper.{is_none_nil, nil_is_empty}
-use Rattle.instance_out.specs.Writable.{depth}
+use Rattle.instance_lines.specs.Writable.{depth}
 use Rattle.proper_content.proofs.ListLaws.{same_both}
 
 le_max : (a b m : ℕ) → leb (max a b) m ≡ (leb a m && leb b m)

@@ -8,9 +8,9 @@ use Rattle.ix_base.specs.declared.content.Footnote.{Footnote}
 use Rattle.ix_base.specs.NcName.{is_ncname}
 use Rattle.ix_base.specs.PlainContents.{Said}
 use Rattle.ix_base.proofs.ExchangeLemmas.{by_exchanges}
-use Rattle.instance_out.specs.Lists.{are_apart}
+use Rattle.instance_lines.specs.Lists.{are_apart}
 use Rattle.instance_out.specs.Proper.{all_ids, counted_once, ids_fit}
-use Rattle.instance_out.specs.Tables.{values_of}
+use Rattle.instance_lines.specs.Tables.{values_of}
 use Rattle.proper_content.proofs.ListLaws.{texts_apart_moved}
 use denote.Ref.{Bor}
 

@@ -18,9 +18,9 @@ use Rattle.ix_base.proofs.ExchangeLemmas.{by_exchanges}
 use Rattle.ix_base.proofs.OrderLemmas.{name_total, same_names, text_total, same_text}
 use Rattle.ix_base.proofs.SortedLemmas.{sorted-same, sorted-is}
 use Rattle.ix_base.specs.WrittenMarkup.{Markup}
-use Rattle.instance_out.specs.Canonical.{line, line_cmp}
-use Rattle.instance_out.specs.Lists.{are_apart, has, is_within, rises, strictly}
-use Rattle.instance_out.specs.Tables.{values_of}
+use Rattle.instance_lines.specs.Canonical.{line, line_cmp}
+use Rattle.instance_lines.specs.Lists.{are_apart, has, is_within, rises, strictly}
+use Rattle.instance_lines.specs.Tables.{values_of}
 use denote.Ref.{Bor}
 
 -- what a sort of texts leaves

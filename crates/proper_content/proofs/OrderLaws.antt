@@ -10,9 +10,9 @@ use Rattle.ix_base.specs.PlainContents.{Said}
 use Rattle.ix_base.specs.SortedLists.{text_cmp}
 use Rattle.proper_content.specs.InOrder.{notes_in_order, parts_in_order, references_in_order}
 use Rattle.proper_content.proofs.ListLaws.{map_same, rises_map, strictly_map}
-use Rattle.instance_out.specs.Canonical.{arc_line_cmp, arcrole_markup, fact_markups, line_cmp, linkbase_markup, role_markup, schema_markup}
-use Rattle.instance_out.specs.Holdings.{said_spaces}
-use Rattle.instance_out.specs.Lists.{rises, strictly}
+use Rattle.instance_lines.specs.Canonical.{arc_line_cmp, arcrole_markup, fact_markups, line_cmp, linkbase_markup, role_markup, schema_markup}
+use Rattle.instance_lines.specs.Holdings.{said_spaces}
+use Rattle.instance_lines.specs.Lists.{rises, strictly}
 use Rattle.instance_out.specs.Proper.{link_in_order, lists_fit}
 
 grouped : (a b c d e f g h i : Bool)

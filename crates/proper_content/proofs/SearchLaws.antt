@@ -12,8 +12,8 @@ use Rattle.std.proofs.lemmas.List.Sorted.{searchable_from_sorted}
 use Rattle.std.proofs.lemmas.Map.Text.{is_eq-slice_cmp}
 use Rattle.ix_base.specs.SortedLists.{text_cmp}
 use Rattle.ix_base.proofs.OrderLemmas.{text_total}
-use Rattle.instance_out.specs.Lists.{has}
-use Rattle.instance_out.specs.Tables.{values_of}
+use Rattle.instance_lines.specs.Lists.{has}
+use Rattle.instance_lines.specs.Tables.{values_of}
 use denote.Ref.{Bor}
 
 any-values : (x : List ℕ) (xs : List (Bor (List ℕ))) → list_any (λ y. bytes_eq y.now x) xs ≡ has (values_of xs) x

@@ -11,8 +11,8 @@ use Rattle.ix_base.specs.PlainContents.{Said}
 use Rattle.ix_base.specs.SortedLists.{sorted, text_cmp}
 use Rattle.proper_content.specs.ContentTests.{first_fit, last_fit, second_fit, third_fit}
 use Rattle.proper_content.proofs.ListLaws.{within_sorted}
-use Rattle.instance_out.specs.Holdings.{all_arcs, all_notes, fact_ids}
-use Rattle.instance_out.specs.Lists.{are_apart, is_within}
+use Rattle.instance_lines.specs.Holdings.{all_arcs, all_notes, fact_ids}
+use Rattle.instance_lines.specs.Lists.{are_apart, is_within}
 use Rattle.instance_out.specs.Proper.{arc_ends, is_proper, is_whole_link, links_fit, note_ids, roles_fit, tuples_fit, ids_fit, names_fit, texts_fit, lists_fit, parts_fit, forms_fit, numbers_fit, unitless_fit, fractions_fit, orders_fit, tokens_fit}
 
 and-assoc : (a b c d : Bool) → (((a && b) && c) && d) ≡ (a && (b && (c && d)))

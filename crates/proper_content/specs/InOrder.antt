@@ -3,9 +3,9 @@ use Rattle.std.specs.Prelude.{Bool, ◌&&◌, map}
 use Rattle.std.specs.List.{list_all}
 use Rattle.ix_base.specs.PlainContents.{Said}
 use Rattle.ix_base.specs.SortedLists.{text_cmp}
-use Rattle.instance_out.specs.Canonical.{arcrole_markup, fact_markups, line_cmp, linkbase_markup, role_markup, schema_markup}
-use Rattle.instance_out.specs.Holdings.{said_spaces}
-use Rattle.instance_out.specs.Lists.{rises, strictly}
+use Rattle.instance_lines.specs.Canonical.{arcrole_markup, fact_markups, line_cmp, linkbase_markup, role_markup, schema_markup}
+use Rattle.instance_lines.specs.Holdings.{said_spaces}
+use Rattle.instance_lines.specs.Lists.{rises, strictly}
 use Rattle.instance_out.specs.Proper.{link_in_order}
 
 abbrev pub references_in_order : Said → Bool

@@ -1,8 +1,8 @@
 //! Texts among which others are looked for.
 ghost use Rattle.std.specs.Prelude.{◌≡◌, ◌&&◌};
 ghost use Rattle.ix_base.specs.SortedLists.{sorted, text_cmp};
-ghost use Rattle.instance_out.specs.Lists.{has, is_within};
-ghost use Rattle.instance_out.specs.Tables.{values_of};
+ghost use Rattle.instance_lines.specs.Lists.{has, is_within};
+ghost use Rattle.instance_lines.specs.Tables.{values_of};
 
 use std::marker::Model;
 
@@ -17,7 +17,7 @@ impl<'a> Model for Among<'a> {
     ghost use Rattle.std.specs.List.Sorted.{IsSorted};
     ghost use Rattle.std.specs.Ordering.{on};
     ghost use Rattle.ix_base.specs.SortedLists.{text_cmp};
-    ghost use Rattle.instance_out.specs.Tables.{values_of};
+    ghost use Rattle.instance_lines.specs.Tables.{values_of};
 
     ghost Value = { Items (Items ℕ) };
 

@@ -1,7 +1,7 @@
 //! Texts by which things are named, gathered.
 ghost use Rattle.std.specs.Prelude.{◌≡◌, ◌++◌, ◌∷◌, [], List as Items, ℕ, flat_map, map, IfOk, OnOk};
-ghost use Rattle.instance_out.specs.Lists.{of_option};
-ghost use Rattle.instance_out.specs.Tables.{values_of};
+ghost use Rattle.instance_lines.specs.Lists.{of_option};
+ghost use Rattle.instance_lines.specs.Tables.{values_of};
 
 use ix_base::{Context, Footnote, NoMemory, NoteLink, RoleRef, Text, Unit};
 use std::alloc::Global;

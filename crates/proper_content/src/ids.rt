@@ -8,7 +8,7 @@ ghost use Rattle.proper_texts.specs.Model.{IsHeld};
 ghost use Rattle.proper_content.specs.Notes.{note_seen};
 ghost use Rattle.instance_out.specs.Proper as proper;
 ghost use Rattle.instance_out.specs.Proper.{all_ids, counted_once};
-ghost use Rattle.instance_out.specs.Tables.{values_of};
+ghost use Rattle.instance_lines.specs.Tables.{values_of};
 
 use crate::gathered::names_of;
 use crate::order::are_apart;

@@ -6,14 +6,14 @@ ghost use Rattle.ix_base.specs.Facts.{facts_of};
 ghost use Rattle.ix_base.specs.PlainContents.{said_of};
 ghost use Rattle.ix_base.specs.SortedLists.{text_cmp};
 ghost use Rattle.proper_content.specs.InOrder.{notes_in_order, parts_in_order, references_in_order};
-ghost use Rattle.instance_out.specs.Canonical.{arc_line_cmp, arcrole_markup, fact_markups, line_cmp, linkbase_markup, role_markup, schema_markup};
-ghost use Rattle.instance_out.specs.Holdings.{said_spaces};
-ghost use Rattle.instance_out.specs.Lists.{rises, strictly};
+ghost use Rattle.instance_lines.specs.Canonical.{arc_line_cmp, arcrole_markup, fact_markups, line_cmp, linkbase_markup, role_markup, schema_markup};
+ghost use Rattle.instance_lines.specs.Holdings.{said_spaces};
+ghost use Rattle.instance_lines.specs.Lists.{rises, strictly};
 ghost use Rattle.instance_out.specs.Proper as proper;
 
 use crate::gathered::{Named, names_of};
 use crate::order::{never_fall, rise};
-use instance_out::{arc_of, fact_lines_in, linkbase_line, role_line, schema_line};
+use instance_lines::{arc_of, fact_lines_in, linkbase_line, role_line, schema_line};
 use ix_base::{Arc, Content, Linkbase, NoMemory, NoteLink, RoleRef, Text};
 use std::alloc::Global;
 

@@ -4,9 +4,9 @@ ghost use Rattle.std.specs.List.{list_all};
 ghost use Rattle.ix_base.specs.Forms.{is_canonical_decimal as is_canonical};
 ghost use Rattle.ix_base.specs.PlainContents.{said_of};
 ghost use Rattle.proper_texts.specs.Model.{IsHeld};
-ghost use Rattle.instance_out.specs.Lists.{is_within};
+ghost use Rattle.instance_lines.specs.Lists.{is_within};
 ghost use Rattle.instance_out.specs.Proper as proper;
-ghost use Rattle.instance_out.specs.Tables.{values_of};
+ghost use Rattle.instance_lines.specs.Tables.{values_of};
 
 use crate::among::{Among, have_same};
 use crate::gathered::names_of;

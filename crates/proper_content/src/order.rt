@@ -3,8 +3,8 @@ ghost use Rattle.std.specs.Prelude.{◌≡◌, map};
 ghost use Rattle.ix_base.specs.ContextForm.{by_dimension};
 ghost use Rattle.ix_base.specs.OwnNames.{name_cmp};
 ghost use Rattle.ix_base.specs.SortedLists.{text_cmp};
-ghost use Rattle.instance_out.specs.Lists.{are_apart as stand_apart, rises, strictly};
-ghost use Rattle.instance_out.specs.Tables.{values_of};
+ghost use Rattle.instance_lines.specs.Lists.{are_apart as stand_apart, rises, strictly};
+ghost use Rattle.instance_lines.specs.Tables.{values_of};
 
 use ix_base::{Dim, OwnName};
 use std::cmp::Ordering;

@@ -2,9 +2,9 @@
 ghost use Rattle.std.specs.Prelude.{◌≡◌, ◌&&◌, flat_map, map, IfOk};
 ghost use Rattle.ix_base.specs.PlainContents.{said_of};
 ghost use Rattle.proper_texts.specs.Model.{IsHeld};
-ghost use Rattle.instance_out.specs.Lists.{of_option};
+ghost use Rattle.instance_lines.specs.Lists.{of_option};
 ghost use Rattle.instance_out.specs.Proper as proper;
-ghost use Rattle.instance_out.specs.Tables.{values_of};
+ghost use Rattle.instance_lines.specs.Tables.{values_of};
 
 use crate::among::have_same;
 use crate::gathered::names_of;

@@ -2,10 +2,10 @@
 ghost use Rattle.std.specs.Prelude.{◌≡◌, ◌++◌, map, IfOk};
 ghost use Rattle.ix_base.specs.PlainContents.{said_of};
 ghost use Rattle.proper_texts.specs.Model.{IsHeld};
-ghost use Rattle.instance_out.specs.Holdings.{all_arcs, all_notes};
-ghost use Rattle.instance_out.specs.Lists.{are_apart as are_apart_texts, is_within};
+ghost use Rattle.instance_lines.specs.Holdings.{all_arcs, all_notes};
+ghost use Rattle.instance_lines.specs.Lists.{are_apart as are_apart_texts, is_within};
 ghost use Rattle.instance_out.specs.Proper as proper;
-ghost use Rattle.instance_out.specs.Tables.{values_of};
+ghost use Rattle.instance_lines.specs.Tables.{values_of};
 
 use crate::among::are_within;
 use crate::gathered::names_of;

@@ -3,7 +3,7 @@ ghost use Rattle.std.specs.Prelude.{◌≡◌, nat_le};
 ghost use Rattle.ix_base.specs.Facts.{before, facts_of, none};
 ghost use Rattle.ix_base.specs.PlainContents.{said_of};
 ghost use Rattle.instance_out.specs.Proper as proper;
-ghost use Rattle.instance_out.specs.Writable.{depth};
+ghost use Rattle.instance_lines.specs.Writable.{depth};
 
 use ix_base::limits::DEEPEST_TUPLE;
 use ix_base::{Content, Fact};

@@ -3,7 +3,7 @@ use Rattle.std.proofs.Common.{◌≡◌, ◌∙◌, Bool, ◌&&◌, List, [], �
 use Rattle.std.specs.Prelude.{flat_map}
 use Rattle.std.specs.List.{list_all}
 use Rattle.std.proofs.lemmas.List.Folds.{list_all-append}
-use Rattle.instance_out.specs.Gains.{Gains}
+use Rattle.instance_lines.specs.Gains.{Gains}
 
 -- all of a list that was empty
 pub all_gained : {X : Type 0} (old new xs : List X) → Gains old new (λ more. xs ++ more) → old ≡ [] → new ≡ xs

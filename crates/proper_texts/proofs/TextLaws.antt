@@ -13,8 +13,8 @@ use Rattle.ix_base.specs.declared.content.Linkbase.{Linkbase}
 use Rattle.ix_base.specs.declared.content.NoteLink.{NoteLink}
 use Rattle.ix_base.specs.declared.content.OwnName.{OwnName}
 use Rattle.ix_base.specs.declared.content.Unit.{Unit as UnitContent}
-use Rattle.instance_out.specs.Holdings.{all_arcs, all_names, all_notes, all_texts, context_texts, fact_ids, item_texts, items_in, link_texts, ref_texts}
-use Rattle.instance_out.specs.Lists.{of_option}
+use Rattle.instance_lines.specs.Holdings.{all_arcs, all_names, all_notes, all_texts, context_texts, fact_ids, item_texts, items_in, link_texts, ref_texts}
+use Rattle.instance_lines.specs.Lists.{of_option}
 use Rattle.instance_out.specs.Proper.{is_full, texts_fit, tokens_fit}
 
 grouped : (a b c d e f g h i j : Bool)

@@ -2,9 +2,9 @@
 use Rattle.std.specs.Prelude.{◌≡◌}
 use Rattle.ix_base.specs.PlainContents.{Said}
 use Rattle.proper_texts.specs.declared.held.Held.{Held}
-use Rattle.instance_out.specs.Canonical.{fact_names}
-use Rattle.instance_out.specs.Holdings.{all_arcs, all_names, all_notes, fact_ids, items_in}
-use Rattle.instance_out.specs.Tables.{values_of}
+use Rattle.instance_lines.specs.Canonical.{fact_names}
+use Rattle.instance_lines.specs.Holdings.{all_arcs, all_names, all_notes, fact_ids, items_in}
+use Rattle.instance_lines.specs.Tables.{values_of}
 
 -- its items, the ids and names of its facts, its names, footnotes and arcs
 pub record IsHeld (c : Said) (h : Held) : Type 0 where

@@ -5,8 +5,8 @@ use Rattle.ix_base.specs.NcName.{are_allowed}
 use Rattle.ix_base.specs.PlainContents.{Said}
 use Rattle.proper_texts.specs.declared.texts.Test.{Test}
 use Rattle.proper_texts.specs.declared.texts.Test.TheVariants.{Allowed, Full}
-use Rattle.instance_out.specs.Holdings.{all_names, context_texts, fact_ids, item_texts, items_in, link_texts, ref_texts}
-use Rattle.instance_out.specs.Lists.{of_option}
+use Rattle.instance_lines.specs.Holdings.{all_names, context_texts, fact_ids, item_texts, items_in, link_texts, ref_texts}
+use Rattle.instance_lines.specs.Lists.{of_option}
 use Rattle.instance_out.specs.Proper.{is_full}
 
 abbrev pub passes : Test → List ℕ → Bool

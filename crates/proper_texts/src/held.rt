@@ -3,13 +3,13 @@ ghost use Rattle.std.specs.Prelude.{◌≡◌, ◌++◌, flat_map, IfOk, OnOk};
 ghost use Rattle.ix_base.specs.Facts.{before, facts_of, none};
 ghost use Rattle.ix_base.specs.PlainContents.{said_of};
 ghost use Rattle.proper_texts.specs.Model.{IsHeld};
-ghost use Rattle.instance_out.specs.Canonical.{fact_names};
-ghost use Rattle.instance_out.specs.Gains.{Gains};
-ghost use Rattle.instance_out.specs.Holdings.{fact_ids, items_in};
-ghost use Rattle.instance_out.specs.Lists.{of_option};
-ghost use Rattle.instance_out.specs.Tables.{values_of};
+ghost use Rattle.instance_lines.specs.Canonical.{fact_names};
+ghost use Rattle.instance_lines.specs.Gains.{Gains};
+ghost use Rattle.instance_lines.specs.Holdings.{fact_ids, items_in};
+ghost use Rattle.instance_lines.specs.Lists.{of_option};
+ghost use Rattle.instance_lines.specs.Tables.{values_of};
 
-use instance_out::names_in;
+use instance_lines::names_in;
 use ix_base::{Arc, Content, Fact, Footnote, Item, NoMemory, NoteLink, OwnName, Text};
 use std::alloc::Global;
 

@@ -2,10 +2,10 @@
 ghost use Rattle.std.specs.Prelude.{◌≡◌, ◌∷◌, []};
 ghost use Rattle.std.specs.List.{list_all};
 ghost use Rattle.ix_base.specs.Forms.{is_empty};
-ghost use Rattle.instance_out.specs.Holdings as holds;
-ghost use Rattle.instance_out.specs.Lists.{of_option};
+ghost use Rattle.instance_lines.specs.Holdings as holds;
+ghost use Rattle.instance_lines.specs.Lists.{of_option};
 ghost use Rattle.instance_out.specs.Proper as proper;
-ghost use Rattle.instance_out.specs.Tables.{values_of};
+ghost use Rattle.instance_lines.specs.Tables.{values_of};
 ghost use Rattle.ix_base.specs.PlainContents.{said_of};
 ghost use Rattle.proper_texts.specs.Model.{IsHeld};
 ghost use Rattle.proper_texts.specs.TextTests.{parts, passes, references, rest};

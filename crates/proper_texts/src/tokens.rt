@@ -3,9 +3,9 @@ ghost use Rattle.std.specs.Prelude.{◌≡◌, ◌∷◌, ◌&&◌, []};
 ghost use Rattle.std.specs.List.{list_all};
 ghost use Rattle.ix_base.specs.PlainContents.{said_of};
 ghost use Rattle.proper_texts.specs.Model.{IsHeld};
-ghost use Rattle.instance_out.specs.Holdings.{all_arcs, all_notes};
+ghost use Rattle.instance_lines.specs.Holdings.{all_arcs, all_notes};
 ghost use Rattle.instance_out.specs.Proper as proper;
-ghost use Rattle.instance_out.specs.Tables.{values_of};
+ghost use Rattle.instance_lines.specs.Tables.{values_of};
 
 use crate::held::Held;
 use crate::texts::{Test, is_full, references_pass};

@@ -22,16 +22,16 @@ use Rattle.ix_base.proofs.OnceLemmas.{Contains-filter, Contains-from_filter, Con
 use Rattle.ix_base.proofs.OnceOrdered.{same_text}
 use Rattle.footnotes.specs.FootnoteLinks.{arc_texts_cmp as by_parts}
 use Rattle.footnotes.specs.FootnoteLinks.{Between, arcs_by, arcs_in, between, ends, footnote_of, label, link_of, notes, sources}
-use Rattle.instance_out.specs.Arrangement.{arranged, arranged_link, firsts}
-use Rattle.instance_out.specs.Canonical.{arc_line_cmp}
+use Rattle.instance_lines.specs.Arrangement.{arranged, arranged_link, firsts}
+use Rattle.instance_lines.specs.Canonical.{arc_line_cmp}
 use Rattle.footnotes.proofs.OnceLaws.{same_arc}
-use Rattle.instance_out.specs.Elements.{arc_text, footnote_text}
-use Rattle.instance_out.specs.Holdings.{all_arcs, all_notes}
+use Rattle.instance_lines.specs.Elements.{arc_text, footnote_text}
+use Rattle.instance_lines.specs.Holdings.{all_arcs, all_notes}
 use Rattle.ix_base.specs.PlainContents.{said_of}
-use Rattle.instance_out.proofs.ArrangedLaws.{sorted-risen}
-use Rattle.targets.specs.Contents.{IsGathered}
+use Rattle.instance_lines.proofs.ArrangedLaws.{sorted-risen}
+use Rattle.target_contents.specs.Contents.{IsGathered}
 use Rattle.targets.proofs.HasLaws.{from-order, from-sorted, in-order, strict-rises}
-use Rattle.targets.proofs.MemberLaws.{from-flat, from-given, from-map, in-map, in-sorted}
+use Rattle.target_contents.proofs.MemberLaws.{from-flat, from-given, from-map, in-map, in-sorted}
 use Rattle.targets.proofs.SpelledLaws.{AreAlike, same-arc, same-id}
 use Rattle.targets.proofs.SuchLaws.{IsSuch, such-is}
 

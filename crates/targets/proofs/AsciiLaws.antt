@@ -17,7 +17,7 @@ use Rattle.ix_base.specs.Decimals.{back_of, front_of, pointed}
 use Rattle.ix_base.specs.Forms.{is_canonical_decimal, is_canonical_unsigned, is_digit, is_empty, is_fraction_part, is_normal_integer, is_whole_part, is_zero}
 use Rattle.ix_base.specs.NcName.{are_allowed, is_allowed}
 use Rattle.facts.proofs.PlainLaws.{digit-plain, is_plain, plain-append}
-use Rattle.instance_out.specs.Holdings.{accuracy_texts}
+use Rattle.instance_lines.specs.Holdings.{accuracy_texts}
 use Rattle.instance_out.specs.Proper.{is_exact, is_numeric}
 use Rattle.targets.proofs.AllowedLaws.{allowed-from}
 

@@ -17,7 +17,7 @@ use Rattle.ix_base.specs.LocatedElements.{Located, Paged}
 use Rattle.ix_base.specs.Once.{SameMembers}
 use Rattle.ix_base.specs.Rows.{row}
 use Rattle.ix_base.specs.Trees.{Tree}
-use Rattle.targets.specs.Faults.{AreOfItems, faults_from, value_fault}
+use Rattle.target_contents.specs.Faults.{AreOfItems, faults_from, value_fault}
 
 pub all-flat : {X Y : Type 0} (P : X → Type 0) (Q : Y → Type 0) (f : X → List Y) → ((x : X) → P x → All Q (f x)) → (xs : List X) → All P xs → All Q (flat_map f xs)
 all-flat P Q f h [] all = All-nil Q

@@ -8,13 +8,13 @@ use Rattle.ix_base.specs.Chain.{chain}
 use Rattle.ix_base.specs.LocatedElements.{Located, is_continuation}
 use Rattle.ix_base.proofs.OnceLemmas.{Contains-first, Contains-later}
 use Rattle.footnotes.specs.FootnoteLinks.{footnote_of}
-use Rattle.instance_out.specs.Arrangement.{arranged}
-use Rattle.instance_out.specs.Holdings.{all_notes}
+use Rattle.instance_lines.specs.Arrangement.{arranged}
+use Rattle.instance_lines.specs.Holdings.{all_notes}
 use Rattle.instance_out.specs.Proper.{AreBodies, IsBody}
 use Rattle.ix_base.specs.PlainContents.{said_of}
 use Rattle.targets.specs.ValidSets.{IsClean}
-use Rattle.targets.specs.Contents.{IsContent}
-use Rattle.targets.specs.PageSet.{PageSet, base_at, elements}
+use Rattle.target_contents.specs.Contents.{IsContent}
+use Rattle.target_contents.specs.PageSet.{PageSet, base_at, elements}
 use Rattle.targets.proofs.ArcLaws.{note-from}
 use Rattle.targets.proofs.BodyLaws.{body-is, children-sound}
 use Rattle.targets.proofs.SuchLaws.{chain-from}

@@ -14,10 +14,10 @@ use Rattle.ix_base.specs.LocatedElements.{Located, is_fact}
 use Rattle.ix_base.specs.Membership.{deepest, owner}
 use Rattle.ix_base.specs.Rows.{row}
 use Rattle.targets.specs.ValidSets.{IsClean}
-use Rattle.targets.specs.Contents.{is_outer}
-use Rattle.targets.specs.PageSet.{PageSet, base_at, elements as elements_of}
+use Rattle.target_contents.specs.Contents.{is_outer}
+use Rattle.target_contents.specs.PageSet.{PageSet, base_at, elements as elements_of}
 use Rattle.targets.proofs.AboveLaws.{owner_marked}
-use Rattle.targets.proofs.FitLaws.{flat-none, none-broken, row-none}
+use Rattle.target_contents.proofs.FitLaws.{flat-none, none-broken, row-none}
 use Rattle.targets.proofs.ForestLaws.{StandOnce, heard, walk, walk-total}
 use Rattle.targets.proofs.HeardLaws.{heard-all, heard-most, heard-of}
 use Rattle.targets.proofs.StandLaws.{stand-once}

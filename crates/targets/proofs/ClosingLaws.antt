@@ -20,9 +20,9 @@ use Rattle.ix_base.specs.Trees.{tree_of}
 use Rattle.id_table.specs.Model.{AreChosen, Held}
 use Rattle.id_table.specs.Tables.{all_located}
 use Rattle.scopes.specs.Model.{Kept}
-use Rattle.targets.specs.declared.closing.Page.{Page}
-use Rattle.targets.specs.Faults.{faults_from}
-use Rattle.targets.specs.Model.{AreSoundFrom, Keeps, as_paged}
+use Rattle.page_links.specs.declared.pages.Page.{Page}
+use Rattle.target_contents.specs.Faults.{faults_from}
+use Rattle.page_links.specs.Model.{AreSoundFrom, Keeps, as_paged}
 
 pub sound-trees : (n : ℕ) (pages : List Page) → AreSoundFrom n pages → All (λ p. IsSoundTree p.tree DEEPEST_ELEMENT) (map as_paged pages)
 sound-trees n [] h = All-nil (λ (p : Paged). IsSoundTree p.tree DEEPEST_ELEMENT)

@@ -23,22 +23,22 @@ use Rattle.footnotes.specs.Model.{AreRelationsOf}
 use Rattle.id_table.specs.Model.{AreChosen, Held}
 use Rattle.scopes.specs.Model.{Kept}
 use Rattle.tuples.specs.Model.{AreMembersOf}
-use Rattle.targets.specs.declared.closing.Page.{Page}
-use Rattle.targets.specs.declared.links.Linked.{Linked}
-use Rattle.targets.specs.declared.outcome.Outcome.{Outcome}
-use Rattle.targets.specs.declared.outcome.Outcome.TheVariants.{Broken, Whole}
-use Rattle.targets.specs.Faults.{AreOfItems, link_faults}
-use Rattle.targets.specs.Model.{Keeps, as_paged}
-use Rattle.targets.specs.LinkedSets.{AreApart, AreOwned, IsLinked, bases_of}
-use Rattle.targets.specs.SetOutcomes.{IsReport}
-use Rattle.targets.specs.PageSet.{PageSet, names, page_bases}
-use Rattle.targets.specs.RoleAddresses.{SeesAll}
+use Rattle.page_links.specs.declared.pages.Page.{Page}
+use Rattle.target_contents.specs.declared.links.Linked.{Linked}
+use Rattle.target_contents.specs.declared.outcome.Outcome.{Outcome}
+use Rattle.target_contents.specs.declared.outcome.Outcome.TheVariants.{Broken, Whole}
+use Rattle.target_contents.specs.Faults.{AreOfItems, link_faults}
+use Rattle.page_links.specs.Model.{Keeps, as_paged}
+use Rattle.target_contents.specs.LinkedSets.{AreApart, AreOwned, IsLinked, bases_of}
+use Rattle.target_contents.specs.SetOutcomes.{IsReport}
+use Rattle.target_contents.specs.PageSet.{PageSet, names, page_bases}
+use Rattle.target_contents.specs.RoleAddresses.{SeesAll}
 use Rattle.targets.proofs.AboveLaws.{owner_marked}
 use Rattle.targets.proofs.ClosingLaws.{sound-trees}
-use Rattle.targets.proofs.FitLaws.{flat-none}
-use Rattle.targets.proofs.MemberLaws.{from-map, in-map}
+use Rattle.target_contents.proofs.FitLaws.{flat-none}
+use Rattle.target_contents.proofs.MemberLaws.{from-map, in-map}
 use Rattle.targets.proofs.PlaceLaws.{apart, on_pages}
-use Rattle.targets.proofs.ValueLaws.{all-say}
+use Rattle.target_contents.proofs.ValueLaws.{all-say}
 
 pub none-is : (xs : List Found) (b : Bool) → b ≡ (length xs == 0) → b ≡ true → xs ≡ []
 none-is [] b e h = refl

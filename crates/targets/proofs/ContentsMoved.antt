@@ -19,13 +19,13 @@ use Rattle.facts.proofs.Renumbered.{item-moved}
 use Rattle.id_table.specs.Renumbering.{moved}
 use Rattle.id_table.proofs.Asking.{map-filter}
 use Rattle.id_table.proofs.Renumbered.{filter-same, map-same, map-twice, owner-moved}
-use Rattle.targets.specs.Contents.{IsGathered, SaysItem, contexts_of, ids_named, is_item_of, is_linkbase_for, is_outer, linkbase_at, role_at, role_to, roles_for, units_of, uris_in, roles_in, arcroles_in}
+use Rattle.target_contents.specs.Contents.{IsGathered, SaysItem, contexts_of, ids_named, is_item_of, is_linkbase_for, is_outer, linkbase_at, role_at, role_to, roles_for, units_of, uris_in, roles_in, arcroles_in}
 use Rattle.link_ids.specs.Links.{context_named, unit_named}
-use Rattle.targets.specs.RoleAddresses.{refers_to}
-use Rattle.targets.specs.TargetFacts.{AreFacts}
+use Rattle.target_contents.specs.RoleAddresses.{refers_to}
+use Rattle.target_contents.specs.TargetFacts.{AreFacts}
 use Rattle.targets.proofs.FactsMoved.{facts-moved}
 use Rattle.targets.proofs.FaultsMoved.{address-moved, uri-moved}
-use Rattle.targets.proofs.SaidLaws.{context-moved, unit-moved}
+use Rattle.target_contents.proofs.SaidLaws.{context-moved, unit-moved}
 
 given-map : {X Y Z : Type 0} (g : Y → Option Z) (f : X → Y) (xs : List X) → filter_map g (map f xs) ≡ filter_map (λ x. g (f x)) xs
 given-map g f [] = refl

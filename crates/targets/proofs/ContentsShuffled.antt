@@ -18,14 +18,14 @@ use Rattle.ix_base.proofs.OnceLemmas.{Contains-first, Contains-nil}
 use Rattle.facts.specs.ItemValue.{IsItem}
 use Rattle.footnotes.proofs.NotesSame.{IsPermutation-flat_map, filter-moved, notes-same, texts-same}
 use Rattle.id_table.proofs.Rearranged.{asks-same}
-use Rattle.targets.specs.Contents.{IsGathered, contexts_of, ids_named, is_item_of, is_linkbase_for, is_outer, linkbase_at, role_at, role_to, roles_for, units_of, uris_in, roles_in, arcroles_in}
+use Rattle.target_contents.specs.Contents.{IsGathered, contexts_of, ids_named, is_item_of, is_linkbase_for, is_outer, linkbase_at, role_at, role_to, roles_for, units_of, uris_in, roles_in, arcroles_in}
 use Rattle.link_ids.specs.Links.{context_named, unit_named}
-use Rattle.targets.specs.RoleAddresses.{refers_to}
-use Rattle.targets.specs.TargetFacts.{AreFacts}
+use Rattle.target_contents.specs.RoleAddresses.{refers_to}
+use Rattle.target_contents.specs.TargetFacts.{AreFacts}
 use Rattle.targets.proofs.ContentsMoved.{given-same}
 use Rattle.targets.proofs.FactsMoved.{facts-same}
 use Rattle.targets.proofs.FactsShuffled.{facts-shuffled}
-use Rattle.targets.proofs.SaidLaws.{context-shuffled, unit-shuffled}
+use Rattle.target_contents.proofs.SaidLaws.{context-shuffled, unit-shuffled}
 use Rattle.targets.proofs.Shuffled.{IsShuffled}
 
 abbrev of_some : {Y : Type 0} → Option Y → List Y

@@ -7,7 +7,7 @@ use Rattle.ix_base.specs.LocatedElements.{Located}
 use Rattle.ix_base.specs.Membership.{members}
 use Rattle.id_table.specs.Renumbering.{moved}
 use Rattle.id_table.proofs.Renumbered.{members-moved}
-use Rattle.targets.specs.TargetFacts.{AreFacts, members_read, one_less}
+use Rattle.target_contents.specs.TargetFacts.{AreFacts, members_read, one_less}
 
 module _ (r : ℕ → ℕ) (apart : (x y : ℕ) → (r x == r y) ≡ (x == y)) (Says Says' : Located → Item → Type 0) (says : (e : Located) (i : Item) → Says e i → Says' (moved r e) i) where
   read-moved : (n : ℕ) (all : List Located) (t : Located) → members_read n (map (moved r) all) (moved r t) ≡ map (moved r) (members_read n all t)

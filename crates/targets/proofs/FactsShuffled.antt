@@ -11,7 +11,7 @@ use Rattle.ix_base.specs.Facts.{Facts, before, facts_of, item, tuple}
 use Rattle.ix_base.specs.LocatedElements.{Located}
 use Rattle.ix_base.proofs.ExchangeLemmas.{by_exchanges}
 use Rattle.ix_base.proofs.FactLaws.{before-Item, before-Tuple}
-use Rattle.targets.specs.TargetFacts.{AreFacts, IsFactOf}
+use Rattle.target_contents.specs.TargetFacts.{AreFacts, IsFactOf}
 
 module _ (Says : Located → Item → Type 0) (all : List Located) (n : ℕ) where
   invert-by : (e : Located) (es : List Located) (f : Fact) (rest : Facts) (o : Fact-F Fact Tuple) → out-Fact f ≡ o

@@ -32,12 +32,12 @@ use Rattle.ix_base.specs.Trees.{Nodes, Tree}
 use Rattle.ix_base.specs.UnitForm.{Ratio, divided, measures_in, ratio_in, unit}
 use Rattle.xbrl_parts.proofs.ApartLaws.{once_moved}
 use Rattle.xbrl_parts.proofs.SmallTimes.{by_side, chosen, step_ok, time_small}
-use Rattle.instance_out.specs.Lists.{rises}
+use Rattle.instance_lines.specs.Lists.{rises}
 use Rattle.instance_out.specs.Proper.{are_normal_dims, forms_fit, is_normal_context, is_normal_period, is_normal_unit}
 use Rattle.ix_base.specs.PlainContents.{said_of}
 use Rattle.targets.specs.ValidSets.{IsClean}
-use Rattle.targets.specs.Contents.{IsContent}
-use Rattle.targets.specs.PageSet.{PageSet, base_at, elements}
+use Rattle.target_contents.specs.Contents.{IsContent}
+use Rattle.target_contents.specs.PageSet.{PageSet, base_at, elements}
 use Rattle.targets.proofs.FromElements.{FromContext, FromUnit, all-pass, contexts-from, units-from}
 
 some-same : {X : Type 0} {x y : X} → Some x ≡ Some y → x ≡ y

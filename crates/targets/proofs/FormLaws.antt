@@ -30,14 +30,14 @@ use Rattle.ix_base.specs.UnitForm.{ratio_in, unit}
 use Rattle.ix_base.proofs.OnceLemmas.{Contains-first, Contains-from_filter}
 use Rattle.xbrl_parts.proofs.SmallTimes.{chosen, step_ok}
 use Rattle.targets.specs.ValidSets.{IsClean}
-use Rattle.targets.specs.Contents.{context_at, unit_at}
+use Rattle.target_contents.specs.Contents.{context_at, unit_at}
 use Rattle.link_ids.specs.Links.{context_named, unit_named}
-use Rattle.targets.specs.PageSet.{PageSet, elements}
+use Rattle.target_contents.specs.PageSet.{PageSet, elements}
 use Rattle.targets.proofs.CleanLaws.{element-keeps, link-keeps}
-use Rattle.targets.proofs.FitLaws.{not-not, with-test}
+use Rattle.target_contents.proofs.FitLaws.{not-not, with-test}
 use Rattle.targets.proofs.HolderLaws.{speaker_such, stands-speaker}
 use Rattle.targets.proofs.HeardLaws.{only-one}
-use Rattle.targets.proofs.MemberLaws.{any-passes}
+use Rattle.target_contents.proofs.MemberLaws.{any-passes}
 
 some-from : {X : Type 0} (o : Option X) → is_none o ≡ false → (x : X) × (o ≡ Some x)
 some-from None h = absurd (cc)

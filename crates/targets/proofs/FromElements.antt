@@ -28,17 +28,17 @@ use Rattle.ix_base.specs.LinkRules.{target_of}
 use Rattle.ix_base.specs.LocatedElements.{Located, is_fact, is_item, is_kind, is_tuple}
 use Rattle.ix_base.specs.Membership.{deepest, fact_name, owner}
 use Rattle.ix_base.specs.SortedLists.{sorted, text_cmp}
-use Rattle.instance_out.specs.Arrangement.{arranged, by_line}
-use Rattle.instance_out.specs.Canonical.{content_spaces, fact_names}
-use Rattle.instance_out.specs.Elements.{fact_markup}
-use Rattle.instance_out.specs.Holdings.{fact_ids, items_in}
-use Rattle.instance_out.specs.Lists.{of_option}
-use Rattle.targets.specs.Contents.{IsContent, IsGathered, SaysItem, context_at, contexts_of, is_outer, unit_at, units_of}
-use Rattle.targets.specs.TargetFacts.{AreFacts, members_read, one_less}
+use Rattle.instance_lines.specs.Arrangement.{arranged, by_line}
+use Rattle.instance_lines.specs.Canonical.{content_spaces, fact_names}
+use Rattle.instance_lines.specs.Elements.{fact_markup}
+use Rattle.instance_lines.specs.Holdings.{fact_ids, items_in}
+use Rattle.instance_lines.specs.Lists.{of_option}
+use Rattle.target_contents.specs.Contents.{IsContent, IsGathered, SaysItem, context_at, contexts_of, is_outer, unit_at, units_of}
+use Rattle.target_contents.specs.TargetFacts.{AreFacts, members_read, one_less}
 use Rattle.targets.proofs.AboveLaws.{only-there}
-use Rattle.targets.proofs.AmongLaws.{all-sorted, members-among}
+use Rattle.target_contents.proofs.AmongLaws.{all-sorted, members-among}
 use Rattle.targets.proofs.HolderLaws.{speaker-parts, speaker_such}
-use Rattle.targets.proofs.SaidLaws.{said}
+use Rattle.target_contents.proofs.SaidLaws.{said}
 
 -- Each of some facts, and of those within tuples.
 

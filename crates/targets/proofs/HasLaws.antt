@@ -13,8 +13,8 @@ use Rattle.ix_base.specs.Once.{in_order, put as put_once, put_by as put_once_by}
 use Rattle.ix_base.specs.SortedLists.{put, put_by, sorted, text_cmp}
 use Rattle.ix_base.proofs.OnceLemmas.{Contains-cases, Contains-first, Contains-later, Contains-nil, Contains-same, in_order-members}
 use Rattle.ix_base.proofs.OnceOrdered.{same_text}
-use Rattle.instance_out.specs.Lists.{has, rises, strictly}
-use Rattle.instance_out.proofs.ArrangedLaws.{Rises}
+use Rattle.instance_lines.specs.Lists.{has, rises, strictly}
+use Rattle.instance_lines.proofs.ArrangedLaws.{Rises}
 
 -- Tests.
 

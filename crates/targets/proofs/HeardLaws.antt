@@ -19,7 +19,7 @@ use Rattle.ix_base.specs.LocatedElements.{Located, is_fact, is_text, is_tuple, o
 use Rattle.ix_base.specs.Membership.{deepest, nearest_tuple, owner, owner_by, owners, tuple_ref_of}
 use Rattle.ix_base.specs.Trees.{Tree}
 use Rattle.ix_base.proofs.OnceLemmas.{Contains-first, Contains-from_filter}
-use Rattle.targets.specs.Contents.{is_outer}
+use Rattle.target_contents.specs.Contents.{is_outer}
 use Rattle.targets.proofs.ForestLaws.{above, by_owner, heard}
 use Rattle.targets.proofs.TotalLaws.{when, when-has, when-most}
 

@@ -26,7 +26,7 @@ use Rattle.ix_base.specs.UnitForm.{Ratio, divided, measures_in, ratio_in, unit}
 use Rattle.xbrl_parts.proofs.SmallTimes.{by_side, chosen, step_ok}
 use Rattle.instance_out.specs.Proper.{is_full}
 use Rattle.targets.proofs.AllowedLaws.{token-allowed, token-is}
-use Rattle.targets.proofs.AmongLaws.{all-sorted}
+use Rattle.target_contents.proofs.AmongLaws.{all-sorted}
 use Rattle.targets.proofs.SoundLaws.{IsSoundAt, attribute-sound, name-sound, name_at-sound, only-sound, sound-alone, sound-in, sound-named, text-sound}
 
 some-same : {X : Type 0} {x y : X} → Some x ≡ Some y → x ≡ y

@@ -28,18 +28,18 @@ use Rattle.ix_base.specs.SortedLists.{sorted, text_cmp}
 use Rattle.ix_base.proofs.OnceLemmas.{Contains-filter, Contains-first, Contains-from_filter}
 use Rattle.footnotes.specs.FootnoteLinks.{notes}
 use Rattle.id_table.proofs.OtherLaws.{by-kind}
-use Rattle.instance_out.specs.Arrangement.{arranged, arranged_link}
-use Rattle.instance_out.specs.Holdings.{all_notes, fact_ids}
-use Rattle.instance_out.specs.Lists.{are_apart}
+use Rattle.instance_lines.specs.Arrangement.{arranged, arranged_link}
+use Rattle.instance_lines.specs.Holdings.{all_notes, fact_ids}
+use Rattle.instance_lines.specs.Lists.{are_apart}
 use Rattle.instance_out.specs.Proper.{all_ids, counted_once, ids_fit}
 use Rattle.targets.specs.ValidSets.{IsClean}
-use Rattle.targets.specs.Contents.{IsContent}
-use Rattle.targets.specs.PageSet.{PageSet, base_at, elements}
+use Rattle.target_contents.specs.Contents.{IsContent}
+use Rattle.target_contents.specs.PageSet.{PageSet, base_at, elements}
 use Rattle.targets.proofs.CleanLaws.{link-keeps}
-use Rattle.targets.proofs.FitLaws.{fact-inline}
+use Rattle.target_contents.proofs.FitLaws.{fact-inline}
 use Rattle.targets.proofs.FormLaws.{id-name, or-left, such-parts, text-of}
 use Rattle.targets.proofs.HolderLaws.{kinds-one, several-parts, speaker-is, speaker-none, speaker_such}
-use Rattle.targets.proofs.MemberLaws.{all-pass, from-map, passes-any}
+use Rattle.target_contents.proofs.MemberLaws.{all-pass, from-map, passes-any}
 use Rattle.targets.proofs.NoteSums.{IsOfNote, arranged-notes, from-counted, notes-once}
 use Rattle.targets.proofs.PartsFit.{context-names, contexts-once, unit-names, units-once}
 use Rattle.targets.proofs.SumLaws.{ids-most}

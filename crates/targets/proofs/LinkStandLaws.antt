@@ -10,11 +10,11 @@ use Rattle.ix_base.specs.Asks.{are_many, are_some, asks, only}
 use Rattle.ix_base.specs.Ids.{agree, are_doubled, foremost, foremost_of, holders, holds_id, holds_tuple_id, id_of, one, one_tuple, tuple_id_of}
 use Rattle.ix_base.specs.LocatedElements.{Located}
 use Rattle.id_table.proofs.AgreeLaws.{many-two}
-use Rattle.targets.specs.LinkStates.{GoesOn, Stands, pending, resolved, doubled, doubled_links, holder, id_stands, is_doubled, is_pending, is_tuple_ref, link_stands, pending_links, stands_by, tuple_stands}
+use Rattle.page_links.specs.LinkStates.{GoesOn, Stands, pending, resolved, doubled, doubled_links, holder, id_stands, is_doubled, is_pending, is_tuple_ref, link_stands, pending_links, stands_by, tuple_stands}
 use Rattle.link_ids.specs.Links.{Link, links}
-use Rattle.targets.specs.LinkTables.{is_none, is_parted, kept_among, kept_of, never}
-use Rattle.targets.proofs.CountLaws.{count-same}
-use Rattle.targets.proofs.KeptLaws.{alike-parted, never-parted, none-kept, standing-goes}
+use Rattle.page_links.specs.LinkTables.{is_none, is_parted, kept_among, kept_of, never}
+use Rattle.page_links.proofs.CountLaws.{count-same}
+use Rattle.page_links.proofs.KeptLaws.{alike-parted, never-parted, none-kept, standing-goes}
 
 some-lt : (n : ℕ) → nat_lt 0 (suc n) ≡ true
 some-lt n = first_of (search rules, grind arith, grind (arith, common_steps))

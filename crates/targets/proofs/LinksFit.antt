@@ -19,19 +19,19 @@ use Rattle.ix_base.specs.Once.{in_order}
 use Rattle.ix_base.specs.SortedLists.{text_cmp}
 use Rattle.ix_base.proofs.OnceLemmas.{Contains-cases, Contains-filter, Contains-first, Contains-from_filter, Contains-later, Contains-nil}
 use Rattle.footnotes.specs.FootnoteLinks.{Between, ends, footnote_of, label}
-use Rattle.instance_out.specs.Arrangement.{arranged, arranged_link}
-use Rattle.instance_out.specs.Holdings.{fact_ids}
-use Rattle.instance_out.specs.Lists.{has, is_within}
+use Rattle.instance_lines.specs.Arrangement.{arranged, arranged_link}
+use Rattle.instance_lines.specs.Holdings.{fact_ids}
+use Rattle.instance_lines.specs.Lists.{has, is_within}
 use Rattle.instance_out.specs.Proper.{arc_ends, is_whole_link, links_fit, note_ids}
 use Rattle.ix_base.specs.PlainContents.{said_of}
 use Rattle.targets.specs.ValidSets.{IsClean}
-use Rattle.targets.specs.Contents.{IsContent}
-use Rattle.targets.specs.Groups.{is_fact_of}
-use Rattle.targets.specs.PageSet.{PageSet, base_at, elements}
+use Rattle.target_contents.specs.Contents.{IsContent}
+use Rattle.target_contents.specs.Groups.{is_fact_of}
+use Rattle.target_contents.specs.PageSet.{PageSet, base_at, elements}
 use Rattle.targets.proofs.ArcLaws.{IsBetween, IsLinkOf, all-between, arc-among, arc-in, arc-kept, arc-own, arcs_of, arranged-locs, called, from-links, link-arc, link-notes}
 use Rattle.targets.proofs.UnbrokenLaws.{link-unbroken}
 use Rattle.targets.proofs.HasLaws.{from-order, in-texts, none-any}
-use Rattle.targets.proofs.MemberLaws.{all-pass, from-flat, from-given, from-map, in-flat, in-given, in-map, within-from}
+use Rattle.target_contents.proofs.MemberLaws.{all-pass, from-flat, from-given, from-map, in-flat, in-given, in-map, within-from}
 use Rattle.targets.proofs.SuchLaws.{IsSuch, such-is, such-too}
 
 with-true : (b c : Bool) → b ≡ true → (b && c) ≡ false → c ≡ false

@@ -15,9 +15,9 @@ use Rattle.ix_base.specs.LinkRules.{address_of, breaks, broken, found_at, lacks_
 use Rattle.ix_base.specs.LocatedElements.{Located, is_kind, is_text}
 use Rattle.ix_base.specs.Rows.{row}
 use Rattle.ix_base.proofs.OnceLemmas.{Contains-filter, Contains-from_filter, Contains-nil}
-use Rattle.targets.specs.RoleAddresses.{refers_to}
-use Rattle.targets.proofs.FitLaws.{flat-none, row-none}
-use Rattle.targets.proofs.MemberLaws.{from-map}
+use Rattle.target_contents.specs.RoleAddresses.{refers_to}
+use Rattle.target_contents.proofs.FitLaws.{flat-none, row-none}
+use Rattle.target_contents.proofs.MemberLaws.{from-map}
 
 is-role : (k : Kind) → same_kind k kind.RoleRef ≡ true → k ≡ kind.RoleRef
 is-role kind.RoleRef h = refl

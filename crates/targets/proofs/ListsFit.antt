@@ -15,22 +15,22 @@ use Rattle.ix_base.specs.Once.{in_order}
 use Rattle.ix_base.specs.SortedLists.{sorted, text_cmp}
 use Rattle.ix_base.specs.WrittenMarkup.{Markup}
 use Rattle.ix_base.proofs.OnceLemmas.{in_order-sorted}
-use Rattle.instance_out.specs.Arrangement.{arranged, arranged_link, by_line}
-use Rattle.instance_out.specs.Canonical.{Spaces, arc_line_cmp, arcrole_markup, content_spaces, fact_markups, line, line_cmp, linkbase_markup, role_markup, schema_markup}
-use Rattle.instance_out.specs.Elements.{arc_text, fact_markup}
-use Rattle.instance_out.specs.Holdings.{said_spaces}
-use Rattle.instance_out.specs.Lists.{rises, strictly}
+use Rattle.instance_lines.specs.Arrangement.{arranged, arranged_link, by_line}
+use Rattle.instance_lines.specs.Canonical.{Spaces, arc_line_cmp, arcrole_markup, content_spaces, fact_markups, line, line_cmp, linkbase_markup, role_markup, schema_markup}
+use Rattle.instance_lines.specs.Elements.{arc_text, fact_markup}
+use Rattle.instance_lines.specs.Holdings.{said_spaces}
+use Rattle.instance_lines.specs.Lists.{rises, strictly}
 use Rattle.instance_out.specs.Proper.{link_in_order, lists_fit}
 use Rattle.ix_base.specs.PlainContents.{said_of}
-use Rattle.instance_out.proofs.ArrangedLaws.{sorted-rises, spaces-arranged}
-use Rattle.instance_out.proofs.MarkupLaws.{fact_markups-are}
-use Rattle.instance_out.proofs.Sorting.{in_order-map, sorted-map}
+use Rattle.instance_lines.proofs.ArrangedLaws.{sorted-rises, spaces-arranged}
+use Rattle.instance_lines.proofs.MarkupLaws.{fact_markups-are}
+use Rattle.instance_lines.proofs.Sorting.{in_order-map, sorted-map}
 use Rattle.targets.specs.ValidSets.{IsClean}
-use Rattle.targets.specs.Contents.{IsContent, IsGathered}
-use Rattle.targets.specs.PageSet.{PageSet, base_at, elements}
+use Rattle.target_contents.specs.Contents.{IsContent, IsGathered}
+use Rattle.target_contents.specs.PageSet.{PageSet, base_at, elements}
 use Rattle.targets.proofs.ArcLaws.{IsLinkOf, arranged-arcs, arranged-locs, by_note, from-links, link-notes, link-strict, arcs_of}
 use Rattle.targets.proofs.HasLaws.{rises-is, strictly-is}
-use Rattle.targets.proofs.MemberLaws.{all-pass}
+use Rattle.target_contents.proofs.MemberLaws.{all-pass}
 
 line_total : IsTotalOrder line_cmp
 line_total = on_total line nat_list_cmp_total

@@ -12,12 +12,12 @@ use Rattle.ix_base.specs.LinkRules.{target_of}
 use Rattle.ix_base.specs.LocatedElements.{Located, is_fact}
 use Rattle.ix_base.specs.PlainContents.{said_of}
 use Rattle.ix_base.proofs.OnceLemmas.{Contains-from_filter}
-use Rattle.instance_out.specs.Holdings.{fact_ids}
+use Rattle.instance_lines.specs.Holdings.{fact_ids}
 use Rattle.instance_out.specs.Proper.{links_fit}
 use Rattle.targets.specs.ValidSets.{IsClean}
-use Rattle.targets.specs.Contents.{IsContent}
-use Rattle.targets.specs.Groups.{is_fact_of}
-use Rattle.targets.specs.PageSet.{PageSet, base_at, elements}
+use Rattle.target_contents.specs.Contents.{IsContent}
+use Rattle.target_contents.specs.Groups.{is_fact_of}
+use Rattle.target_contents.specs.PageSet.{PageSet, base_at, elements}
 use Rattle.targets.proofs.CleanLaws.{told, told-all}
 use Rattle.targets.proofs.HasLaws.{has-is}
 use Rattle.targets.proofs.LinksFit.{HaveIds, links-fit}

@@ -9,9 +9,9 @@ use Rattle.ix_base.specs.LocatedElements.{Paged}
 use Rattle.ix_base.specs.Sound.{IsSoundRoot}
 use Rattle.ix_base.specs.Trees.{tree_of}
 use Rattle.ix_base.specs.declared.tree.Element.{Element}
-use Rattle.targets.specs.declared.closing.Page.{Page}
+use Rattle.page_links.specs.declared.pages.Page.{Page}
 use Rattle.targets.specs.Forest.{AreSoundRoots, paged, trees_of}
-use Rattle.targets.specs.Model.{AreSoundFrom, as_paged}
+use Rattle.page_links.specs.Model.{AreSoundFrom, as_paged}
 
 -- the element at this index and those behind it
 pub cut_at : {X : Type 0} (xs : List X) (n : ℕ) (x : X) → n < length xs → x ≡ get_or xs n x → drop n xs ≡ x ∷ drop (n + 1) xs

@@ -25,7 +25,7 @@ use Rattle.url.specs.Parts.{Parts, serialize}
 use Rattle.xbrl_parts.proofs.SmallTimes.{by_side}
 use Rattle.facts.proofs.PlainLaws.{is_plain}
 use Rattle.targets.proofs.AllowedLaws.{allowed-append, allowed-from, allowed-nil, allowed-to, ncname-allowed}
-use Rattle.targets.proofs.AmongLaws.{all-sorted}
+use Rattle.target_contents.proofs.AmongLaws.{all-sorted}
 use Rattle.targets.proofs.AsciiLaws.{plain-allowed}
 use Rattle.targets.proofs.SoundLaws.{IsSoundAt}
 

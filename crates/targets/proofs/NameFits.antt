@@ -32,15 +32,15 @@ use Rattle.ix_base.specs.Scope.{element_name, is_qname}
 use Rattle.ix_base.specs.Steps.{◌>>=◌}
 use Rattle.ix_base.specs.Token.{token_of}
 use Rattle.ix_base.specs.Trees.{Named, Tree}
-use Rattle.instance_out.specs.Canonical.{context_names, dim_names, fact_names, member_names, unit_names}
-use Rattle.instance_out.specs.Holdings.{all_names}
+use Rattle.instance_lines.specs.Canonical.{context_names, dim_names, fact_names, member_names, unit_names}
+use Rattle.instance_lines.specs.Holdings.{all_names}
 use Rattle.instance_out.specs.Proper.{is_fact_name, is_name, names_fit}
 use Rattle.ix_base.specs.PlainContents.{said_of}
 use Rattle.targets.specs.ValidSets.{IsClean}
-use Rattle.targets.specs.Contents.{IsContent}
-use Rattle.targets.specs.PageSet.{PageSet, base_at, elements}
+use Rattle.target_contents.specs.Contents.{IsContent}
+use Rattle.target_contents.specs.PageSet.{PageSet, base_at, elements}
 use Rattle.targets.proofs.BelowLaws.{all-flat}
-use Rattle.targets.proofs.FitLaws.{fact-inline, none-broken, not-not, with-test}
+use Rattle.target_contents.proofs.FitLaws.{fact-inline, none-broken, not-not, with-test}
 use Rattle.targets.proofs.FromElements.{FromContext, FromItem, FromTuple, FromUnit, all-pass, contexts-from, every-name, every-weaker, facts-from, units-from}
 use Rattle.targets.proofs.HoldLaws.{IsSoundContext, IsSoundDim, IsSoundMember, IsSoundOwn, IsSoundUnit, context-sound, own-sound, unit-sound}
 use Rattle.targets.proofs.SoundLaws.{IsSoundAt, name_at-sound, sound-at}

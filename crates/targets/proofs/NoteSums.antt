@@ -16,12 +16,12 @@ use Rattle.ix_base.specs.Once.{in_order}
 use Rattle.ix_base.specs.SortedLists.{sorted, text_cmp}
 use Rattle.ix_base.proofs.OnceLemmas.{Contains-cases, Contains-first, Contains-from_filter, Contains-later}
 use Rattle.footnotes.specs.FootnoteLinks.{Between, arcs_in, ends, footnote_of, label, link_of, notes}
-use Rattle.instance_out.specs.Arrangement.{arranged_link, firsts}
-use Rattle.instance_out.specs.Elements.{footnote_text}
+use Rattle.instance_lines.specs.Arrangement.{arranged_link, firsts}
+use Rattle.instance_lines.specs.Elements.{footnote_text}
 use Rattle.instance_out.specs.Proper.{counted_once, same_note, same_option}
-use Rattle.targets.proofs.DepthLaws.{sorted-from}
+use Rattle.target_contents.proofs.DepthLaws.{sorted-from}
 use Rattle.targets.proofs.FormLaws.{such-parts}
-use Rattle.targets.proofs.MemberLaws.{any-passes, from-flat, from-given, from-map}
+use Rattle.target_contents.proofs.MemberLaws.{any-passes, from-flat, from-given, from-map}
 use Rattle.targets.proofs.PartLaws.{one-holds}
 use Rattle.targets.proofs.TotalLaws.{total, total-has, when, when-has}
 

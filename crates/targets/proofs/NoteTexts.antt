@@ -31,18 +31,18 @@ use Rattle.ix_base.specs.Token.{is_token, token_of}
 use Rattle.ix_base.specs.Trees.{Nodes, Tree, none, chars, elem}
 use Rattle.ix_base.proofs.OnceLemmas.{Contains-cases, Contains-nil}
 use Rattle.footnotes.specs.FootnoteLinks.{Between, footnote_of, footnote_role, label}
-use Rattle.instance_out.specs.Arrangement.{arranged}
-use Rattle.instance_out.specs.Holdings.{all_arcs, all_notes, arc_texts, link_texts, note_texts}
-use Rattle.instance_out.specs.Lists.{of_option}
+use Rattle.instance_lines.specs.Arrangement.{arranged}
+use Rattle.instance_lines.specs.Holdings.{all_arcs, all_notes, arc_texts, link_texts, note_texts}
+use Rattle.instance_lines.specs.Lists.{of_option}
 use Rattle.instance_out.specs.Proper.{is_full}
 use Rattle.targets.specs.ValidSets.{IsClean}
-use Rattle.targets.specs.Contents.{IsContent, IsGathered}
-use Rattle.targets.specs.PageSet.{PageSet, base_at, elements}
+use Rattle.target_contents.specs.Contents.{IsContent, IsGathered}
+use Rattle.target_contents.specs.PageSet.{PageSet, base_at, elements}
 use Rattle.targets.proofs.AllowedLaws.{allowed-nil}
 use Rattle.targets.proofs.ArcLaws.{IsBetween, all-between, arc-among, arc-from, arranged-role, arcs_of, from-links, note-from}
 use Rattle.targets.proofs.AsciiLaws.{decimal-allowed, plain-allowed}
 use Rattle.targets.proofs.HasLaws.{none-any}
-use Rattle.targets.proofs.MemberLaws.{all-pass, from-flat, from-map, in-flat}
+use Rattle.target_contents.proofs.MemberLaws.{all-pass, from-flat, from-map, in-flat}
 use Rattle.targets.proofs.HoldLaws.{IsGood, good-token}
 use Rattle.targets.proofs.LinksFit.{end-from, loc-fact}
 use Rattle.targets.proofs.MarkupTexts.{marked-allowed}

@@ -30,10 +30,10 @@ use Rattle.facts.specs.NumberValue.{IsNumberValue, Number, number_by, number_tex
 use Rattle.instance_out.specs.Proper.{fractions_fit, is_exact, is_numeric, is_ratio, is_unitless, numbers_fit, unitless_fit}
 use Rattle.ix_base.specs.PlainContents.{said_of}
 use Rattle.targets.specs.ValidSets.{IsClean}
-use Rattle.targets.specs.Contents.{IsContent}
-use Rattle.targets.specs.PageSet.{PageSet, base_at, elements}
+use Rattle.target_contents.specs.Contents.{IsContent}
+use Rattle.target_contents.specs.PageSet.{PageSet, base_at, elements}
 use Rattle.targets.proofs.CanonicalLaws.{integer-passes, number-passes, whole-form-passes}
-use Rattle.targets.proofs.FitLaws.{none-broken}
+use Rattle.target_contents.proofs.FitLaws.{none-broken}
 use Rattle.targets.proofs.FromElements.{FromItem, items-pass}
 
 -- How exact a number is.

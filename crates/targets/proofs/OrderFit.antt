@@ -15,19 +15,19 @@ use Rattle.ix_base.specs.Readers.{attr}
 use Rattle.ix_base.specs.Token.{token_of}
 use Rattle.footnotes.specs.FootnoteLinks.{Between, canonical_order}
 use Rattle.footnotes.proofs.OrderLaws.{canonical-is}
-use Rattle.instance_out.specs.Arrangement.{arranged}
-use Rattle.instance_out.specs.Holdings.{all_arcs}
+use Rattle.instance_lines.specs.Arrangement.{arranged}
+use Rattle.instance_lines.specs.Holdings.{all_arcs}
 use Rattle.instance_out.specs.Proper.{orders_fit}
 use Rattle.ix_base.specs.PlainContents.{said_of}
 use Rattle.scale_sign.proofs.Laws.{number-is}
 use Rattle.value_forms.proofs.DecimalLaws.{unsigned_is}
 use Rattle.targets.specs.ValidSets.{IsClean}
-use Rattle.targets.specs.Contents.{IsContent}
-use Rattle.targets.specs.PageSet.{PageSet, base_at, elements}
+use Rattle.target_contents.specs.Contents.{IsContent}
+use Rattle.target_contents.specs.PageSet.{PageSet, base_at, elements}
 use Rattle.targets.proofs.ArcLaws.{IsBetween, arc-from}
 use Rattle.targets.proofs.UnbrokenLaws.{element-unbroken}
 use Rattle.targets.proofs.CanonicalLaws.{number-passes}
-use Rattle.targets.proofs.MemberLaws.{all-pass}
+use Rattle.target_contents.proofs.MemberLaws.{all-pass}
 
 pub relation-inline : (k : Kind) → same_kind k kind.Relationship ≡ true → is_inline k ≡ true
 relation-inline kind.Relationship h = refl

@@ -9,8 +9,8 @@ use Rattle.ix_base.specs.declared.content.Tuple.{Tuple}
 use Rattle.ix_base.specs.Facts.{Facts, before, facts_of, none}
 use Rattle.ix_base.specs.SortedLists.{sorted}
 use Rattle.ix_base.proofs.FactLaws.{before-Item, before-Tuple}
-use Rattle.instance_out.specs.Holdings.{fact_ids, items_in}
-use Rattle.instance_out.specs.Lists.{of_option}
+use Rattle.instance_lines.specs.Holdings.{fact_ids, items_in}
+use Rattle.instance_lines.specs.Lists.{of_option}
 use Rattle.targets.proofs.TotalLaws.{total, total-append, total-sorted}
 
 module _ {Y : Type 0} (g : Facts → List Y) (w : Y → ℕ) (empty : g none ≡ []) (step : (f : Fact) (rest : Facts) → g (before f rest) ≡ g (before f none) ++ g rest) where

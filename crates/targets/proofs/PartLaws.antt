@@ -22,15 +22,15 @@ use Rattle.ix_base.specs.NcName.{is_ncname}
 use Rattle.ix_base.specs.SortedLists.{text_cmp}
 use Rattle.ix_base.proofs.OnceLemmas.{Contains-cases, Contains-filter, Contains-first, Contains-from_filter, Contains-nil, in_order-members, in_order-sorted}
 use Rattle.ix_base.proofs.OnceOrdered.{same_text}
-use Rattle.instance_out.specs.Holdings.{items_in}
-use Rattle.instance_out.specs.Lists.{of_option}
+use Rattle.instance_lines.specs.Holdings.{items_in}
+use Rattle.instance_lines.specs.Lists.{of_option}
 use Rattle.targets.specs.ValidSets.{IsClean}
-use Rattle.targets.specs.Contents.{IsContent, SaysItem, ids_named, is_item_of}
-use Rattle.targets.specs.PageSet.{PageSet, base_at, elements}
+use Rattle.target_contents.specs.Contents.{IsContent, SaysItem, ids_named, is_item_of}
+use Rattle.target_contents.specs.PageSet.{PageSet, base_at, elements}
 use Rattle.targets.proofs.FormLaws.{of-text, such-parts, text-of}
 use Rattle.targets.proofs.HolderLaws.{speaker-parts, speaker_such}
-use Rattle.targets.proofs.MemberLaws.{from-flat, from-given, from-map, in-flat, in-given, in-map-as}
-use Rattle.targets.proofs.SaidLaws.{said as said_by}
+use Rattle.target_contents.proofs.MemberLaws.{from-flat, from-given, from-map, in-flat, in-given, in-map-as}
+use Rattle.target_contents.proofs.SaidLaws.{said as said_by}
 use Rattle.targets.proofs.SumLaws.{item-back, item-there}
 use Rattle.targets.proofs.TotalLaws.{total, total-given, total-has, total-less, total-some, when, when-has, when-most}
 

@@ -16,18 +16,18 @@ use Rattle.ix_base.specs.LocatedElements.{Located}
 use Rattle.ix_base.specs.NcName.{is_ncname}
 use Rattle.ix_base.specs.PlainContents.{said_of}
 use Rattle.ix_base.specs.SortedLists.{sorted, text_cmp}
-use Rattle.instance_out.specs.Arrangement.{arranged}
-use Rattle.instance_out.specs.Holdings.{items_in}
-use Rattle.instance_out.specs.Lists.{is_within, of_option}
+use Rattle.instance_lines.specs.Arrangement.{arranged}
+use Rattle.instance_lines.specs.Holdings.{items_in}
+use Rattle.instance_lines.specs.Lists.{is_within, of_option}
 use Rattle.instance_out.specs.Proper.{parts_fit}
 use Rattle.targets.specs.ValidSets.{IsClean}
-use Rattle.targets.specs.Contents.{IsContent, SaysItem, context_at, contexts_of, unit_at, units_of}
+use Rattle.target_contents.specs.Contents.{IsContent, SaysItem, context_at, contexts_of, unit_at, units_of}
 use Rattle.link_ids.specs.Links.{context_named, unit_named}
-use Rattle.targets.specs.PageSet.{PageSet, base_at, elements}
-use Rattle.targets.proofs.DepthLaws.{sorted-from}
+use Rattle.target_contents.specs.PageSet.{PageSet, base_at, elements}
+use Rattle.target_contents.proofs.DepthLaws.{sorted-from}
 use Rattle.targets.proofs.FormLaws.{context-id, context-there, has-context, has-unit, names-context, unit-id, unit-there}
 use Rattle.targets.proofs.HolderLaws.{speaker_such}
-use Rattle.targets.proofs.MemberLaws.{from-map, in-map-as, in-sorted, within-from}
+use Rattle.target_contents.proofs.MemberLaws.{from-map, in-map-as, in-sorted, within-from}
 use Rattle.targets.proofs.PartLaws.{key-name, keys-once, there, used}
 use Rattle.targets.proofs.TotalLaws.{total, total-sorted, when}
 

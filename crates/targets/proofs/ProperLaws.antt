@@ -8,14 +8,14 @@ use Rattle.ix_base.specs.declared.content.Content.{Content}
 use Rattle.ix_base.specs.PlainContents.{said_of}
 use Rattle.ix_base.specs.Sound.{IsSoundTree}
 use Rattle.instance_out.specs.Proper.{Proper, is_proper}
-use Rattle.targets.specs.declared.outcome.Outcome.{Outcome}
-use Rattle.targets.specs.declared.outcome.Outcome.TheVariants.{Broken, Whole}
-use Rattle.targets.specs.declared.outcome.Target.{Target}
+use Rattle.target_contents.specs.declared.outcome.Outcome.{Outcome}
+use Rattle.target_contents.specs.declared.outcome.Outcome.TheVariants.{Broken, Whole}
+use Rattle.target_contents.specs.declared.outcome.Target.{Target}
 use Rattle.targets.specs.ValidSets.{AreProper, IsClean}
-use Rattle.targets.specs.Contents.{IsContent}
-use Rattle.targets.specs.Faults.{element_faults, link_faults}
-use Rattle.targets.specs.SetOutcomes.{ComesOfValues, ComesTo, FirstOf, IsReport, ComesToTargets}
-use Rattle.targets.specs.PageSet.{PageSet, base_at, elements, names}
+use Rattle.target_contents.specs.Contents.{IsContent}
+use Rattle.target_contents.specs.Faults.{element_faults, link_faults}
+use Rattle.target_contents.specs.SetOutcomes.{ComesOfValues, ComesTo, FirstOf, IsReport, ComesToTargets}
+use Rattle.target_contents.specs.PageSet.{PageSet, base_at, elements, names}
 use Rattle.targets.proofs.BodiesFit.{bodies-fit}
 use Rattle.targets.proofs.FormFits.{forms-fit}
 use Rattle.targets.proofs.IdsFit.{ids-fit}

@@ -23,17 +23,17 @@ use Rattle.id_table.specs.Renumbering.{moved}
 use Rattle.id_table.proofs.Asking.{map-filter}
 use Rattle.id_table.proofs.Rearranged.{asks-same}
 use Rattle.id_table.proofs.Renumbered.{map-twice}
-use Rattle.instance_out.specs.Arrangement.{arranged}
-use Rattle.instance_out.specs.Canonical.{canon}
+use Rattle.instance_lines.specs.Arrangement.{arranged}
+use Rattle.instance_lines.specs.Canonical.{canon}
 use Rattle.instance_out.proofs.BackLaws.{one-text}
-use Rattle.targets.specs.declared.outcome.Outcome.{Outcome}
-use Rattle.targets.specs.declared.outcome.Outcome.TheVariants.{Broken, Whole}
-use Rattle.targets.specs.declared.outcome.Target.{Target}
+use Rattle.target_contents.specs.declared.outcome.Outcome.{Outcome}
+use Rattle.target_contents.specs.declared.outcome.Outcome.TheVariants.{Broken, Whole}
+use Rattle.target_contents.specs.declared.outcome.Target.{Target}
 use Rattle.targets.specs.ValidSets.{IsClean}
-use Rattle.targets.specs.Contents.{IsContent, target_names, targets_at}
-use Rattle.targets.specs.Faults.{AreOfItems, AreValueFaults, element_faults, faults_from, link_faults}
-use Rattle.targets.specs.SetOutcomes.{ComesOfValues, ComesTo, FirstOf, ComesToTargets}
-use Rattle.targets.specs.PageSet.{PageSet, asked, base_at, elements, names}
+use Rattle.target_contents.specs.Contents.{IsContent, target_names, targets_at}
+use Rattle.target_contents.specs.Faults.{AreOfItems, AreValueFaults, element_faults, faults_from, link_faults}
+use Rattle.target_contents.specs.SetOutcomes.{ComesOfValues, ComesTo, FirstOf, ComesToTargets}
+use Rattle.target_contents.specs.PageSet.{PageSet, asked, base_at, elements, names}
 use Rattle.targets.proofs.ContentsMoved.{gathered-moved}
 use Rattle.targets.proofs.ContentsShuffled.{gathered-shuffled}
 use Rattle.targets.proofs.Exchanged.{exchanged, numbered, said_at, stay_apart, swap_at}

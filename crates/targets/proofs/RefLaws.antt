@@ -29,16 +29,16 @@ use Rattle.ix_base.specs.Readers.{token_at}
 use Rattle.ix_base.specs.Token.{is_token, token_of}
 use Rattle.ix_base.specs.Trees.{Tree}
 use Rattle.url.specs.Parts.{Parts, serialize}
-use Rattle.instance_out.specs.Arrangement.{arranged, by_line}
-use Rattle.instance_out.specs.Canonical.{arcrole_markup, linkbase_markup, role_markup, schema_markup}
-use Rattle.instance_out.specs.Lists.{of_option}
+use Rattle.instance_lines.specs.Arrangement.{arranged, by_line}
+use Rattle.instance_lines.specs.Canonical.{arcrole_markup, linkbase_markup, role_markup, schema_markup}
+use Rattle.instance_lines.specs.Lists.{of_option}
 use Rattle.targets.specs.ValidSets.{IsClean}
 use Rattle.ix_base.specs.Asks.{first_of}
-use Rattle.targets.specs.Contents.{IsContent, if_any, is_linkbase_for, linkbase_at, role_at, role_to}
-use Rattle.targets.specs.PageSet.{PageSet, base_at, elements}
-use Rattle.targets.specs.RoleAddresses.{refers_to}
+use Rattle.target_contents.specs.Contents.{IsContent, if_any, is_linkbase_for, linkbase_at, role_at, role_to}
+use Rattle.target_contents.specs.PageSet.{PageSet, base_at, elements}
+use Rattle.target_contents.specs.RoleAddresses.{refers_to}
 use Rattle.targets.proofs.AllowedLaws.{allowed-nil}
-use Rattle.targets.proofs.FitLaws.{none-broken, not-not}
+use Rattle.target_contents.proofs.FitLaws.{none-broken, not-not}
 use Rattle.targets.proofs.HoldLaws.{IsGood, good-token}
 use Rattle.targets.proofs.SoundLaws.{IsSoundAt, attribute-sound, sound-at}
 

@@ -9,15 +9,15 @@ use Rattle.ix_base.specs.Ids.{agree, foremost, foremost_of, holders, holds_id, i
 use Rattle.ix_base.specs.LocatedElements.{Located, is_text, marked, offset_of}
 use Rattle.ix_base.specs.SortedLists.{text_cmp}
 use Rattle.ix_base.proofs.OnceLemmas.{Contains-first, Contains-later}
-use Rattle.targets.specs.declared.closing.Page.{Page}
-use Rattle.targets.specs.declared.standing.Links.{Links}
-use Rattle.targets.specs.Choices.{choice}
-use Rattle.targets.specs.Model.{as_paged, names_with}
-use Rattle.targets.specs.LinkStates.{is_tuple_ref}
+use Rattle.page_links.specs.declared.pages.Page.{Page}
+use Rattle.page_links.specs.declared.standing.Links.{Links}
+use Rattle.page_links.specs.Choices.{choice}
+use Rattle.page_links.specs.Model.{as_paged, names_with}
+use Rattle.page_links.specs.LinkStates.{is_tuple_ref}
 use Rattle.link_ids.specs.Links.{Link, links}
-use Rattle.targets.specs.LinkTables.{AreLinks, none, some, parted, is_none, is_parted, kept_among, kept_from, kept_of, names_id, names_tuple_id, never, sooner}
-use Rattle.targets.proofs.CountLaws.{count-same}
-use Rattle.targets.proofs.KeptLaws.{parted-from}
+use Rattle.page_links.specs.LinkTables.{AreLinks, none, some, parted, is_none, is_parted, kept_among, kept_from, kept_of, names_id, names_tuple_id, never, sooner}
+use Rattle.page_links.proofs.CountLaws.{count-same}
+use Rattle.page_links.proofs.KeptLaws.{parted-from}
 use Rattle.targets.proofs.PlaceLaws.{marked_from-numbered}
 
 -- both name the page of this element the same

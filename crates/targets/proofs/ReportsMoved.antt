@@ -9,9 +9,9 @@ use Rattle.ix_base.specs.Breaches.{named, report_of}
 use Rattle.ix_base.proofs.OnceLemmas.{Contains-first, Contains-nil, SameMembers-permutation}
 use Rattle.ix_base.proofs.ReportLemmas.{report-same}
 use Rattle.id_table.proofs.Renumbered.{map-same, map-twice}
-use Rattle.targets.specs.declared.outcome.Outcome.{Outcome}
-use Rattle.targets.specs.declared.outcome.Outcome.TheVariants.{Broken, Whole}
-use Rattle.targets.specs.SetOutcomes.{FirstOf, IsReport}
+use Rattle.target_contents.specs.declared.outcome.Outcome.{Outcome}
+use Rattle.target_contents.specs.declared.outcome.Outcome.TheVariants.{Broken, Whole}
+use Rattle.target_contents.specs.SetOutcomes.{FirstOf, IsReport}
 use Rattle.targets.proofs.FaultsMoved.{found_moved, named-moved}
 
 pub none-left : {X Y : Type 0} (f : X → Y) (xs : List X) (ys : List Y) → IsPermutation (map f xs) ys → ys ≡ [] → xs ≡ []

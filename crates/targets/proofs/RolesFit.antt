@@ -22,20 +22,20 @@ use Rattle.ix_base.specs.Once.{in_order, put as put_once, put_by as put_once_by}
 use Rattle.ix_base.specs.SortedLists.{text_cmp}
 use Rattle.ix_base.proofs.OnceLemmas.{Contains-cases, Contains-first, Contains-later, Contains-nil, in_order-sorted}
 use Rattle.footnotes.specs.FootnoteLinks.{notes}
-use Rattle.instance_out.specs.Arrangement.{arranged, arranged_link, by_line}
-use Rattle.instance_out.specs.Canonical.{arcrole_markup, role_markup}
-use Rattle.instance_out.specs.Holdings.{all_arcs, all_notes}
-use Rattle.instance_out.specs.Lists.{are_apart}
+use Rattle.instance_lines.specs.Arrangement.{arranged, arranged_link, by_line}
+use Rattle.instance_lines.specs.Canonical.{arcrole_markup, role_markup}
+use Rattle.instance_lines.specs.Holdings.{all_arcs, all_notes}
+use Rattle.instance_lines.specs.Lists.{are_apart}
 use Rattle.instance_out.specs.Proper.{roles_fit}
 use Rattle.ix_base.specs.PlainContents.{said_of}
 use Rattle.targets.specs.ValidSets.{IsClean}
 use Rattle.ix_base.specs.Asks.{first_of}
-use Rattle.targets.specs.Contents.{IsContent, IsGathered, arcroles_in, role_at, role_to, roles_for, roles_in, uris_in}
-use Rattle.targets.specs.PageSet.{PageSet, base_at, elements}
-use Rattle.targets.specs.RoleAddresses.{refers_to}
+use Rattle.target_contents.specs.Contents.{IsContent, IsGathered, arcroles_in, role_at, role_to, roles_for, roles_in, uris_in}
+use Rattle.target_contents.specs.PageSet.{PageSet, base_at, elements}
+use Rattle.target_contents.specs.RoleAddresses.{refers_to}
 use Rattle.targets.proofs.ArcLaws.{all-links, arc-kept, arranged-role, in-links, link-notes}
 use Rattle.targets.proofs.HasLaws.{any-none, from-order, once-from}
-use Rattle.targets.proofs.MemberLaws.{from-flat, from-given, from-map, in-flat, in-map, within-from}
+use Rattle.target_contents.proofs.MemberLaws.{from-flat, from-given, from-map, in-flat, in-map, within-from}
 
 -- no two of these have one text
 module _ {X : Type 0} (f : X → List ℕ) where

@@ -10,11 +10,11 @@ use Rattle.ix_base.specs.Spots.{IsOnOnePage}
 use Rattle.id_table.specs.Model.{Choice, Held, chosen_in}
 use Rattle.id_table.specs.Tables.{AreOnOwnPages, all_located}
 use Rattle.scopes.specs.Model.{Kept}
-use Rattle.targets.specs.declared.closing.Page.{Page}
-use Rattle.targets.specs.declared.standing.Links.{Links}
-use Rattle.targets.specs.Choices.{HasChoices}
-use Rattle.targets.specs.Model.{Keeps, as_paged, names_with}
-use Rattle.targets.specs.LinkTables.{AreLinked, AreLinks}
+use Rattle.page_links.specs.declared.pages.Page.{Page}
+use Rattle.page_links.specs.declared.standing.Links.{Links}
+use Rattle.page_links.specs.Choices.{HasChoices}
+use Rattle.page_links.specs.Model.{Keeps, as_paged, names_with}
+use Rattle.page_links.specs.LinkTables.{AreLinked, AreLinks}
 use Rattle.targets.proofs.ClosingLaws.{part-drop, part_from}
 use Rattle.targets.proofs.RenamedLaws.{choice-renamed, links-renamed, named-after, named-before}
 

@@ -19,17 +19,17 @@ use Rattle.ix_base.specs.SortedLists.{sorted, text_cmp}
 use Rattle.ix_base.specs.WrittenMarkup.{Markup}
 use Rattle.ix_base.proofs.OnceOrdered.{same_text}
 use Rattle.ix_base.proofs.SortedLemmas.{sorted-same}
-use Rattle.instance_out.specs.Arrangement.{arranged, arranged_link, with_arranged_links}
-use Rattle.instance_out.specs.Canonical.{Spaces, arcrole_markup, canon, canon_lines, children, content_spaces, context_markup, context_names}
-use Rattle.instance_out.specs.Canonical.{fact_markups, fact_names, first_line, last_line, line, line_cmp, linkbase_markup, lines_with}
-use Rattle.instance_out.specs.Canonical.{link_markup, role_markup, root_line, schema_markup, unit_markup, unit_names}
-use Rattle.instance_out.specs.Elements.{fact_markup}
-use Rattle.instance_out.specs.Prefixes.{is_known, spaces_of}
-use Rattle.instance_out.specs.Tables.{own_spaces}
-use Rattle.instance_out.proofs.ArrangedLaws.{lines-arranged, names_in, names_of, spaces-behind}
-use Rattle.instance_out.proofs.MarkupLaws.{fact_markups-are}
-use Rattle.instance_out.proofs.PrefixLaws.{spaces_of-in_order}
-use Rattle.instance_out.proofs.Sorting.{once_lines, sorted_lines}
+use Rattle.instance_lines.specs.Arrangement.{arranged, arranged_link, with_arranged_links}
+use Rattle.instance_lines.specs.Canonical.{Spaces, arcrole_markup, canon, canon_lines, children, content_spaces, context_markup, context_names}
+use Rattle.instance_lines.specs.Canonical.{fact_markups, fact_names, first_line, last_line, line, line_cmp, linkbase_markup, lines_with}
+use Rattle.instance_lines.specs.Canonical.{link_markup, role_markup, root_line, schema_markup, unit_markup, unit_names}
+use Rattle.instance_lines.specs.Elements.{fact_markup}
+use Rattle.instance_lines.specs.Prefixes.{is_known, spaces_of}
+use Rattle.instance_lines.specs.Tables.{own_spaces}
+use Rattle.instance_lines.proofs.ArrangedLaws.{lines-arranged, names_in, names_of, spaces-behind}
+use Rattle.instance_lines.proofs.MarkupLaws.{fact_markups-are}
+use Rattle.instance_lines.proofs.PrefixLaws.{spaces_of-in_order}
+use Rattle.instance_lines.proofs.Sorting.{once_lines, sorted_lines}
 use Rattle.footnotes.proofs.NotesSame.{IsPermutation-flat_map, texts-same}
 
 -- they differ in the order of references and of facts alone

@@ -22,9 +22,9 @@ use Rattle.ix_base.specs.Token.{token_of}
 use Rattle.ix_base.specs.Trees.{Bound, Named, Nodes, Tree, Valued, none, chars, elem}
 use Rattle.xbrl_parts.proofs.SmallTimes.{chosen, step_ok}
 use Rattle.targets.specs.ValidSets.{IsClean}
-use Rattle.targets.specs.PageSet.{PageSet, elements}
+use Rattle.target_contents.specs.PageSet.{PageSet, elements}
 use Rattle.targets.proofs.AllowedLaws.{allowed-nil, token-allowed}
-use Rattle.targets.proofs.FitLaws.{of-map}
+use Rattle.target_contents.proofs.FitLaws.{of-map}
 
 -- a sound element, with what it holds
 abbrev pub IsSoundAt : Tree → Type 0

@@ -7,8 +7,8 @@ use Rattle.ix_base.specs.declared.content.Arc.{Arc}
 use Rattle.ix_base.specs.declared.content.Footnote.{Footnote}
 use Rattle.ix_base.specs.Escapes.{ae, ae_ref, put}
 use Rattle.ix_base.specs.WrittenMarkup.{attrs_text, close_text}
-use Rattle.instance_out.specs.Canonical.{attr, attr_if}
-use Rattle.instance_out.specs.Elements.{arc_text, footnote_text}
+use Rattle.instance_lines.specs.Canonical.{attr, attr_if}
+use Rattle.instance_lines.specs.Elements.{arc_text, footnote_text}
 
 -- The characters that have references, and the others.
 code-cases : (P : ℕ → Type 0) → P 34 → P 9 → P 10 → P 38 → P 60 → P 62 → P 13

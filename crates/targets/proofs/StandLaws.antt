@@ -10,7 +10,7 @@ use Rattle.ix_base.specs.LocatedElements.{Located, Paged, is_marked, marked, mar
 use Rattle.ix_base.specs.Sound.{IsSoundTree, Rise}
 use Rattle.ix_base.proofs.OnceLemmas.{Contains-cases, Contains-first, Contains-from_filter, Contains-later, Contains-nil}
 use Rattle.targets.proofs.ForestLaws.{StandOnce}
-use Rattle.targets.proofs.MemberLaws.{from-map}
+use Rattle.target_contents.proofs.MemberLaws.{from-map}
 use Rattle.targets.proofs.PlaceLaws.{RisesOn, marked_from-numbered, offset_at, offsets-elements, page_marked-on, rise-later, rise-rest}
 use Rattle.targets.proofs.TotalLaws.{total, total-same, total-zero, when}
 

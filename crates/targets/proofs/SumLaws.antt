@@ -16,13 +16,13 @@ use Rattle.ix_base.specs.Kinds.{kind_of, same_kind}
 use Rattle.ix_base.specs.LinkRules.{target_of}
 use Rattle.ix_base.specs.LocatedElements.{Located, is_fact, is_item, is_tuple}
 use Rattle.ix_base.specs.Membership.{deepest}
-use Rattle.instance_out.specs.Arrangement.{arranged, by_line}
-use Rattle.instance_out.specs.Canonical.{content_spaces}
-use Rattle.instance_out.specs.Elements.{fact_markup}
-use Rattle.instance_out.specs.Holdings.{fact_ids, items_in}
+use Rattle.instance_lines.specs.Arrangement.{arranged, by_line}
+use Rattle.instance_lines.specs.Canonical.{content_spaces}
+use Rattle.instance_lines.specs.Elements.{fact_markup}
+use Rattle.instance_lines.specs.Holdings.{fact_ids, items_in}
 use Rattle.targets.specs.ValidSets.{IsClean}
-use Rattle.targets.specs.Contents.{IsContent, SaysItem, is_item_of, is_outer}
-use Rattle.targets.specs.PageSet.{PageSet, base_at, elements}
+use Rattle.target_contents.specs.Contents.{IsContent, SaysItem, is_item_of, is_outer}
+use Rattle.target_contents.specs.PageSet.{PageSet, base_at, elements}
 use Rattle.targets.proofs.CleanLaws.{told, told-all, told-most, told-of}
 use Rattle.targets.proofs.OrderedFacts.{ids-ordered, items-ordered}
 use Rattle.targets.proofs.TotalLaws.{total, when, when-has}

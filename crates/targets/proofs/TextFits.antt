@@ -22,13 +22,13 @@ use Rattle.ix_base.specs.NcName.{are_allowed}
 use Rattle.ix_base.specs.Readers.{is_nil, token_at, unit_of}
 use Rattle.ix_base.specs.Trees.{Tree}
 use Rattle.facts.specs.ItemValue.{item_text}
-use Rattle.instance_out.specs.Holdings.{accuracy_texts, all_names, all_texts, context_texts, fact_ids, item_texts, items_in, link_texts, member_texts, ref_texts, value_texts}
-use Rattle.instance_out.specs.Lists.{of_option}
+use Rattle.instance_lines.specs.Holdings.{accuracy_texts, all_names, all_texts, context_texts, fact_ids, item_texts, items_in, link_texts, member_texts, ref_texts, value_texts}
+use Rattle.instance_lines.specs.Lists.{of_option}
 use Rattle.instance_out.specs.Proper.{texts_fit}
 use Rattle.ix_base.specs.PlainContents.{said_of}
 use Rattle.targets.specs.ValidSets.{IsClean}
-use Rattle.targets.specs.Contents.{IsContent}
-use Rattle.targets.specs.PageSet.{PageSet, base_at, elements}
+use Rattle.target_contents.specs.Contents.{IsContent}
+use Rattle.target_contents.specs.PageSet.{PageSet, base_at, elements}
 use Rattle.targets.proofs.AllowedLaws.{allowed-nil, ncname-allowed}
 use Rattle.targets.proofs.AsciiLaws.{accuracy-allowed}
 use Rattle.targets.proofs.BelowLaws.{all-flat}

@@ -7,13 +7,13 @@ use Rattle.ix_base.specs.declared.content.Content.{Content}
 use Rattle.ix_base.specs.declared.content.Context.{Context}
 use Rattle.ix_base.specs.declared.content.Linkbase.{Linkbase}
 use Rattle.ix_base.specs.declared.content.RoleRef.{RoleRef}
-use Rattle.instance_out.specs.Holdings.{all_arcs, all_notes, ref_texts, token_texts}
-use Rattle.instance_out.specs.Lists.{of_option}
+use Rattle.instance_lines.specs.Holdings.{all_arcs, all_notes, ref_texts, token_texts}
+use Rattle.instance_lines.specs.Lists.{of_option}
 use Rattle.instance_out.specs.Proper.{is_full, tokens_fit}
 use Rattle.ix_base.specs.PlainContents.{Said, said_of}
 use Rattle.targets.specs.ValidSets.{IsClean}
-use Rattle.targets.specs.Contents.{IsContent}
-use Rattle.targets.specs.PageSet.{PageSet, base_at, elements}
+use Rattle.target_contents.specs.Contents.{IsContent}
+use Rattle.target_contents.specs.PageSet.{PageSet, base_at, elements}
 use Rattle.targets.proofs.BelowLaws.{all-flat}
 use Rattle.targets.proofs.FromElements.{all-pass}
 use Rattle.targets.proofs.NameFits.{contexts-sound}

@@ -22,21 +22,21 @@ use Rattle.ix_base.specs.Orders.{order_cmp}
 use Rattle.ix_base.specs.SortedLists.{sorted}
 use Rattle.ix_base.proofs.FactLaws.{before-Item, before-Tuple}
 use Rattle.ix_base.proofs.OnceLemmas.{Contains-first, Contains-from_filter, Contains-later, Contains-nil}
-use Rattle.instance_out.specs.Arrangement.{arranged, by_line}
-use Rattle.instance_out.specs.Canonical.{content_spaces}
-use Rattle.instance_out.specs.Elements.{fact_markup}
+use Rattle.instance_lines.specs.Arrangement.{arranged, by_line}
+use Rattle.instance_lines.specs.Canonical.{content_spaces}
+use Rattle.instance_lines.specs.Elements.{fact_markup}
 use Rattle.instance_out.specs.Proper.{is_none_nil, nil_is_empty, tuples_fit}
 use Rattle.ix_base.specs.PlainContents.{said_of}
-use Rattle.instance_out.specs.Writable.{depth}
-use Rattle.instance_out.proofs.WritableLaws.{writable-arranged}
+use Rattle.instance_lines.specs.Writable.{depth}
+use Rattle.instance_lines.proofs.WritableLaws.{writable-arranged}
 use Rattle.targets.specs.ValidSets.{IsClean}
-use Rattle.targets.specs.Contents.{IsContent, SaysItem, is_outer}
-use Rattle.targets.specs.PageSet.{PageSet, base_at, elements}
-use Rattle.targets.specs.TargetFacts.{AreFacts, members_read, one_less}
+use Rattle.target_contents.specs.Contents.{IsContent, SaysItem, is_outer}
+use Rattle.target_contents.specs.PageSet.{PageSet, base_at, elements}
+use Rattle.target_contents.specs.TargetFacts.{AreFacts, members_read, one_less}
 use Rattle.targets.proofs.UnbrokenLaws.{elements-apart, elements-owned, link-unbroken, none-too-deep}
-use Rattle.targets.proofs.ContentLaws.{gathered-writable, outer-shallow}
+use Rattle.target_contents.proofs.ContentLaws.{gathered-writable, outer-shallow}
 use Rattle.targets.proofs.HasLaws.{all-at, from-sorted}
-use Rattle.targets.proofs.MemberLaws.{all-pass}
+use Rattle.target_contents.proofs.MemberLaws.{all-pass}
 
 owner-at : (t : Located) (o : Option Located) → option_map_or (same_place t) o false ≡ true → (p : Located) × (o ≡ Some p) × (same_place t p ≡ true)
 owner-at t None h = absurd (cc)

@@ -10,9 +10,9 @@ use Rattle.ix_base.specs.LocatedElements.{Located, same_place}
 use Rattle.ix_base.specs.Membership.{owner}
 use Rattle.ix_base.specs.Rows.{row}
 use Rattle.targets.specs.ValidSets.{IsClean}
-use Rattle.targets.specs.PageSet.{PageSet, base_at, elements}
+use Rattle.target_contents.specs.PageSet.{PageSet, base_at, elements}
 use Rattle.targets.proofs.AboveLaws.{owner_marked}
-use Rattle.targets.proofs.FitLaws.{flat-none, none-broken, row-none}
+use Rattle.target_contents.proofs.FitLaws.{flat-none, none-broken, row-none}
 use Rattle.targets.proofs.PlaceLaws.{apart}
 
 -- no element breaks a rule on links

@@ -24,10 +24,10 @@ use Rattle.facts.proofs.PlainLaws.{said-plain}
 use Rattle.facts.specs.FractionValue.{IsFractionValue}
 use Rattle.facts.specs.ItemValue.{IsPlain, IsTextBy, IsValueBy, ItemText, item_text}
 use Rattle.facts.specs.NumberValue.{IsNumberValue, number_by, number_text}
-use Rattle.instance_out.specs.Holdings.{value_texts}
+use Rattle.instance_lines.specs.Holdings.{value_texts}
 use Rattle.instance_out.specs.Proper.{is_ratio}
 use Rattle.targets.specs.ValidSets.{IsClean}
-use Rattle.targets.specs.PageSet.{PageSet, base_at, elements}
+use Rattle.target_contents.specs.PageSet.{PageSet, base_at, elements}
 use Rattle.targets.proofs.AsciiLaws.{decimal-allowed, plain-allowed}
 use Rattle.targets.proofs.FromElements.{such-there}
 use Rattle.targets.proofs.MarkupTexts.{IsAllowed, along-allowed, marked-allowed}

@@ -5,11 +5,11 @@ use Rattle.ix_base.specs.Asks.{asks}
 use Rattle.ix_base.specs.declared.breach.Found.{Found}
 use Rattle.ix_base.specs.LocatedElements.{Located, base_in, is_item}
 use Rattle.facts.specs.ItemValue.{IsItem}
-use Rattle.targets.specs.declared.outcome.Outcome.{Outcome}
-use Rattle.targets.specs.Faults.{AreOfItems}
-use Rattle.targets.specs.LinkedSets.{BasedElements}
-use Rattle.targets.specs.PageSet.{PageSet, base_at, elements, page_bases}
-use Rattle.targets.specs.SetOutcomes.{AreAllTargets, ComesOfValues}
+use Rattle.target_contents.specs.declared.outcome.Outcome.{Outcome}
+use Rattle.target_contents.specs.Faults.{AreOfItems}
+use Rattle.target_contents.specs.LinkedSets.{BasedElements}
+use Rattle.target_contents.specs.PageSet.{PageSet, base_at, elements, page_bases}
+use Rattle.target_contents.specs.SetOutcomes.{AreAllTargets, ComesOfValues}
 
 -- a set with these elements and bases, whose values break no rule, comes to its targets
 pub values-come : (s : PageSet) (b : BasedElements) (found : List Found) (o : Outcome) → b.elements ≡ elements s → b.bases ≡ page_bases s

@@ -11,7 +11,7 @@ use Rattle.ix_base.proofs.ExchangeLemmas.{by_exchanges}
 use Rattle.footnotes.proofs.NotesSame.{swap_parts}
 use Rattle.id_table.specs.Renumbering.{moved}
 use Rattle.facts.specs.Verdicts.{rule_said}
-use Rattle.targets.specs.Faults.{AreOfItems, fault_by, value_fault}
+use Rattle.target_contents.specs.Faults.{AreOfItems, fault_by, value_fault}
 use Rattle.targets.proofs.FaultsMoved.{found_moved}
 
 fault-moved : (r : ℕ → ℕ) (e : Located) (o : Option Rule) → fault_by (moved r e) o ≡ map (found_moved r) (fault_by e o)

@@ -8,9 +8,9 @@ use Rattle.ix_base.specs.Facts.{Facts, none, item, tuple}
 use Rattle.ix_base.specs.Ids.{id_of}
 use Rattle.ix_base.specs.LocatedElements.{Located, is_tuple}
 use Rattle.ix_base.specs.Membership.{members}
-use Rattle.instance_out.specs.Holdings.{fact_ids, items_in}
-use Rattle.instance_out.specs.Lists.{of_option}
-use Rattle.targets.specs.TargetFacts.{AreFacts, members_read, one_less}
+use Rattle.instance_lines.specs.Holdings.{fact_ids, items_in}
+use Rattle.instance_lines.specs.Lists.{of_option}
+use Rattle.target_contents.specs.TargetFacts.{AreFacts, members_read, one_less}
 use Rattle.targets.proofs.ForestLaws.{walk}
 use Rattle.targets.proofs.TotalLaws.{total, total-append, when}
 

@@ -8,9 +8,9 @@ use Rattle.ix_base.specs.declared.rule.Rule.{Rule}
 use Rattle.ix_base.specs.declared.rule.Rule.TheVariants.{S1, S2}
 use Rattle.ix_base.specs.Trees.{Tree}
 use Rattle.page_tree.specs.Break.{Fault, w}
-use Rattle.targets.specs.declared.outcome.Outcome.{Outcome}
+use Rattle.target_contents.specs.declared.outcome.Outcome.{Outcome}
 use Rattle.targets.specs.Forest.{AreTrees, page_set}
-use Rattle.targets.specs.SetOutcomes.{ComesTo, IsReport}
+use Rattle.target_contents.specs.SetOutcomes.{ComesTo, IsReport}
 
 -- how many of the bytes are `<`
 abbrev pub tags_in : List ℕ → ℕ

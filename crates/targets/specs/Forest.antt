@@ -7,7 +7,7 @@ use Rattle.ix_base.specs.LocatedElements.{Paged}
 use Rattle.ix_base.specs.Sound.{IsSoundRoot}
 use Rattle.ix_base.specs.Trees.{Tree, tree_of}
 use Rattle.page_tree.specs.Page.{page}
-use Rattle.targets.specs.PageSet.{PageSet}
+use Rattle.target_contents.specs.PageSet.{PageSet}
 
 -- these are the trees of pages with these bytes
 abbrev pub AreTrees : List (List ℕ) → List Tree → Type 0

@@ -1,16 +1,3 @@
 pub mod Breaches
-pub mod Choices
-pub mod Contents
-pub mod Faults
 pub mod Forest
-pub mod Groups
-pub mod LinkStates
-pub mod LinkTables
-pub mod LinkedSets
-pub mod Model
-pub mod PageSet
-pub mod RoleAddresses
-pub mod SetOutcomes
-pub mod TargetFacts
 pub mod ValidSets
-pub mod Visits

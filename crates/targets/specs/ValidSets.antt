@@ -4,10 +4,10 @@ use Rattle.ix_base.specs.declared.limits.TheConstants.{DEEPEST_ELEMENT}
 use Rattle.ix_base.specs.Sound.{IsSoundTree}
 use Rattle.instance_out.specs.Proper.{Proper}
 use Rattle.ix_base.specs.PlainContents.{said_of}
-use Rattle.targets.specs.declared.outcome.Outcome.{Outcome}
-use Rattle.targets.specs.declared.outcome.Outcome.TheVariants.{Broken, Whole}
-use Rattle.targets.specs.Faults.{element_faults, link_faults}
-use Rattle.targets.specs.PageSet.{PageSet}
+use Rattle.target_contents.specs.declared.outcome.Outcome.{Outcome}
+use Rattle.target_contents.specs.declared.outcome.Outcome.TheVariants.{Broken, Whole}
+use Rattle.target_contents.specs.Faults.{element_faults, link_faults}
+use Rattle.target_contents.specs.PageSet.{PageSet}
 
 -- its pages are sound, and break no rule of elements and none on links
 pub record IsClean (s : PageSet) : Type 0 where

@@ -2,22 +2,20 @@
 //! for ids that several elements have is chosen once, if there are any.
 ghost use Rattle.std.specs.Prelude.{◌≡◌, [], false, map, IfOk, OnOk};
 ghost use Rattle.ix_base.specs.LocatedElements.{marked};
-ghost use Rattle.targets.specs.Choices.{HasChoices};
+ghost use Rattle.page_links.specs.Choices.{HasChoices};
 ghost use Rattle.targets.specs.Forest.{AreSoundRoots, page_set, paged, trees_of};
-ghost use Rattle.targets.specs.Model.{AreSoundFrom, as_paged, names_with};
-ghost use Rattle.targets.specs.PageSet.{page_bases};
-ghost use Rattle.targets.specs.SetOutcomes.{CanBeWritten, ComesTo};
+ghost use Rattle.page_links.specs.Model.{AreSoundFrom, as_paged, names_with};
+ghost use Rattle.target_contents.specs.PageSet.{page_bases};
+ghost use Rattle.target_contents.specs.SetOutcomes.{CanBeWritten, ComesTo};
 
-use crate::agreeing::PageNames;
-use crate::choosing::choose_from;
-use crate::closing::{Page, Pages, closed};
-use crate::outcome::Outcome;
-use crate::standing::Links;
+use crate::closing::closed;
 use bumpalo::Bump;
 use id_table::Index;
 use ix_base::{Element, NoMemory, Text};
+use page_links::{Links, Page, PageNames, Pages, choose_from};
 use scopes::Bases;
 use std::alloc::Global;
+use target_contents::Outcome;
 
 /// The pages of these names and roots.
 fn pages_of<'a>(

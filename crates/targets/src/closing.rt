@@ -1,42 +1,20 @@
 //! What the pages of a set come to, class by class.
 ghost use Rattle.std.specs.Prelude.{◌≡◌, [], map, IfOk};
-ghost use Rattle.targets.specs.Faults.{element_faults, link_faults};
-ghost use Rattle.targets.specs.LinkedSets.{IsLinked, IsShallow, IsValued, all_of, based, bases_of};
-ghost use Rattle.targets.specs.Model.{KeepsAll, set_of};
+ghost use Rattle.target_contents.specs.Faults.{element_faults, link_faults};
+ghost use Rattle.target_contents.specs.LinkedSets.{IsLinked, IsShallow, IsValued, all_of, based, bases_of};
+ghost use Rattle.page_links.specs.Model.{KeepsAll, set_of};
 ghost use Rattle.ix_base.specs.LocatedElements.{base_in};
 ghost use Rattle.ix_base.specs.Once.{SameMembers};
-ghost use Rattle.targets.specs.SetOutcomes.{AreAllTargets, CanBeWritten, ComesOfValues, ComesTo, FirstOf};
-ghost use Rattle.targets.specs.PageSet as page_set;
-ghost use Rattle.targets.specs.PageSet.{elements, page_bases};
+ghost use Rattle.target_contents.specs.SetOutcomes.{AreAllTargets, CanBeWritten, ComesOfValues, ComesTo, FirstOf};
+ghost use Rattle.target_contents.specs.PageSet as page_set;
+ghost use Rattle.target_contents.specs.PageSet.{elements, page_bases};
 
-use crate::contents::targets_of;
-use crate::groups::groups_of;
-use crate::linked::{LinkedSet, ValuedSet};
-use crate::links::{Linked, link_all};
-use crate::outcome::Outcome;
-use crate::values::value_faults;
 use bumpalo::Bump;
-use id_table::Index;
-use ix_base::{Breaches, Element, NoMemory, Text};
+use ix_base::{Breaches, NoMemory, Text};
 use ix_grammar::check_page;
-use scopes::Bases;
+use page_links::{Page, Pages};
 use std::alloc::Global;
-
-/// A page of a set.
-#[derive(Drop)]
-pub(crate) struct Page<'a> {
-    pub(crate) name: Text,
-    pub(crate) root: &'a Element<'a>,
-}
-
-/// The pages of a set, with their index and their bases.
-#[derive(Drop)]
-pub(crate) struct Pages<'s, 'a> {
-    pub(crate) base: &'s str,
-    pub(crate) pages: &'s [Page<'a>],
-    pub(crate) index: &'s Index<'a>,
-    pub(crate) bases: &'s Bases,
-}
+use target_contents::{Linked, LinkedSet, Outcome, link_all, value_faults, whole};
 
 /// The rules of elements that the pages break, page by page and in document order.
 fn element_faults_of(alloc: Global, pages: &Pages<'_, '_>) -> Result<Breaches, NoMemory>
@@ -48,18 +26,6 @@ fn element_faults_of(alloc: Global, pages: &Pages<'_, '_>) -> Result<Breaches, N
         check_page(alloc, page.root, &mut found)?;
     }
     Ok(found)
-}
-
-/// All targets of a set whose items break no rule of values.
-fn whole(alloc: Global, set: LinkedSet<'_, '_, '_>) -> Result<Outcome, NoMemory>
-    requires { IsValued set }
-    ensures whole { IfOk result (AreAllTargets (base_in set.entry.bases) set.entry.elements) }
-    ensures written { IfOk result CanBeWritten }
-{
-    let groups = groups_of(alloc, set.linked.index)?;
-    let valued = ValuedSet { set, groups };
-    let targets = targets_of(alloc, &valued)?;
-    Ok(Outcome::Whole(targets))
 }
 
 /// What pages come to that break no rule on links.
@@ -101,7 +67,7 @@ fn comes_of_linked(
     ensures written { IfOk result CanBeWritten }
 {
     if found.is_empty() {
-        let set = LinkedSet { linked };
+        let set = LinkedSet::of(linked);
         return comes_of_values(alloc, pages, set, names);
     }
     Outcome::broken(found, names)

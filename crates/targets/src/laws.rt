@@ -10,15 +10,15 @@ ghost use Rattle.ix_base.specs.LocatedElements.{Located, is_kind, is_tuple};
 ghost use Rattle.ix_base.specs.Membership.{deepest, fact};
 ghost use Rattle.ix_base.specs.Sound.{IsSoundTree};
 ghost use Rattle.id_table.specs.Model.{AreChosen, Held, one_held};
-ghost use Rattle.targets.specs.Choices.{HasChoices};
+ghost use Rattle.page_links.specs.Choices.{HasChoices};
 ghost use Rattle.targets.specs.ValidSets.{AreProper};
-ghost use Rattle.targets.specs.Contents.{SaysItem, context_at, unit_at};
-ghost use Rattle.targets.specs.SetOutcomes.{ComesTo, ComesToAlways};
-ghost use Rattle.targets.specs.PageSet.{PageSet};
-ghost use Rattle.targets.specs.TargetFacts.{AreFacts};
-ghost use Rattle.targets.specs.LinkStates.{GoesOn, doubled, holder, is_doubled, is_pending, link_stands, pending, resolved};
+ghost use Rattle.target_contents.specs.Contents.{SaysItem, context_at, unit_at};
+ghost use Rattle.target_contents.specs.SetOutcomes.{ComesTo, ComesToAlways};
+ghost use Rattle.target_contents.specs.PageSet.{PageSet};
+ghost use Rattle.target_contents.specs.TargetFacts.{AreFacts};
+ghost use Rattle.page_links.specs.LinkStates.{GoesOn, doubled, holder, is_doubled, is_pending, link_stands, pending, resolved};
 ghost use Rattle.link_ids.specs.Links.{Link, links};
-ghost use Rattle.targets.specs.declared.outcome.Outcome.{Outcome};
+ghost use Rattle.target_contents.specs.declared.outcome.Outcome.{Outcome};
 
 /// Sound pages come to the same in every order, and each content that they come to is proper.
 pub fn sound_pages()

@@ -4,21 +4,19 @@ ghost use Rattle.ix_base.specs.declared.limits.TheConstants.{DEEPEST_ELEMENT};
 ghost use Rattle.ix_base.specs.Sound.{IsSoundRoot};
 ghost use Rattle.ix_base.specs.Trees.{tree_of};
 ghost use Rattle.targets.specs.ValidSets.{AreProper};
-ghost use Rattle.targets.specs.SetOutcomes.{CanBeWritten, ComesTo, ComesToAlways};
-ghost use Rattle.targets.specs.PageSet.{elements};
-ghost use Rattle.targets.specs.LinkStates.{doubled_links, pending_links};
+ghost use Rattle.target_contents.specs.SetOutcomes.{CanBeWritten, ComesTo, ComesToAlways};
+ghost use Rattle.target_contents.specs.PageSet.{elements};
+ghost use Rattle.page_links.specs.LinkStates.{doubled_links, pending_links};
 
-use crate::agreeing::PageNames;
-use crate::choosing::choose_from;
-use crate::closing::{Page, Pages, closed};
-use crate::outcome::Outcome;
-use crate::standing::Links;
+use crate::closing::closed;
 use bumpalo::Bump;
 use id_table::Index;
 use ix_base::{Element, NoMemory, Text};
+use page_links::{Links, Page, PageNames, Pages, choose_from};
 use scopes::Bases;
 use std::alloc::Global;
 use std::marker::Model;
+use target_contents::Outcome;
 
 /// A set of pages, to which they are added one by one.
 ///
@@ -39,9 +37,9 @@ pub struct Set<'a> {
 impl<'a> Model for Set<'a> {
     ghost use Rattle.std.specs.Prelude.{◌≡◌, [], false, map};
     ghost use Rattle.ix_base.specs.LocatedElements.{marked};
-    ghost use Rattle.targets.specs.Choices.{HasChoices};
-    ghost use Rattle.targets.specs.Model.{HeldSet, Keeps, held_code, as_paged, names_with};
-    ghost use Rattle.targets.specs.LinkTables.{AreLinks};
+    ghost use Rattle.page_links.specs.Choices.{HasChoices};
+    ghost use Rattle.page_links.specs.Model.{HeldSet, Keeps, held_code, as_paged, names_with};
+    ghost use Rattle.page_links.specs.LinkTables.{AreLinks};
 
     ghost Value = { HeldSet };
 

@@ -1,6 +1,6 @@
 use Rattle.std.proofs.Common.{◌≡◌, ◌∙◌, ap, ◌<◌, suc, length, take, get_or, add-one, arith, length-append, ◌++◌}
 use Rattle.std.specs.List.{concat}
-use Rattle.instance_out.proofs.Grown.{concat_next}
+use Rattle.instance_lines.proofs.Grown.{concat_next}
 use Rattle.instance_out.proofs.total_len.Goals as goal
 
 pub loop-line-preserved : goal.loop-line-preserved

@@ -1,5 +1,5 @@
 use Rattle.std.proofs.Common.{◌≡◌, ◌≤◌, true, drop, length, map}
-use Rattle.instance_out.specs.Lists.{are_apart}
+use Rattle.instance_lines.specs.Lists.{are_apart}
 use Rattle.instance_tree.specs.ReaderWords.{HasEnds, end_of, labels_of}
 use Rattle.instance_tree.proofs.ends.table_of.Given as goal
 

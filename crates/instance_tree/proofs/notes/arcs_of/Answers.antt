@@ -1,6 +1,6 @@
 use Rattle.std.proofs.Common.{◌≡◌, ◌∙◌, sym, ap, subst, true, map, is_some, IfOk, IfSome}
 use Rattle.ix_base.specs.Trees.{nodes_of}
-use Rattle.instance_out.specs.Lists.{are_apart}
+use Rattle.instance_lines.specs.Lists.{are_apart}
 use Rattle.instance_tree.specs.ReaderWords.{HasEnds, arcs_in, end_of, labels_of}
 use Rattle.instance_tree.proofs.EndLaws.{arcs-are}
 use Rattle.instance_tree.proofs.notes.arcs_of.Goals as goal

@@ -1,7 +1,7 @@
 use Rattle.std.proofs.Common.{ℕ, List, ◌∷◌, [], subst}
 use Rattle.std.proofs.lemmas.Result.{err_from_is_err_and, on_ok_weaker, on_err_weaker}
 use Rattle.std.specs.List.{concat}
-use Rattle.ixds_run.specs.Gains.{GainsAll, GainsCut}
+use Rattle.page_verdicts.specs.Gains.{GainsAll, GainsCut}
 use Rattle.ixds_run.proofs.TargetLaws.{finished_with, write_failed, written, finish_done, finish_failed}
 use Rattle.ixds_run.proofs.deliver.put_target.Goals as goal
 

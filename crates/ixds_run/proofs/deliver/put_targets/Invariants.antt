@@ -1,5 +1,5 @@
 use Rattle.std.proofs.Common.{◌≡◌, [], map, take}
-use Rattle.ixds_run.specs.Gains.{GainsAll}
+use Rattle.page_verdicts.specs.Gains.{GainsAll}
 use Rattle.ixds_run.specs.DueTables.{ready}
 use Rattle.ixds_run.proofs.deliver.put_targets.Given as goal
 

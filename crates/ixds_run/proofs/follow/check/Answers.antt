@@ -1,5 +1,5 @@
 use Rattle.std.proofs.Common.{◌∙◌, ◌++◌, ap, List, ℕ, refl}
-use Rattle.ixds_run.specs.Verdicts.{verdict_of}
+use Rattle.page_verdicts.specs.Verdicts.{verdict_of}
 use Rattle.ixds_run.proofs.follow.check.Goals as goal
 
 pub returns : goal.returns

@@ -1,7 +1,7 @@
 use Rattle.std.proofs.Common.{◌∙◌, ◌++◌, ap, [], List, ℕ, Some}
 use Rattle.page_session.specs.HandedPages.{bytes_of, names_of}
 use Rattle.page_session.specs.Sessions.{base_of}
-use Rattle.ixds_run.specs.Verdicts.{IsOfSet}
+use Rattle.page_verdicts.specs.Verdicts.{IsOfSet}
 use Rattle.command_words.specs.declared.command.Command.TheVariants.{Extract}
 use Rattle.ixds_run.proofs.DueLaws.{due_behind}
 use Rattle.ixds_run.proofs.follow.extracted.Goals as goal

@@ -1,6 +1,6 @@
 use Rattle.std.proofs.Common.{◌≡◌, take}
 use Rattle.std.specs.List.{flat_map}
-use Rattle.ixds_run.specs.Texts.{breach_line}
+use Rattle.page_verdicts.specs.Texts.{breach_line}
 use Rattle.ixds_run.proofs.report.lines_of.Given as goal
 
 abbrev pub invariant-loop-breach : goal.invariant-loop-breach

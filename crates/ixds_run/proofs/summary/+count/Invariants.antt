@@ -1,6 +1,6 @@
 use Rattle.std.proofs.Common.{◌≡◌, ◌+◌, drop}
 use Rattle.ix_base.specs.Facts.{facts_of}
-use Rattle.ixds_run.specs.Summary.{item_count, tuple_count}
+use Rattle.page_verdicts.specs.Summary.{item_count, tuple_count}
 use Rattle.ixds_run.proofs.summary.+count.Given as goal
 
 abbrev pub invariant-with_facts-loop-fact : goal.invariant-with_facts-loop-fact

@@ -1,6 +1,6 @@
 use Rattle.std.proofs.Common.{◌≡◌, map, take}
 use Rattle.std.specs.List.{flat_map}
-use Rattle.ixds_run.specs.Summary.{link_ids}
+use Rattle.page_verdicts.specs.Summary.{link_ids}
 use Rattle.ixds_run.proofs.summary.ids_in.Given as goal
 
 abbrev pub invariant-loop-link : goal.invariant-loop-link

@@ -1,6 +1,6 @@
 use Rattle.std.proofs.Common.{◌∙◌, ◌++◌, ap, codes, length}
-use Rattle.ixds_run.specs.Summary.{note_ids}
-use Rattle.ixds_run.specs.Texts.{count}
+use Rattle.page_verdicts.specs.Summary.{note_ids}
+use Rattle.page_verdicts.specs.Texts.{count}
 use Rattle.ixds_run.proofs.SummaryLaws.{three_added}
 use Rattle.ixds_run.proofs.summary.push_others.Goals as goal
 

@@ -1,7 +1,7 @@
 use Rattle.std.proofs.Common.{◌≡◌, ◌∙◌, List, IfOk, ap, subst}
 use Rattle.ix_base.specs.Trees.{Tree}
 use Rattle.targets.specs.Forest.{page_set, trees_of}
-use Rattle.targets.specs.SetOutcomes.{ComesTo}
+use Rattle.target_contents.specs.SetOutcomes.{ComesTo}
 use Rattle.page_session.specs.Sessions.{trees_kept}
 use Rattle.page_session.proofs.answer.made_of.Goals as goal
 

@@ -1,7 +1,7 @@
 use Rattle.std.proofs.Common.{◌≡◌, drop}
 use Rattle.std.specs.List.{list_all}
 use Rattle.ix_base.specs.NcName.{is_ncname}
-use Rattle.instance_out.specs.Tables.{values_of}
+use Rattle.instance_lines.specs.Tables.{values_of}
 use Rattle.proper_content.proofs.ids.are_ncnames.Given as goal
 
 abbrev pub invariant-loop-id : goal.invariant-loop-id

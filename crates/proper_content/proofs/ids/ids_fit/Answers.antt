@@ -2,8 +2,8 @@ use Rattle.std.proofs.Common.{◌∙◌, ◌&&◌, ap}
 use Rattle.std.specs.List.{list_all}
 use Rattle.ix_base.specs.NcName.{is_ncname}
 use Rattle.ix_base.specs.PlainContents.{said_of}
-use Rattle.instance_out.specs.Lists.{are_apart}
-use Rattle.instance_out.specs.Tables.{values_of}
+use Rattle.instance_lines.specs.Lists.{are_apart}
+use Rattle.instance_lines.specs.Tables.{values_of}
 use Rattle.proper_content.proofs.IdLaws.{ids_told}
 use Rattle.proper_content.proofs.ids.ids_fit.Goals as goal
 

@@ -5,9 +5,9 @@ use Rattle.ix_base.specs.declared.content.Footnote.{Footnote}
 use Rattle.ix_base.specs.declared.content.Unit.{Unit as UnitContent}
 use Rattle.ix_base.specs.Facts.{facts_of}
 use Rattle.ix_base.specs.PlainContents.{said_of}
-use Rattle.instance_out.specs.Holdings.{all_notes, fact_ids}
+use Rattle.instance_lines.specs.Holdings.{all_notes, fact_ids}
 use Rattle.instance_out.specs.Proper.{counted_once}
-use Rattle.instance_out.specs.Tables.{values_of}
+use Rattle.instance_lines.specs.Tables.{values_of}
 use Rattle.proper_content.proofs.IdLaws.{ids_joined, ids_moved}
 use Rattle.proper_content.proofs.ids.ids_in.Goals as goal
 

@@ -2,7 +2,7 @@ use Rattle.std.proofs.Common.{◌∙◌, ap, map, subst}
 use Rattle.std.specs.List.Sorted.{IsPermutation}
 use Rattle.ix_base.specs.declared.content.Footnote.{Footnote}
 use Rattle.instance_out.specs.Proper.{counted_once}
-use Rattle.instance_out.specs.Tables.{values_of}
+use Rattle.instance_lines.specs.Tables.{values_of}
 use Rattle.proper_content.specs.Notes.{note_seen}
 use Rattle.proper_content.proofs.IdLaws.{note_ids_moved}
 use Rattle.proper_content.proofs.ids.note_ids.Goals as goal

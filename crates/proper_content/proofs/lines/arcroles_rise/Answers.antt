@@ -1,7 +1,7 @@
 use Rattle.std.proofs.Common.{◌∙◌, ◌++◌, ◌∷◌, [], List, ℕ, ap, map, sym, take}
 use Rattle.ix_base.specs.declared.content.RoleRef.{RoleRef}
-use Rattle.instance_out.specs.Canonical.{line, arcrole_markup}
-use Rattle.instance_out.proofs.Steps.{all_taken, map_taken}
+use Rattle.instance_lines.specs.Canonical.{line, arcrole_markup}
+use Rattle.instance_lines.proofs.Steps.{all_taken, map_taken}
 use Rattle.proper_content.proofs.ListLaws.{lines_rise}
 use Rattle.proper_content.proofs.lines.arcroles_rise.Goals as goal
 

@@ -1,5 +1,5 @@
 use Rattle.std.proofs.Common.{◌≡◌, map, take}
-use Rattle.instance_out.specs.Canonical.{line, arcrole_markup}
+use Rattle.instance_lines.specs.Canonical.{line, arcrole_markup}
 use Rattle.proper_content.proofs.lines.arcroles_rise.Given as goal
 
 abbrev pub invariant-loop-role : goal.invariant-loop-role

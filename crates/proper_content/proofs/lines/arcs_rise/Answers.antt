@@ -1,6 +1,6 @@
 use Rattle.std.proofs.Common.{◌∙◌, ◌++◌, ◌∷◌, [], ap, map, sym, take}
-use Rattle.instance_out.specs.Elements.{arc_text}
-use Rattle.instance_out.proofs.Steps.{all_taken, map_taken}
+use Rattle.instance_lines.specs.Elements.{arc_text}
+use Rattle.instance_lines.proofs.Steps.{all_taken, map_taken}
 use Rattle.proper_content.proofs.ListLaws.{texts_rise}
 use Rattle.proper_content.proofs.lines.arcs_rise.Goals as goal
 

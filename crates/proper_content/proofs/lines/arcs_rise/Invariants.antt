@@ -1,5 +1,5 @@
 use Rattle.std.proofs.Common.{◌≡◌, map, take}
-use Rattle.instance_out.specs.Elements.{arc_text}
+use Rattle.instance_lines.specs.Elements.{arc_text}
 use Rattle.proper_content.proofs.lines.arcs_rise.Given as goal
 
 abbrev pub invariant-loop-arc : goal.invariant-loop-arc

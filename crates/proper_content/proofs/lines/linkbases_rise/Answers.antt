@@ -1,7 +1,7 @@
 use Rattle.std.proofs.Common.{◌∙◌, List, ℕ, ap, map}
 use Rattle.ix_base.specs.declared.content.Linkbase.{Linkbase}
-use Rattle.instance_out.specs.Canonical.{line, linkbase_markup}
-use Rattle.instance_out.proofs.Steps.{all_taken}
+use Rattle.instance_lines.specs.Canonical.{line, linkbase_markup}
+use Rattle.instance_lines.proofs.Steps.{all_taken}
 use Rattle.proper_content.proofs.ListLaws.{lines_rise}
 use Rattle.proper_content.proofs.lines.linkbases_rise.Goals as goal
 

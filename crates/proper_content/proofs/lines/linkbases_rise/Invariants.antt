@@ -1,5 +1,5 @@
 use Rattle.std.proofs.Common.{◌≡◌, map, take}
-use Rattle.instance_out.specs.Canonical.{line, linkbase_markup}
+use Rattle.instance_lines.specs.Canonical.{line, linkbase_markup}
 use Rattle.proper_content.proofs.lines.linkbases_rise.Given as goal
 
 abbrev pub invariant-loop-linkbase : goal.invariant-loop-linkbase

@@ -1,6 +1,6 @@
 use Rattle.std.proofs.Common.{◌∙◌, List, ℕ, ap, map}
-use Rattle.instance_out.specs.Canonical.{line, schema_markup}
-use Rattle.instance_out.proofs.Steps.{all_taken}
+use Rattle.instance_lines.specs.Canonical.{line, schema_markup}
+use Rattle.instance_lines.proofs.Steps.{all_taken}
 use Rattle.proper_content.proofs.ListLaws.{lines_rise}
 use Rattle.proper_content.proofs.lines.schemas_rise.Goals as goal
 

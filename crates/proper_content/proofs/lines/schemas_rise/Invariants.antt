@@ -1,5 +1,5 @@
 use Rattle.std.proofs.Common.{◌≡◌, map, take}
-use Rattle.instance_out.specs.Canonical.{line, schema_markup}
+use Rattle.instance_lines.specs.Canonical.{line, schema_markup}
 use Rattle.proper_content.proofs.lines.schemas_rise.Given as goal
 
 abbrev pub invariant-loop-href : goal.invariant-loop-href

@@ -1,6 +1,6 @@
 use Rattle.std.proofs.Common.{◌≡◌, ◌++◌, ◌∷◌, [], drop}
 use Rattle.std.specs.Prelude.{flat_map}
-use Rattle.instance_out.specs.Tables.{values_of}
+use Rattle.instance_lines.specs.Tables.{values_of}
 use Rattle.proper_content.proofs.links.ends_of.Given as goal
 
 abbrev pub invariant-loop-arc : goal.invariant-loop-arc

@@ -3,9 +3,9 @@ use Rattle.std.specs.List.{list_all}
 use Rattle.ix_base.specs.Facts.{facts_of}
 use Rattle.ix_base.specs.PlainContents.{said_of}
 use Rattle.ix_base.specs.SortedLists.{sorted, text_cmp}
-use Rattle.instance_out.specs.Holdings.{fact_ids}
+use Rattle.instance_lines.specs.Holdings.{fact_ids}
 use Rattle.instance_out.specs.Proper.{is_whole_link}
-use Rattle.instance_out.specs.Tables.{values_of}
+use Rattle.instance_lines.specs.Tables.{values_of}
 use Rattle.proper_content.proofs.ToldLaws.{links_told}
 use Rattle.proper_content.proofs.links.links_fit.Goals as goal
 

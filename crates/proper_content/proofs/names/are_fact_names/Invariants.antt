@@ -1,7 +1,7 @@
 use Rattle.std.proofs.Common.{◌≡◌, drop}
 use Rattle.std.specs.List.{list_all}
 use Rattle.instance_out.specs.Proper.{is_fact_name}
-use Rattle.instance_out.specs.Tables.{values_of}
+use Rattle.instance_lines.specs.Tables.{values_of}
 use Rattle.proper_content.proofs.names.are_fact_names.Given as goal
 
 abbrev pub invariant-loop-name : goal.invariant-loop-name

@@ -1,7 +1,7 @@
 use Rattle.std.proofs.Common.{◌≡◌, ◌∷◌, drop}
 use Rattle.ix_base.specs.SortedLists.{text_cmp}
-use Rattle.instance_out.specs.Lists.{strictly}
-use Rattle.instance_out.specs.Tables.{values_of}
+use Rattle.instance_lines.specs.Lists.{strictly}
+use Rattle.instance_lines.specs.Tables.{values_of}
 use Rattle.proper_content.proofs.order.rise.Given as goal
 use denote.Shadow.{shadow}
 use denote.Text.{Utf8}

@@ -1,7 +1,7 @@
 use Rattle.std.proofs.Common.{◌≡◌, ◌++◌, drop}
 use Rattle.std.specs.Prelude.{flat_map}
-use Rattle.instance_out.specs.Lists.{of_option}
-use Rattle.instance_out.specs.Tables.{values_of}
+use Rattle.instance_lines.specs.Lists.{of_option}
+use Rattle.instance_lines.specs.Tables.{values_of}
 use Rattle.proper_content.proofs.parts.units_named.Given as goal
 
 abbrev pub invariant-loop-item : goal.invariant-loop-item

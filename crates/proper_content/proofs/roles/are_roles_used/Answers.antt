@@ -2,8 +2,8 @@ use Rattle.std.proofs.Common.{◌∙◌, ◌++◌, List, ℕ, ap, map}
 use Rattle.ix_base.specs.declared.content.Footnote.{Footnote}
 use Rattle.ix_base.specs.declared.content.NoteLink.{NoteLink}
 use Rattle.ix_base.specs.declared.content.RoleRef.{RoleRef}
-use Rattle.instance_out.specs.Lists.{is_within}
-use Rattle.instance_out.specs.Tables.{values_of}
+use Rattle.instance_lines.specs.Lists.{is_within}
+use Rattle.instance_lines.specs.Tables.{values_of}
 use Rattle.proper_content.proofs.roles.are_roles_used.Goals as goal
 
 pub returns : goal.returns

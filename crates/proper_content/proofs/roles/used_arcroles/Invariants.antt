@@ -1,5 +1,5 @@
 use Rattle.std.proofs.Common.{◌≡◌, map, take}
-use Rattle.instance_out.specs.Tables.{values_of}
+use Rattle.instance_lines.specs.Tables.{values_of}
 use Rattle.proper_content.proofs.roles.used_arcroles.Given as goal
 
 abbrev pub invariant-loop-arc : goal.invariant-loop-arc

@@ -2,9 +2,9 @@ use Rattle.std.proofs.Common.{◌≡◌, ◌++◌, List, ℕ, drop}
 use Rattle.ix_base.specs.declared.content.Item.{Item}
 use Rattle.ix_base.specs.declared.content.OwnName.{OwnName}
 use Rattle.ix_base.specs.Facts.{facts_of}
-use Rattle.instance_out.specs.Canonical.{fact_names}
-use Rattle.instance_out.specs.Holdings.{fact_ids, items_in}
-use Rattle.instance_out.specs.Tables.{values_of}
+use Rattle.instance_lines.specs.Canonical.{fact_names}
+use Rattle.instance_lines.specs.Holdings.{fact_ids, items_in}
+use Rattle.instance_lines.specs.Tables.{values_of}
 use Rattle.proper_texts.proofs.held.+hold.Given as goal
 
 abbrev pub invariant-add_facts-loop-fact : goal.invariant-add_facts-loop-fact

@@ -1,5 +1,5 @@
 use Rattle.std.proofs.Common.{◌≡◌, ◌++◌, take}
-use Rattle.instance_out.specs.Tables.{values_of}
+use Rattle.instance_lines.specs.Tables.{values_of}
 use Rattle.proper_texts.proofs.held.add_each.Given as goal
 
 abbrev pub invariant-loop-thing : goal.invariant-loop-thing

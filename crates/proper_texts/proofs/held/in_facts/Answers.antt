@@ -1,5 +1,5 @@
 use Rattle.std.proofs.Common.{ap}
-use Rattle.instance_out.specs.Tables.{values_of}
+use Rattle.instance_lines.specs.Tables.{values_of}
 use Rattle.proper_texts.proofs.GainLaws.{all_gained}
 use Rattle.proper_texts.proofs.held.in_facts.Goals as goal
 

@@ -1,6 +1,6 @@
 use Rattle.std.proofs.Common.{◌≡◌, ◌++◌, drop}
 use Rattle.std.specs.Prelude.{flat_map}
-use Rattle.instance_out.specs.Tables.{values_of}
+use Rattle.instance_lines.specs.Tables.{values_of}
 use Rattle.proper_texts.proofs.held.notes_in.Given as goal
 
 abbrev pub invariant-loop-link : goal.invariant-loop-link

@@ -2,7 +2,7 @@ use Rattle.std.specs.Prelude.{◌≡◌}
 use Rattle.std.proofs.Common.{drop}
 use Rattle.std.specs.List.{list_all}
 use Rattle.instance_out.specs.Proper.{is_ratio}
-use Rattle.instance_out.specs.Tables.{values_of}
+use Rattle.instance_lines.specs.Tables.{values_of}
 use Rattle.proper_texts.proofs.numbers.are_ratios.Given as goal
 
 abbrev pub invariant-loop-item : goal.invariant-loop-item

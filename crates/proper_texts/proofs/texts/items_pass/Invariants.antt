@@ -1,7 +1,7 @@
 use Rattle.std.proofs.Common.{◌≡◌, drop}
 use Rattle.std.specs.List.{list_all}
-use Rattle.instance_out.specs.Holdings.{item_texts}
-use Rattle.instance_out.specs.Tables.{values_of}
+use Rattle.instance_lines.specs.Holdings.{item_texts}
+use Rattle.instance_lines.specs.Tables.{values_of}
 use Rattle.proper_texts.specs.TextTests.{passes}
 use Rattle.proper_texts.proofs.texts.items_pass.Given as goal
 

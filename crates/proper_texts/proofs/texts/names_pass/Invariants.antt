@@ -1,6 +1,6 @@
 use Rattle.std.proofs.Common.{◌≡◌, ◌∷◌, [], drop}
 use Rattle.std.specs.List.{list_all}
-use Rattle.instance_out.specs.Tables.{values_of}
+use Rattle.instance_lines.specs.Tables.{values_of}
 use Rattle.proper_texts.specs.TextTests.{passes}
 use Rattle.proper_texts.proofs.texts.names_pass.Given as goal
 

@@ -4,8 +4,8 @@ use Rattle.ix_base.specs.Address.{page_base}
 use Rattle.ix_base.specs.LocatedElements.{Paged}
 use Rattle.ix_base.specs.Trees.{tree_of}
 use Rattle.scopes.specs.Model.{Kept}
-use Rattle.targets.specs.declared.closing.Page.{Page}
-use Rattle.targets.specs.Model.{as_paged}
+use Rattle.page_links.specs.declared.pages.Page.{Page}
+use Rattle.page_links.specs.Model.{as_paged}
 use Rattle.targets.proofs.at_once.bases_of.Goals as goal
 
 pub loop-page-preserved : goal.loop-page-preserved

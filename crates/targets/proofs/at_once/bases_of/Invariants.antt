@@ -1,6 +1,6 @@
 use Rattle.std.proofs.Common.{◌≡◌, false, map, take}
-use Rattle.targets.specs.Model.{as_paged}
-use Rattle.targets.specs.PageSet.{page_bases}
+use Rattle.page_links.specs.Model.{as_paged}
+use Rattle.target_contents.specs.PageSet.{page_bases}
 use Rattle.targets.proofs.at_once.bases_of.Given as goal
 
 -- those of the pages before here

@@ -1,9 +1,9 @@
-use Rattle.std.proofs.Common.{◌≡◌, [], ap, subst, List, ℕ}
+use Rattle.std.proofs.Common.{[], ap, subst, List}
 use Rattle.ix_base.specs.LocatedElements.{Located}
 use Rattle.id_table.specs.Model.{Choice, chosen_in}
-use Rattle.targets.specs.LinkTables.{AreLinks}
-use Rattle.targets.specs.Model.{names_with}
-use Rattle.targets.proofs.ChoosingLaws.{apart-choices}
+use Rattle.page_links.specs.LinkTables.{AreLinks}
+use Rattle.page_links.specs.Model.{names_with}
+use Rattle.page_links.proofs.ChoosingLaws.{apart-choices}
 use Rattle.targets.proofs.at_once.choose_all.Goals as goal
 
 pub add_all-requires-clause-some : goal.add_all-requires-clause-some

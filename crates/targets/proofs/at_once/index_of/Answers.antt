@@ -1,13 +1,12 @@
 use Rattle.ix_base.specs.declared.limits.TheConstants.{DEEPEST_ELEMENT}
-use Rattle.std.proofs.Common.{◌≡◌, ◌∙◌, ◌+◌, ◌++◌, ◌∷◌, [], All, ap, length, map, subst, sym, take, false, List, arith}
+use Rattle.std.proofs.Common.{◌≡◌, ◌∙◌, ◌+◌, ◌++◌, ◌∷◌, [], All, ap, subst, sym, take, false, List}
 use Rattle.std.proofs.lemmas.List.{take_more}
 use Rattle.ix_base.specs.Elements.{pages_of}
-use Rattle.ix_base.specs.LocatedElements.{Located, marked, page_marked}
+use Rattle.ix_base.specs.LocatedElements.{Located, page_marked}
 use Rattle.ix_base.specs.Sound.{IsSoundRoot}
 use Rattle.ix_base.specs.Trees.{tree_of}
 use Rattle.id_table.specs.Model.{Held}
-use Rattle.targets.specs.declared.closing.Page.{Page}
-use Rattle.targets.specs.Model.{as_paged}
+use Rattle.page_links.specs.declared.pages.Page.{Page}
 use Rattle.targets.proofs.ClosingLaws.{marked-more, root-page}
 use Rattle.targets.proofs.MadeLaws.{paged_count, sound_nth}
 use Rattle.targets.proofs.at_once.index_of.Goals as goal

@@ -1,6 +1,6 @@
 use Rattle.std.proofs.Common.{◌≡◌, [], false, map, take}
 use Rattle.ix_base.specs.LocatedElements.{marked}
-use Rattle.targets.specs.Model.{as_paged}
+use Rattle.page_links.specs.Model.{as_paged}
 use Rattle.targets.proofs.at_once.index_of.Given as goal
 
 -- the pages before here are added

@@ -1,9 +1,9 @@
 use Rattle.std.proofs.Common.{◌∙◌, ap, map, subst, List}
 use Rattle.std.proofs.lemmas.Result.{IfOk-weaker}
 use Rattle.ix_base.specs.LocatedElements.{Paged}
-use Rattle.targets.specs.Model.{as_paged}
-use Rattle.targets.specs.PageSet.{PageSet}
-use Rattle.targets.specs.SetOutcomes.{ComesTo}
+use Rattle.page_links.specs.Model.{as_paged}
+use Rattle.target_contents.specs.PageSet.{PageSet}
+use Rattle.target_contents.specs.SetOutcomes.{ComesTo}
 use Rattle.targets.proofs.at_once.made.Goals as goal
 
 pub returns-clause-made : goal.returns-clause-made

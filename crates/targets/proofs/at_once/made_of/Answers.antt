@@ -1,9 +1,9 @@
 use Rattle.std.proofs.Common.{◌∙◌, [], ap, subst, sym, List}
 use Rattle.ix_base.specs.LocatedElements.{Located}
 use Rattle.id_table.specs.Model.{Held}
-use Rattle.targets.specs.Choices.{HasChoices}
-use Rattle.targets.specs.Model.{names_with}
-use Rattle.targets.proofs.ChoiceLaws.{index-chosen}
+use Rattle.page_links.specs.Choices.{HasChoices}
+use Rattle.page_links.specs.Model.{names_with}
+use Rattle.page_links.proofs.ChoiceLaws.{index-chosen}
 use Rattle.targets.proofs.at_once.made_of.Goals as goal
 
 pub closed-requires : goal.closed-requires

@@ -1,12 +1,11 @@
 use Rattle.ix_base.specs.declared.limits.TheConstants.{DEEPEST_ELEMENT}
-use Rattle.std.proofs.Common.{◌≡◌, ◌∙◌, ℕ, ◌+◌, ◌++◌, ◌∷◌, List, [], ap, arith, drop, length, length-append, map, min, sym, subst}
+use Rattle.std.proofs.Common.{◌≡◌, ◌∙◌, ℕ, ◌+◌, ◌++◌, ◌∷◌, [], ap, arith, drop, length, length-append, map, min, sym, subst}
 use Rattle.std.proofs.lemmas.List.{map-append}
 use Rattle.std.proofs.lemmas.Slice.Zip.{zip_turn, zip_end}
 use Rattle.ix_base.specs.Sound.{IsSoundRoot}
-use Rattle.ix_base.specs.Trees.{tree_of}
-use Rattle.targets.specs.declared.closing.Page.{Page}
+use Rattle.page_links.specs.declared.pages.Page.{Page}
 use Rattle.targets.specs.Forest.{AreSoundRoots, paged, trees_of}
-use Rattle.targets.specs.Model.{AreSoundFrom, as_paged}
+use Rattle.page_links.specs.Model.{AreSoundFrom, as_paged}
 use Rattle.targets.proofs.ClosingLaws.{sound-push}
 use Rattle.targets.proofs.MadeLaws.{paged_all, paged_more, sound_behind, sound_next}
 use Rattle.targets.proofs.at_once.pages_of.Goals as goal

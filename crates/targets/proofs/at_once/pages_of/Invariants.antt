@@ -1,6 +1,6 @@
 use Rattle.std.proofs.Common.{◌≡◌, ◌++◌, drop, length, map}
 use Rattle.targets.specs.Forest.{AreSoundRoots, paged, trees_of}
-use Rattle.targets.specs.Model.{AreSoundFrom, as_paged}
+use Rattle.page_links.specs.Model.{AreSoundFrom, as_paged}
 use Rattle.targets.proofs.at_once.pages_of.Given as goal
 
 -- the pages before here are made

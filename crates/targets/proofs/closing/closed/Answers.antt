@@ -3,10 +3,10 @@ use Rattle.std.proofs.lemmas.List.{length-map}
 use Rattle.std.proofs.lemmas.List.Elements.{All-same}
 use Rattle.std.proofs.lemmas.Result.{IfOk-weaker}
 use Rattle.ix_base.specs.declared.breach.Found.{Found}
-use Rattle.targets.specs.Faults.{element_faults, link_faults}
-use Rattle.targets.specs.Model.{set_of}
-use Rattle.targets.specs.SetOutcomes.{ComesOfValues, FirstOf, IsReport}
-use Rattle.targets.specs.PageSet.{names}
+use Rattle.target_contents.specs.Faults.{element_faults, link_faults}
+use Rattle.page_links.specs.Model.{set_of}
+use Rattle.target_contents.specs.SetOutcomes.{ComesOfValues, FirstOf, IsReport}
+use Rattle.target_contents.specs.PageSet.{names}
 use Rattle.targets.proofs.BelowLaws.{faults-below}
 use Rattle.targets.proofs.ComesLaws.{names-are, none-is, some-is}
 use Rattle.targets.proofs.closing.closed.Goals as goal

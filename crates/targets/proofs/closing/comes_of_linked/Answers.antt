@@ -2,15 +2,15 @@ use Rattle.std.proofs.Common.{◌<◌, All, List, ap, inl, inr, length, subst}
 use Rattle.std.proofs.lemmas.Result.{IfOk-weaker}
 use Rattle.ix_base.specs.LocatedElements.{Located}
 use Rattle.scopes.specs.Model.{Kept}
-use Rattle.targets.specs.Faults.{link_faults}
-use Rattle.targets.specs.Model.{set_of}
-use Rattle.targets.specs.PageSet.{base_at, elements}
+use Rattle.target_contents.specs.Faults.{link_faults}
+use Rattle.page_links.specs.Model.{set_of}
+use Rattle.target_contents.specs.PageSet.{base_at, elements}
 use Rattle.targets.proofs.BelowLaws.{broken-below, same-below}
 use Rattle.targets.proofs.ComesLaws.{keeps-on, none-is, none-same, on-names, report-alike, some-is, some-same}
 use Rattle.targets.proofs.closing.comes_of_linked.Goals as goal
 
-pub invariant_of-set : goal.invariant_of-set
-invariant_of-set c = c.requires.linked (none-is c.args.found c.is_empty.result c.is_empty.ensures c.if-is_empty.true)
+pub of-set-requires : goal.of-set-requires
+of-set-requires c = c.requires.linked (none-is c.args.found c.is_empty.result c.is_empty.ensures c.if-is_empty.true)
 
 pub returns-then-is_empty-clause-comes : goal.returns-then-is_empty-clause-comes
 returns-then-is_empty-clause-comes c =

@@ -6,9 +6,9 @@ use Rattle.ix_base.specs.LocatedElements.{Located, base_in}
 use Rattle.id_table.specs.Model.{Held}
 use Rattle.scopes.specs.Model.{Kept}
 use Rattle.tuples.specs.OrderNumbers.{fits}
-use Rattle.targets.specs.Model.{as_paged}
+use Rattle.page_links.specs.Model.{as_paged}
 use Rattle.targets.proofs.ComesLaws.{faults-are, is-linked, keeps-on, none-deep, none-same}
-use Rattle.targets.proofs.FitLaws.{all-fit}
+use Rattle.target_contents.proofs.FitLaws.{all-fit}
 use Rattle.targets.proofs.closing.comes_of_links.Goals as goal
 
 pub link_all-requires-clause-fits : goal.link_all-requires-clause-fits

@@ -1,4 +1,4 @@
-use Rattle.std.proofs.Common.{◌∙◌, ◌<◌, All, List, ap, length, subst, sym}
+use Rattle.std.proofs.Common.{◌∙◌, ◌<◌, All, ap, length, subst, sym}
 use Rattle.std.specs.List.{filter}
 use Rattle.std.proofs.lemmas.List.Elements.{All-filter}
 use Rattle.std.proofs.lemmas.Result.{IfOk-weaker}
@@ -6,7 +6,7 @@ use Rattle.ix_base.specs.Asks.{asks}
 use Rattle.ix_base.specs.LocatedElements.{Located, base_in, is_item}
 use Rattle.facts.specs.ItemValue.{IsItem}
 use Rattle.scopes.specs.Model.{Kept}
-use Rattle.targets.specs.Model.{set_of}
+use Rattle.page_links.specs.Model.{set_of}
 use Rattle.targets.proofs.BelowLaws.{values-below}
 use Rattle.targets.proofs.ComesLaws.{keeps-on, no-faults, none-is, on-names}
 use Rattle.targets.proofs.ValuesCome.{values-come}

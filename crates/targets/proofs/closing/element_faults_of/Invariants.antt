@@ -1,6 +1,6 @@
 use Rattle.std.proofs.Common.{◌≡◌, ◌++◌, map, drop}
-use Rattle.targets.specs.Faults.{element_faults, faults_from}
-use Rattle.targets.specs.Model.{AreSoundFrom, as_paged, set_of}
+use Rattle.target_contents.specs.Faults.{element_faults, faults_from}
+use Rattle.page_links.specs.Model.{AreSoundFrom, as_paged, set_of}
 use Rattle.targets.proofs.closing.element_faults_of.Given as goal
 
 -- the rules that the pages before here break are added, and those from here on are left

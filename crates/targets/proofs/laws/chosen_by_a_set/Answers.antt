@@ -1,4 +1,4 @@
-use Rattle.targets.proofs.ChoiceLaws.{index-chosen, index-one}
+use Rattle.page_links.proofs.ChoiceLaws.{index-chosen, index-one}
 use Rattle.targets.proofs.laws.chosen_by_a_set.Goals as goal
 
 pub returns-clause-one : goal.returns-clause-one

@@ -1,6 +1,6 @@
 use Rattle.ix_base.specs.declared.kind.Kind.TheVariants as kind
-use Rattle.targets.specs.Contents.{context_at, unit_at}
-use Rattle.targets.proofs.SaidLaws.{context-alike, one-said, unit-alike}
+use Rattle.target_contents.specs.Contents.{context_at, unit_at}
+use Rattle.target_contents.proofs.SaidLaws.{context-alike, one-said, unit-alike}
 use Rattle.targets.proofs.laws.contents_of_the_one.Goals as goal
 
 pub returns-clause-context : goal.returns-clause-context

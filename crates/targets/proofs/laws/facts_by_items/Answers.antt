@@ -1,6 +1,6 @@
 use Rattle.ix_base.specs.Membership.{deepest}
-use Rattle.targets.specs.Contents.{SaysItem}
-use Rattle.targets.proofs.FactsLaws.{facts-given}
+use Rattle.target_contents.specs.Contents.{SaysItem}
+use Rattle.target_contents.proofs.FactsLaws.{facts-given}
 use Rattle.targets.proofs.laws.facts_by_items.Goals as goal
 
 pub returns : goal.returns

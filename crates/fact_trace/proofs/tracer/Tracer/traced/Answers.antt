@@ -4,7 +4,7 @@ use Rattle.std.proofs.lemmas.Result.{IfOk-weaker}
 use Rattle.ix_base.specs.LinkRules.{breaking}
 use Rattle.ix_base.specs.LocatedElements.{Located}
 use Rattle.ix_base.specs.declared.rule.Rule.TheVariants.{L4, L5, L6, L7}
-use Rattle.targets.specs.LinkedSets.{AreApart}
+use Rattle.target_contents.specs.LinkedSets.{AreApart}
 use Rattle.targets.proofs.UnbrokenLaws.{elements-apart}
 use Rattle.fact_trace.specs.Model.{Held, sources_of}
 use Rattle.fact_trace.specs.Spans.{Source, traces}

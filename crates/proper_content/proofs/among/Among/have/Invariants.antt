@@ -1,6 +1,6 @@
 use Rattle.std.proofs.Common.{◌≡◌, drop}
-use Rattle.instance_out.specs.Lists.{is_within}
-use Rattle.instance_out.specs.Tables.{values_of}
+use Rattle.instance_lines.specs.Lists.{is_within}
+use Rattle.instance_lines.specs.Tables.{values_of}
 use Rattle.proper_content.proofs.among.Among.have.Given as goal
 
 abbrev pub invariant-loop-text : goal.invariant-loop-text

@@ -6,11 +6,11 @@ use Rattle.ix_base.specs.Sound.{IsSoundRoot}
 use Rattle.ix_base.specs.Trees.{tree_of}
 use Rattle.id_table.specs.Model.{Held}
 use Rattle.id_table.specs.Tables.{all_located}
-use Rattle.targets.specs.declared.closing.Page.{Page}
-use Rattle.targets.specs.Choices.{HasChoices}
-use Rattle.targets.specs.Model.{HeldSet, as_paged, names_with}
-use Rattle.targets.specs.LinkTables.{AreLinks}
-use Rattle.targets.proofs.ChoiceLaws.{index-chosen}
+use Rattle.page_links.specs.declared.pages.Page.{Page}
+use Rattle.page_links.specs.Choices.{HasChoices}
+use Rattle.page_links.specs.Model.{HeldSet, as_paged, names_with}
+use Rattle.page_links.specs.LinkTables.{AreLinks}
+use Rattle.page_links.proofs.ChoiceLaws.{index-chosen}
 use Rattle.targets.proofs.ClosingLaws.{behind, keeps-more, marked-more}
 use Rattle.targets.proofs.SetLaws.{choices-after, choices-before, front-less, front-of, links-after, links-before, part-pages, spots_less}
 use Rattle.targets.proofs.set.Set.add_page.Goals as goal

@@ -3,10 +3,10 @@ use Rattle.std.proofs.Common.{◌∙◌, ℕ, All, List, ap, map, subst, sym}
 use Rattle.std.proofs.lemmas.Result.{IfOk-weaker}
 use Rattle.ix_base.specs.LocatedElements.{Paged}
 use Rattle.ix_base.specs.Sound.{IsSoundTree}
-use Rattle.targets.specs.declared.closing.Page.{Page}
-use Rattle.targets.specs.Model.{HeldSet, as_paged}
-use Rattle.targets.specs.SetOutcomes.{ComesTo, ComesToAlways}
-use Rattle.targets.specs.PageSet.{PageSet}
+use Rattle.page_links.specs.declared.pages.Page.{Page}
+use Rattle.page_links.specs.Model.{HeldSet, as_paged}
+use Rattle.target_contents.specs.SetOutcomes.{ComesTo, ComesToAlways}
+use Rattle.target_contents.specs.PageSet.{PageSet}
 use Rattle.targets.proofs.ClosingLaws.{sound-trees}
 use Rattle.targets.proofs.ProperLaws.{comes-proper}
 use Rattle.targets.proofs.Rearranged.{rearranged}

@@ -1,8 +1,8 @@
 use Rattle.std.proofs.Common.{◌∙◌, [], ap, length, map}
 use Rattle.ix_base.specs.LocatedElements.{marked}
-use Rattle.targets.specs.Model.{HeldSet, as_paged, names_with}
-use Rattle.targets.specs.PageSet.{elements}
-use Rattle.targets.specs.LinkStates.{doubled_links}
+use Rattle.page_links.specs.Model.{HeldSet, as_paged, names_with}
+use Rattle.target_contents.specs.PageSet.{elements}
+use Rattle.page_links.specs.LinkStates.{doubled_links}
 use Rattle.targets.proofs.LinkStandLaws.{doubled-count}
 use Rattle.targets.proofs.set.Set.doubled.Goals as goal
 

@@ -1,0 +1,21 @@
+pub mod ArrangedLaws
+pub mod Calendar
+pub mod CanonLaws
+pub mod DayLaws
+pub mod Exchanging
+mod FirstDay
+pub mod FirstLaws
+pub mod Gathered
+pub mod Grown
+pub mod ItemLaws
+pub mod LastLaws
+pub mod LinkLaws
+pub mod MarkupLaws
+pub mod Midnights
+pub mod NumberLaws
+pub mod Placing
+pub mod PrefixLaws
+pub mod RootLaws
+pub mod Sorting
+pub mod Steps
+pub mod WritableLaws

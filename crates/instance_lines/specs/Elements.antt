@@ -1,0 +1,70 @@
+-- Parts of elements that the code writes by themselves.
+use Rattle.std.specs.Prelude.{ℕ, List, [], ◌∷◌, Option, Some, None, codes}
+use Rattle.ix_base.specs.Facts.{before, none}
+use Rattle.ix_base.specs.WrittenMarkup.{Attribute, Markup, nothing, node, leaf, written}
+use Rattle.ix_base.specs.declared.content.Accuracy.{Accuracy}
+use Rattle.ix_base.specs.declared.content.Accuracy.TheVariants as accuracy
+use Rattle.ix_base.specs.declared.content.Arc.{Arc}
+use Rattle.ix_base.specs.declared.content.Footnote.{Footnote}
+use Rattle.ix_base.specs.declared.content.RoleRef.{RoleRef}
+use Rattle.ix_base.specs.declared.content.Value.{Value}
+use Rattle.ix_base.specs.declared.content.Value.TheVariants as value
+use Rattle.ix_base.specs.declared.content.Context.{Context}
+use Rattle.ix_base.specs.declared.content.Fact.{Fact}
+use Rattle.instance_lines.specs.Canonical.{Spaces, arc_markup, around, attr, dim_markup, facts_markup, href_attr, type_attr, footnote_markup, line, locator_markup, period_markup, text_element}
+
+-- what stands in a context
+abbrev pub context_parts : Spaces → Context → Markup
+context_parts spaces c =
+    node (codes "xbrli:entity") []
+    (text_element (codes "xbrli:identifier") (attr (codes "scheme") c.scheme ∷ []) c.identifier
+    (around (codes "xbrli:segment") (dim_markup spaces) c.segment nothing))
+    (node (codes "xbrli:period") [] (period_markup c.period)
+    (around (codes "xbrli:scenario") (dim_markup spaces) c.scenario nothing))
+
+-- a fact by itself
+abbrev pub fact_markup : Spaces → Fact → Markup
+fact_markup spaces f = facts_markup spaces (before f none)
+
+abbrev pub fact_line : Spaces → Fact → List ℕ
+fact_line spaces f = line (fact_markup spaces f)
+
+-- how exact a number is, as the value of one attribute or of another
+
+abbrev pub decimals : Option Accuracy → Option (List ℕ)
+decimals None = None
+decimals (Some (accuracy.Decimals n)) = Some n
+decimals (Some (accuracy.Precision n)) = None
+
+abbrev pub precision : Option Accuracy → Option (List ℕ)
+precision None = None
+precision (Some (accuracy.Decimals n)) = None
+precision (Some (accuracy.Precision n)) = Some n
+
+-- what the attribute of a value says that is nil
+abbrev pub nil_text : Value → Option (List ℕ)
+nil_text value.Nil = Some (codes "true")
+nil_text (value.Plain text) = None
+nil_text (value.Fraction above below) = None
+
+-- a value in an element of this name with all these attributes
+abbrev pub value_element : List ℕ → List Attribute → Value → Markup
+value_element name attrs value.Nil = leaf name attrs nothing
+value_element name attrs (value.Plain text) = text_element name attrs text nothing
+value_element name attrs (value.Fraction above below) =
+    node name attrs (text_element (codes "xbrli:numerator") [] above (text_element (codes "xbrli:denominator") [] below nothing)) nothing
+
+-- the texts of what stands in a footnote link
+
+abbrev pub locator_text : List ℕ → List ℕ
+locator_text id = written (locator_markup id nothing) []
+
+abbrev pub footnote_text : Footnote → List ℕ
+footnote_text f = written (footnote_markup f nothing) []
+
+abbrev pub arc_text : Arc → List ℕ
+arc_text a = written (arc_markup a nothing) []
+
+-- a role or an arcrole, in an element of this name with its URI in this attribute
+abbrev pub reference_markup : (name uri : List ℕ) → RoleRef → Markup
+reference_markup name uri r = leaf name (attr uri r.uri ∷ type_attr (codes "simple") ∷ href_attr r.href ∷ []) nothing

@@ -1,0 +1,14 @@
+pub mod Arrangement
+pub mod Canonical
+pub mod Elements
+pub mod Gains
+pub mod Holdings
+pub mod Inverses
+pub mod Keys
+pub mod Lists
+pub mod Moments
+pub mod Numbering
+pub mod Prefixes
+pub mod Tables
+pub mod Tags
+pub mod Writable

@@ -1,0 +1,106 @@
+//! Tags, texts and elements, appended to a line.
+ghost use Rattle.std.specs.Prelude.{◌≡◌, ◌++◌, ◌∷◌, OnOk};
+ghost use Rattle.ix_base.specs.Escapes.{te};
+ghost use Rattle.ix_base.specs.WrittenMarkup.{attrs_text, start_text, leaf_text, close_text, written, nothing};
+ghost use Rattle.instance_lines.specs.Canonical.{attr_if, text_element};
+ghost use Rattle.instance_lines.specs.Gains.{Gains};
+ghost use Rattle.instance_lines.specs.Tags.{attrs_of};
+ghost use Rattle.std.specs.Prelude.{option_map};
+
+use ix_base::{NoMemory, Text, push_ae, push_te};
+
+/// An attribute: its written name, and its value where it has one. It is left out where it has none.
+#[derive(Clone, Copy)]
+pub struct Valued<'a> {
+    pub name: &'a str,
+    pub value: Option<&'a str>,
+}
+
+/// Appends a text as it stands.
+pub fn push_plain(text: &str, out: &mut Text) -> Result<(), NoMemory>
+    ensures { OnOk result (Gains out.old out.new (λ more. text.now ++ more)) }
+{
+    out.push(text)?;
+    Ok(())
+}
+
+/// Appends a text between tags.
+pub fn push_text(text: &str, out: &mut Text) -> Result<(), NoMemory>
+    ensures { OnOk result (Gains out.old out.new (λ more. te text.now ++ more)) }
+{
+    push_te(text, out)?;
+    Ok(())
+}
+
+/// Appends an attribute, if it has a value.
+pub fn push_attribute(attribute: Valued<'_>, out: &mut Text) -> Result<(), NoMemory>
+    ensures { OnOk result (Gains out.old out.new
+        (attrs_text (attr_if attribute.entry.name.now (option_map (λ v. v.now) attribute.entry.value)))) }
+{
+    let Some(value) = attribute.value else {
+        return Ok(());
+    };
+    out.push(" ")?;
+    out.push(attribute.name)?;
+    out.push("=\"")?;
+    push_ae(value, out)?;
+    out.push("\"")?;
+    Ok(())
+}
+
+/// Appends attributes.
+fn push_attributes(attributes: &[Valued<'_>], out: &mut Text) -> Result<(), NoMemory>
+    ensures { OnOk result (Gains out.old out.new (attrs_text (attrs_of attributes.now))) }
+{
+    for attribute in attributes {
+        push_attribute(*attribute, out)?;
+    }
+    Ok(())
+}
+
+/// Appends a start tag.
+pub fn push_start(name: &str, attributes: &[Valued<'_>], out: &mut Text) -> Result<(), NoMemory>
+    ensures { OnOk result (Gains out.old out.new (λ more. start_text name.now (attrs_of attributes.now) ++ more)) }
+{
+    push_plain("<", out)?;
+    push_plain(name, out)?;
+    push_attributes(attributes, out)?;
+    push_plain(">", out)?;
+    Ok(())
+}
+
+/// Appends the one tag of an element without content.
+pub fn push_leaf(name: &str, attributes: &[Valued<'_>], out: &mut Text) -> Result<(), NoMemory>
+    ensures { OnOk result (Gains out.old out.new (λ more. leaf_text name.now (attrs_of attributes.now) ++ more)) }
+{
+    push_plain("<", out)?;
+    push_plain(name, out)?;
+    push_attributes(attributes, out)?;
+    push_plain("/>", out)?;
+    Ok(())
+}
+
+/// Appends an end tag.
+pub fn push_close(name: &str, out: &mut Text) -> Result<(), NoMemory>
+    ensures { OnOk result (Gains out.old out.new (λ more. close_text name.now ++ more)) }
+{
+    push_plain("</", out)?;
+    push_plain(name, out)?;
+    push_plain(">", out)?;
+    Ok(())
+}
+
+/// Appends an element that holds a text, which may be empty.
+pub fn push_element(
+    name: &str,
+    attributes: &[Valued<'_>],
+    text: &str,
+    out: &mut Text,
+) -> Result<(), NoMemory>
+    ensures { OnOk result (Gains out.old out.new (written (text_element name.now (attrs_of attributes.now) text.now nothing))) }
+{
+    push_start(name, attributes, out)?;
+    push_text(text, out)?;
+    push_close(name, out)?;
+    Ok(())
+}

@@ -1,6 +1,0 @@
-use Rattle.std.proofs.Common.{◌≡◌, map, take}
-use Rattle.instance_out.specs.Elements.{fact_line}
-use Rattle.instance_out.proofs.fact.lines_of.Given as goal
-
-abbrev pub invariant-loop-fact : goal.invariant-loop-fact
-invariant-loop-fact l = l.lines.items ≡ map (fact_line l.prefixes) (take l.fact-index l.facts)

@@ -1,7 +1,0 @@
-use Rattle.std.proofs.Common.{◌≡◌, map, take}
-use Rattle.instance_out.specs.Elements.{locator_text}
-use Rattle.instance_out.specs.Tables.{values_of}
-use Rattle.instance_out.proofs.note.locators_to.Given as goal
-
-abbrev pub invariant-loop-id : goal.invariant-loop-id
-invariant-loop-id l = l.locators.items ≡ map locator_text (values_of (take l.id-index l.ids))

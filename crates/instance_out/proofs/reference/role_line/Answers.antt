@@ -1,5 +1,0 @@
-use Rattle.std.proofs.Common.{refl}
-use Rattle.instance_out.proofs.reference.role_line.Goals as goal
-
-pub returns : goal.returns
-returns c = rw (c.in_ok-line.ensures, c.as_str.ensures, c.as_str-2.ensures) refl

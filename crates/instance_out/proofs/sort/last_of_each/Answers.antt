@@ -1,9 +1,0 @@
-use Rattle.std.proofs.Common.{◌∙◌, ap, sym}
-use Rattle.instance_out.specs.Keys.{by_key, with_last}
-use Rattle.instance_out.proofs.LastLaws.{lasts-push}
-use Rattle.instance_out.proofs.sort.last_of_each.Goals as goal
-
-pub loop-one-preserved : goal.loop-one-preserved
-loop-one-preserved g c =
-    c.in_ok-put_last.ensures ∙ ap (λ l. with_last by_key l c.in-Some.one) c.loop-one.invariant
-    ∙ sym (lasts-push by_key c.loop-one.yielded c.in-Some.one)

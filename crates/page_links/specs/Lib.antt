@@ -1,0 +1,4 @@
+pub mod Choices
+pub mod LinkStates
+pub mod LinkTables
+pub mod Model

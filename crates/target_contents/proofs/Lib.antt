@@ -1,0 +1,17 @@
+pub mod AlikeForms
+pub mod AmongLaws
+pub mod ChainLaws
+pub mod ContentLaws
+pub mod DepthLaws
+pub mod FactsLaws
+mod FaultlessLaws
+pub mod FitLaws
+mod GroupLaws
+mod LinkLaws
+mod ListLaws
+pub mod MemberLaws
+mod NoteLaws
+mod RedirectLaws
+pub mod SaidLaws
+mod TimelyLaws
+pub mod ValueLaws

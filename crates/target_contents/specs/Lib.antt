@@ -1,0 +1,9 @@
+pub mod Contents
+pub mod Faults
+pub mod Groups
+pub mod LinkedSets
+pub mod PageSet
+pub mod RoleAddresses
+pub mod SetOutcomes
+pub mod TargetFacts
+pub mod Visits

@@ -1,0 +1,258 @@
+//! The contents of the targets of a set.
+ghost use Rattle.std.specs.Prelude.{◌≡◌, ◌≤◌, ◌++◌, ◌∷◌, [], All, map, filter, not, is_some, IfOk, OnOk};
+ghost use Rattle.std.specs.List.{flat_map};
+ghost use Rattle.ix_base.specs.Asks.{asks};
+ghost use Rattle.ix_base.specs.LocatedElements.{base_in, located};
+ghost use Rattle.ix_base.specs.LinkRules as rules;
+ghost use Rattle.ix_base.specs.Facts.{facts_of};
+ghost use Rattle.ix_base.specs.Membership.{deepest};
+ghost use Rattle.ix_base.specs.declared.limits.TheConstants.{DEEPEST_TUPLE};
+ghost use Rattle.id_table.specs.Tables.{all_located};
+ghost use Rattle.instance_lines.specs.Writable.{IsWritable, depth};
+ghost use Rattle.tuples.specs.Model.{owner_in};
+ghost use Rattle.target_contents.specs.Contents as contents;
+ghost use Rattle.target_contents.specs.Contents.{IsContent, IsGathered, target_names};
+ghost use Rattle.target_contents.specs.LinkedSets.{IsValued, SaysIn};
+ghost use Rattle.target_contents.specs.SetOutcomes.{AreAllTargets, AreTargets, CanBeWritten};
+ghost use Rattle.target_contents.specs.Visits.{values_of};
+ghost use Rattle.target_contents.specs.TargetFacts.{AreFacts};
+
+use crate::facts_in::facts_at;
+use crate::groups::{at, groups_of};
+use crate::linked::{LinkedSet, ValuedSet};
+use crate::notes::{arcroles_for, notes_for, roles_for};
+use crate::outcome::{Outcome, Target};
+use crate::parts::{Ref, contexts_of, ids_named, units_of};
+use crate::references::{addresses_at, linkbases_at};
+use fact_view::target_of;
+use id_table::Index;
+use instance_lines::arrange;
+use ix_base::limits::DEEPEST_TUPLE;
+use ix_base::{
+    Content, Context, Fact, Kind, Linkbase, List, NoMemory, Spot, Text, Unit, each_once, kind_of,
+};
+use std::alloc::Global;
+use tuples::Members;
+
+/// Adds an element that has no owner.
+fn push_outer<'a>(
+    members: &Members<'a>,
+    spot: &'a Spot<'a>,
+    outer: &mut Vec<&'a Spot<'a>>,
+) -> Result<(), NoMemory>
+    ensures { OnOk result (all_located outer.new.items ≡ all_located outer.old.items
+        ++ filter (λ e. not (is_some (owner_in members.now e))) (located spot.entry.now ∷ [])) }
+{
+    if members.owner(spot).is_none() {
+        outer.push(spot)?;
+    }
+    Ok(())
+}
+
+/// Those of some elements that have no owner.
+fn outer_of<'a>(
+    alloc: Global,
+    members: &Members<'a>,
+    spots: &[&'a Spot<'a>],
+) -> Result<Vec<&'a Spot<'a>>, NoMemory>
+    ensures { IfOk result (λ v. all_located v.items
+        ≡ filter (λ e. not (is_some (owner_in members.now e))) (all_located spots.now)) }
+{
+    let mut outer = Vec::new(alloc);
+    for spot in spots {
+        push_outer(members, *spot, &mut outer)?;
+    }
+    Ok(outer)
+}
+
+/// The addresses of the schemas of a target.
+fn schemas_for<'a>(
+    alloc: Global,
+    valued: &ValuedSet<'_, '_, 'a>,
+    target: &str,
+) -> Result<List<Text>, NoMemory>
+    ensures { IfOk result (λ l. l
+        ≡ map (rules.address_of (base_in valued.now.bases)) (filter (rules.is_schema_for target.now) valued.now.elements)) }
+{
+    let spots = at(alloc, &valued.groups.schemas, target)?;
+    let set = &valued.set;
+    addresses_at(alloc, set.linked.bases, spots.as_slice())
+}
+
+/// The references to linkbases of a target.
+fn linkbases_for<'a>(
+    alloc: Global,
+    valued: &ValuedSet<'_, '_, 'a>,
+    target: &str,
+) -> Result<List<Linkbase>, NoMemory>
+    ensures { IfOk result (λ l. l
+        ≡ map (contents.linkbase_at (base_in valued.now.bases)) (filter (contents.is_linkbase_for target.now) valued.now.elements)) }
+{
+    let spots = at(alloc, &valued.groups.linkbases, target)?;
+    let set = &valued.set;
+    linkbases_at(alloc, set.linked.bases, spots.as_slice())
+}
+
+/// The contexts that the items of a target name.
+fn contexts_for<'a>(
+    alloc: Global,
+    valued: &ValuedSet<'_, '_, 'a>,
+    target: &str,
+) -> Result<List<Context>, NoMemory>
+    ensures { IfOk result (λ l. l ≡ contents.contexts_of valued.now.elements target.now) }
+{
+    let facts = at(alloc, &valued.groups.facts, target)?;
+    let ids = ids_named(alloc, Ref::Context, facts.as_slice())?;
+    let set = &valued.set;
+    contexts_of(alloc, set.linked.index, ids.as_slice())
+}
+
+/// The units that the items of a target name.
+fn units_for<'a>(
+    alloc: Global,
+    valued: &ValuedSet<'_, '_, 'a>,
+    target: &str,
+) -> Result<List<Unit>, NoMemory>
+    ensures { IfOk result (λ l. l ≡ contents.units_of valued.now.elements target.now) }
+{
+    let facts = at(alloc, &valued.groups.facts, target)?;
+    let ids = ids_named(alloc, Ref::Unit, facts.as_slice())?;
+    let set = &valued.set;
+    units_of(alloc, set.linked.index, ids.as_slice())
+}
+
+/// The facts of a target, members within their tuples.
+fn facts_for<'a>(
+    alloc: Global,
+    valued: &ValuedSet<'_, '_, 'a>,
+    target: &str,
+) -> Result<List<Fact>, NoMemory>
+    ensures facts { IfOk result (λ l. AreFacts (SaysIn valued.now) valued.now.elements deepest
+        (filter (contents.is_outer (asks valued.now.elements) target.now) valued.now.elements) (facts_of l)) }
+    ensures shallow { IfOk result (λ l. depth (facts_of l) ≤ DEEPEST_TUPLE) }
+{
+    let facts = at(alloc, &valued.groups.facts, target)?;
+    let set = &valued.set;
+    let outer = outer_of(alloc, &set.linked.members, facts.as_slice())?;
+    facts_at(alloc, valued, outer.as_slice(), DEEPEST_TUPLE)
+}
+
+/// What the elements of a set say of a target, each list as they come.
+fn gathered<'a>(
+    alloc: Global,
+    valued: &ValuedSet<'_, '_, 'a>,
+    target: &str,
+) -> Result<Content, NoMemory>
+    ensures gathered { IfOk result (IsGathered (base_in valued.now.bases) valued.now.elements target.now) }
+    ensures writable { IfOk result IsWritable }
+{
+    let schemas = schemas_for(alloc, valued, target)?;
+    let linkbases = linkbases_for(alloc, valued, target)?;
+    let contexts = contexts_for(alloc, valued, target)?;
+    let units = units_for(alloc, valued, target)?;
+    let facts = facts_for(alloc, valued, target)?;
+    let notes = notes_for(alloc, &valued.set, target)?;
+    let roles = roles_for(alloc, &valued.set, notes.as_slice())?;
+    let arcroles = arcroles_for(alloc, &valued.set, notes.as_slice())?;
+    Ok(Content {
+        notes,
+        roles,
+        arcroles,
+        schemas,
+        linkbases,
+        contexts,
+        units,
+        facts,
+    })
+}
+
+/// The content of a target.
+fn content_of<'a>(
+    alloc: Global,
+    valued: &ValuedSet<'_, '_, 'a>,
+    target: &str,
+) -> Result<Content, NoMemory>
+    ensures content { IfOk result (IsContent (base_in valued.now.bases) valued.now.elements target.now) }
+    ensures written { IfOk result IsWritable }
+{
+    let content = gathered(alloc, valued, target)?;
+    arrange(alloc, content)
+}
+
+/// The targets that elements have, as often as they do.
+fn each_target<'a>(alloc: Global, spots: &[&'a Spot<'a>]) -> Result<Vec<&'a str>, NoMemory>
+    ensures { IfOk result (λ v. values_of v.items ≡ flat_map contents.targets_at (all_located spots.now)) }
+{
+    let mut names = Vec::new(alloc);
+    for spot in spots {
+        let kind = kind_of(spot);
+        if kind.is_fact() || kind == Kind::References {
+            names.push(target_of(spot.element))?;
+        }
+    }
+    Ok(names)
+}
+
+/// The targets of a set, in byte order, each once.
+fn names_of<'a>(alloc: Global, index: &Index<'a>) -> Result<Vec<&'a str>, NoMemory>
+    ensures { IfOk result (λ v. values_of v.items ≡ target_names index.now.spots) }
+{
+    let mut names = each_target(alloc, index.spots())?;
+    each_once(&mut names);
+    Ok(names)
+}
+
+/// A target with its content.
+fn target_named<'a>(
+    alloc: Global,
+    valued: &ValuedSet<'_, '_, 'a>,
+    name: &str,
+) -> Result<Target, NoMemory>
+    ensures name { IfOk result (λ t. t.name ≡ name.now) }
+    ensures content { IfOk result (λ t. IsContent (base_in valued.now.bases) valued.now.elements t.name t.content) }
+    ensures written { IfOk result (λ t. IsWritable t.content) }
+{
+    Ok(Target {
+        name: Text::of(alloc, name)?,
+        content: content_of(alloc, valued, name)?,
+    })
+}
+
+/// The targets of these names.
+fn targets_named<'a>(
+    alloc: Global,
+    valued: &ValuedSet<'_, '_, 'a>,
+    names: &[&str],
+) -> Result<List<Target>, NoMemory>
+    ensures targets { IfOk result (AreTargets (base_in valued.now.bases) valued.now.elements (values_of names.now)) }
+    ensures written { IfOk result (All (λ t. IsWritable t.content)) }
+{
+    let mut targets = List::new(alloc);
+    for name in names {
+        let target = target_named(alloc, valued, *name)?;
+        targets.push(target)?;
+    }
+    Ok(targets)
+}
+
+/// The targets of a set, each with its content.
+fn targets_of(alloc: Global, valued: &ValuedSet<'_, '_, '_>) -> Result<List<Target>, NoMemory>
+    ensures targets { IfOk result (AreTargets (base_in valued.now.bases) valued.now.elements (target_names valued.now.elements)) }
+    ensures written { IfOk result (All (λ t. IsWritable t.content)) }
+{
+    let set = &valued.set;
+    let names = names_of(alloc, set.linked.index)?;
+    targets_named(alloc, valued, names.as_slice())
+}
+
+/// All targets of a set whose items break no rule of values.
+pub fn whole(alloc: Global, set: LinkedSet<'_, '_, '_>) -> Result<Outcome, NoMemory>
+    requires { IsValued set }
+    ensures whole { IfOk result (AreAllTargets (base_in set.entry.bases) set.entry.elements) }
+    ensures written { IfOk result CanBeWritten }
+{
+    let groups = groups_of(alloc, set.linked.index)?;
+    let valued = ValuedSet { set, groups };
+    let targets = targets_of(alloc, &valued)?;
+    Ok(Outcome::Whole(targets))
+}

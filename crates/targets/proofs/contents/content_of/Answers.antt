@@ -1,9 +1,0 @@
-use Rattle.std.proofs.lemmas.Result.{IfOk-weaker}
-use Rattle.std.proofs.Common.{subst, sym}
-use Rattle.instance_out.proofs.WritableLaws.{writable-arranged}
-use Rattle.instance_out.specs.Writable.{IsWritable}
-use Rattle.targets.proofs.contents.content_of.Goals as goal
-
-pub returns-clause-written : goal.returns-clause-written
-returns-clause-written c =
-    IfOk-weaker c.arrange.result _ _ (λ x h. subst IsWritable (sym h) (writable-arranged c.in_ok-content.content c.in_ok-content.ensures.writable)) c.arrange.ensures
