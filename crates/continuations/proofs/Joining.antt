@@ -1,5 +1,5 @@
 -- Marks on the numbers at which elements go on.
-use Rattle.std.proofs.Common.{◌≡◌, ◌∙◌, ◌+◌, ◌<◌, ◌≤◌, ℕ, Bool, true, false, List, length, ap, sym, arith, Option, Some, None, ◌⊎◌, inl, inr, ⊎_elim, get_or-set_same, get_or-set_other}
+use Rattle.std.proofs.Common.{◌≡◌, ◌∙◌, ◌+◌, ◌<◌, ◌≤◌, ℕ, Bool, true, false, List, length, ap, sym, arith, Option, Some, None, ◌↔◌, refl, ◌⊎◌, inl, inr, ⊎_elim, get_or-set_same, get_or-set_other}
 use Rattle.std.proofs.Math.ListN.{get_or-eq_default, set}
 use Rattle.std.proofs.lemmas.Bool.{cases_eq, cases_lt, true≢false}
 use Rattle.continuations.specs.Walks.{next_at, is_marked, Joined}
@@ -71,3 +71,9 @@ marked-apart ns n marks all h j = by (cases_lt j.1 n) where
   by : (j.1 < n) ⊎ (n ≤ j.1) → ⊥
   by (inl l) = h.apart j.0 j.1 j.2 j.3 l j.4 j.5
   by (inr l) = some-none j.2 (sym (get_or-eq_default ns None (omega (arith, all, l))) ∙ j.5)
+
+pub joined-yes : (ns : List (Option ℕ)) (n k : ℕ) (marks : List Bool) → next_at ns n ≡ Some k → is_marked marks k ≡ true → AreNextsMarked ns n marks → (true ≡ true) ↔ Joined ns
+joined-yes ns n k marks at m h = ((λ _. marked-joined ns n k marks at m h), (λ _. refl))
+
+pub joined-no : (ns : List (Option ℕ)) (n : ℕ) (marks : List Bool) → length ns ≤ n → AreNextsMarked ns n marks → (false ≡ true) ↔ Joined ns
+joined-no ns n marks l h = ((λ e. absurd (cc)), (λ j. absurd (marked-apart ns n marks l h j)))

@@ -88,3 +88,10 @@ places-more page offset places spots i s k l e same h =
     any-append (is_key page offset) places (k ∷ []) ∙ ap (λ b. b || (is_key page offset k || false)) h
     ∙ ap (λ b. list_any (is_at page offset) (all_located (take i spots)) || (b || false)) same
     ∙ sym (any-append (is_at page offset) (all_located (take i spots)) (located s.now ∷ [])) ∙ ap (list_any (is_at page offset)) (sym (located-take spots i s l e))
+
+-- none of the elements before here is such a one, and so with the next one
+pub none-more : (p : Located → Bool) (spots : List (Bor Spot)) (i : ℕ) (s : Bor Spot) → i < length spots → s ≡ get_or spots i s
+    → list_any p (all_located (take i spots)) ≡ false → p (located s.now) ≡ false → list_any p (all_located (take (i + 1) spots)) ≡ false
+none-more p spots i s l at before here =
+    ap (list_any p) (located-take spots i s l at) ∙ any-append p (all_located (take i spots)) (located s.now ∷ [])
+    ∙ (λ j. before j || (here j || false))

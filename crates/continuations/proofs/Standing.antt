@@ -108,3 +108,6 @@ held-more old new xs marks i x b p at m grown = record {
 
 pub of-same : (es xs ys : List Located) (count : ℕ) (ns ms : List (Option ℕ)) → ys ≡ xs → ms ≡ ns → AreOf es xs count ns → AreOf es ys count ms
 of-same es xs ys count ns ms e f o = subst (λ (x : List Located). AreOf es x count ms) (sym e) (subst (λ (x : List (Option ℕ)). AreOf es xs count x) (sym f) o)
+
+pub of-alike : (es xs ys : List Located) (count n : ℕ) (ns ms : List (Option ℕ)) → ys ≡ xs → n ≡ count → ms ≡ ns → AreOf es xs count ns → AreOf es ys n ms
+of-alike es xs ys count n ns ms e k f o = subst (λ (m : ℕ). AreOf es ys m ms) (sym k) (of-same es xs ys count ns ms e f o)

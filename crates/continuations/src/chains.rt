@@ -65,24 +65,22 @@ fn slice_of<'a>(arena: &'a Bump, chain: &[&'a Spot<'a>]) -> Result<Slice<'a>, No
     })
 }
 
-/// The chain from a numbered element, in the arena. It is put in the place of what was in `chain`, and copied from there.
-fn chain_in_arena<'a>(
+/// Enters a copy of a chain in the arena at the place of its first element, unless there is one.
+fn enter_copy<'a>(
     arena: &'a Bump,
-    index: &Index<'a>,
-    links: &Links<'a>,
-    number: usize,
-    chain: &mut Vec<&'a Spot<'a>>,
-) -> Result<Slice<'a>, NoMemory>
-    requires links { AreLinks index.now.spots links.now }
-    requires number { number < length links.now.spots.items }
-    ensures { IfOk result (λ s. (e : Located) → slice_get (all_located links.now.spots.items) number ≡ Some e
-        → spots_in s ≡ chains.chain (asked index.now) e) }
+    head: &Spot<'_>,
+    chain: &[&'a Spot<'a>],
+    slices: &mut Slices<'a>,
+) -> Result<(), NoMemory>
+    requires { AreOnOwnPages chain.now }
+    ensures { OnOk result ((page offset : ℕ) → slice_at slices.new page offset
+        ≡ put_first (slice_at slices.old page offset) (is_at page offset (located head.now)) (all_located chain.now)) }
 {
-    put_chain(index, links, number, chain)?;
-    slice_of(arena, chain.as_slice())
+    let slice = slice_of(arena, chain)?;
+    enter_at_head(slices, head, slice)
 }
 
-/// Enters the chain from a numbered element, by way of `chain`.
+/// Enters the chain from a numbered element. It is put in the place of what was in `chain`, and copied from there.
 fn enter_chain<'a>(
     arena: &'a Bump,
     index: &Index<'a>,
@@ -97,8 +95,10 @@ fn enter_chain<'a>(
         → (page offset : ℕ) → slice_at slices.new page offset
         ≡ put_first (slice_at slices.old page offset) (is_at page offset e) (chains.chain (asked index.now) e)) }
 {
-    let slice = chain_in_arena(arena, index, links, number, chain)?;
-    enter_at_head(slices, links.spots[number], slice)
+    match put_chain(index, links, number, chain) {
+        Ok(()) => enter_copy(arena, links.spots[number], chain.as_slice(), slices),
+        Err(error) => Err(error),
+    }
 }
 
 /// The chains from all elements with which one begins.

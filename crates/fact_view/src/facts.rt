@@ -31,11 +31,7 @@ pub fn fact_name<'a>(e: &Element<'a>) -> Name<'a>
 {
     match name_at(e, "name") {
         Some(name) => name,
-        None => Name {
-            ns: "",
-            local: "",
-            number: 0,
-        },
+        None => Name::of("", "", 0),
     }
 }
 

@@ -1,11 +1,11 @@
 -- Lists that are made of groups, part by part.
-use Rattle.std.proofs.Common.{◌≡◌, ◌∙◌, ◌++◌, ◌+◌, ◌<◌, ℕ, List, [], ◌∷◌, length, take, get_or, map, sym, ap, append_assoc}
+use Rattle.std.proofs.Common.{◌≡◌, ◌∙◌, ◌++◌, ◌+◌, ◌<◌, ℕ, true, false, cond, List, [], ◌∷◌, length, take, get_or, map, sym, ap, append_assoc, append-nil}
 use Rattle.std.proofs.lemmas.List.{take_more, map-append}
 use Rattle.std.proofs.lemmas.List.Concat.{flat_map-append}
 use Rattle.std.proofs.lemmas.List.Elements.{filter-append}
 use Rattle.std.specs.Borrow.{Bor}
-use Rattle.std.specs.List.{filter}
-use Rattle.ix_base.specs.LinkRules.{is_footnote}
+use Rattle.std.specs.List.{flat_map, filter}
+use Rattle.ix_base.specs.LinkRules.{is_footnote, is_relationship}
 use Rattle.ix_base.specs.LocatedElements.{Located, located, is_fact}
 use Rattle.ix_base.specs.declared.tree.Spot.{Spot}
 use Rattle.id_table.specs.Tables.{all_located}
@@ -13,6 +13,8 @@ use Rattle.footnotes.specs.declared.arcs.ArcGroup.{ArcGroup}
 use Rattle.footnotes.specs.ArcGroups.{arc_to, arcs_along, group_arcs}
 use Rattle.footnotes.specs.FootnoteLinks.{Between, ends, label}
 use Rattle.footnotes.specs.ArcLinks.{end_footnotes}
+use Rattle.footnotes.specs.NamedEnds.{all_seen, seen}
+use Rattle.footnotes.specs.declared.relationships.Relationship.{Relationship}
 
 -- what is made of a list is made of its parts
 abbrev pub Joins : {X Y : Type 0} → (List X → List Y) → Type 0
@@ -44,10 +46,10 @@ arcs-joins : Joins arcs_along
 arcs-joins xs ys = flat_map-append group_arcs xs ys
 
 -- one joining list of another
-both-join : {X Y Z : Type 0} (f : List X → List Y) (g : List Y → List Z) → Joins f → Joins g → Joins (λ xs. g (f xs))
+pub both-join : {X Y Z : Type 0} (f : List X → List Y) (g : List Y → List Z) → Joins f → Joins g → Joins (λ xs. g (f xs))
 both-join f g j k xs ys = ap g (j xs ys) ∙ k (f xs) (f ys)
 
-abbrev ids_of : List Between → List (List ℕ)
+abbrev pub ids_of : List Between → List (List ℕ)
 ids_of xs = map label (filter is_fact (ends xs))
 
 ids-join : Joins ids_of
@@ -99,3 +101,37 @@ two-facts x y old now new n m =
 pub step-at : {X Y : Type 0} (f : List X → List Y) → Joins f → (xs : List X) (i : ℕ) (d : X) → i < length xs
     → (now new : List Y) → now ≡ f (take i xs) → new ≡ now ++ f (get_or xs i d ∷ []) → new ≡ f (take (i + 1) xs)
 step-at f j xs i d h now new n m = m ∙ ap (λ l. l ++ f (get_or xs i d ∷ [])) n ∙ sym (ap f (take_more xs i d h) ∙ j (take i xs) (get_or xs i d ∷ []))
+
+pub step-from-at : {X Y : Type 0} (f : List X → List Y) → Joins f → (xs : List X) (i : ℕ) (d : X) → i < length xs
+    → (old now new : List Y) → now ≡ old ++ f (take i xs) → new ≡ now ++ f (get_or xs i d ∷ []) → new ≡ old ++ f (take (i + 1) xs)
+step-from-at f j xs i d h old now new n m =
+    m ∙ ap (λ l. l ++ f (get_or xs i d ∷ [])) n ∙ append_assoc old (f (take i xs)) (f (get_or xs i d ∷ []))
+    ∙ ap (λ l. old ++ l) (sym (ap f (take_more xs i d h) ∙ j (take i xs) (get_or xs i d ∷ [])))
+
+-- relationships among elements
+pub relationships-join : Joins (λ (ss : List (Bor Spot)). filter is_relationship (all_located ss))
+relationships-join xs ys =
+    ap (filter is_relationship) (map-append (λ (s : Bor Spot). located s.now) xs ys) ∙ filter-append is_relationship (all_located xs) (all_located ys)
+
+-- an element that is a relationship was added
+pub kept-seen : (old : List Relationship) (r : Relationship) (e : Located) (new : List Relationship) → seen r ≡ e → is_relationship e ≡ true
+    → new ≡ old ++ r ∷ [] → all_seen new ≡ all_seen old ++ filter is_relationship (e ∷ [])
+kept-seen old r e new s is n =
+    ap all_seen n ∙ map-append seen old (r ∷ []) ∙ ap (λ x. all_seen old ++ x ∷ []) s
+    ∙ sym (ap (λ b. all_seen old ++ cond b (e ∷ []) []) is)
+
+-- one that is none was left out
+pub left-out : (old : List Relationship) (e : Located) → is_relationship e ≡ false → all_seen old ≡ all_seen old ++ filter is_relationship (e ∷ [])
+left-out old e is = sym (append-nil (all_seen old)) ∙ sym (ap (λ b. all_seen old ++ cond b (e ∷ []) []) is)
+
+-- what is made of the parts of one more was added
+pub step-flat : {X Y : Type 0} (f : X → List Y) (xs : List X) (i : ℕ) (x : X) → i < length xs → x ≡ get_or xs i x
+    → (now new : List Y) → now ≡ flat_map f (take i xs) → new ≡ now ++ f x → new ≡ flat_map f (take (i + 1) xs)
+step-flat f xs i x h e now new n m = step-all (flat_map f) (flat_map-append f) xs i x h e now new n (m ∙ ap (λ l. now ++ l) (sym (append-nil (f x))))
+
+-- what is made of the arcs of one more group was added
+pub step-along : {Y : Type 0} (f : List Between → List Y) → Joins (λ groups. f (arcs_along groups)) → (groups : List ArcGroup) (i : ℕ) (x : ArcGroup)
+    → i < length groups → x ≡ get_or groups i x → (now new : List Y) → now ≡ f (arcs_along (take i groups)) → new ≡ now ++ f (group_arcs x)
+    → new ≡ f (arcs_along (take (i + 1) groups))
+step-along f j groups i x h e now new n m =
+    step-all (λ gs. f (arcs_along gs)) j groups i x h e now new n (m ∙ ap (λ l. now ++ f l) (sym (append-nil (group_arcs x))))

@@ -92,14 +92,23 @@ fn link_of<'a>(
     })
 }
 
+/// Enters groups at their roles.
+fn enter_by_role<'a>(groups: &[ArcGroup<'a>], table: &mut GroupTable<'a>) -> Result<(), NoMemory>
+    ensures { OnOk result ((q : Items ℕ) → groups_at table.new q
+        ≡ groups_at table.old q ++ filter (λ g. bytes_eq q g.attributes.role.now) groups.now) }
+{
+    for group in groups {
+        table.push_at(group.attributes.role, *group)?;
+    }
+    Ok(())
+}
+
 /// Groups by their roles.
 fn by_role<'a>(alloc: Global, groups: &[ArcGroup<'a>]) -> Result<GroupTable<'a>, NoMemory>
     ensures { IfOk result (λ m. (q : Items ℕ) → groups_at m q ≡ filter (λ g. bytes_eq q g.attributes.role.now) groups.now) }
 {
     let mut table = GroupTable::new(alloc);
-    for group in groups {
-        table.push_at(group.attributes.role, *group)?;
-    }
+    enter_by_role(groups, &mut table)?;
     Ok(table)
 }
 

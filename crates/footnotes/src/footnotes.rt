@@ -230,6 +230,32 @@ fn footnotes_at<'a>(
     Ok(footnotes)
 }
 
+/// The ids of some elements in order, each once.
+fn ids_once<'a>(alloc: Global, spots: &[&'a Spot<'a>]) -> Result<Vec<&'a str>, NoMemory>
+    ensures { IfOk result (λ v. texts_of v.items ≡ in_order text_cmp (map label (all_located spots.now))) }
+{
+    let mut ids = ids_of(alloc, spots)?;
+    each_once(&mut ids);
+    Ok(ids)
+}
+
+/// Some footnotes by their ids, each once.
+fn footnotes_by_id<'a>(
+    alloc: Global,
+    notes: &[&'a Spot<'a>],
+    chains: &Chains<'a>,
+    bases: &Bases,
+) -> Result<List<Footnote>, NoMemory>
+    requires { AreOnPages chains.now (length bases.now.pages) }
+    ensures { IfOk result (λ l. l ≡ map (note_in (base_in bases.now.pages) chains.now)
+        (filter_map (λ id. last_called id (all_located notes.now) None)
+        (in_order text_cmp (map label (all_located notes.now))))) }
+{
+    let ids = ids_once(alloc, notes)?;
+    let called = called_of(alloc, notes)?;
+    footnotes_at(alloc, &called, ids.as_slice(), chains, bases)
+}
+
 /// The footnotes to which the arcs of some groups go, by their ids, each once.
 pub(crate) fn footnotes_of<'a>(
     alloc: Global,
@@ -243,8 +269,5 @@ pub(crate) fn footnotes_of<'a>(
         (filter_map (λ id. last_called id notes None) (in_order text_cmp (map label notes)))) }
 {
     let notes = notes_of(alloc, groups)?;
-    let mut ids = ids_of(alloc, notes.as_slice())?;
-    each_once(&mut ids);
-    let called = called_of(alloc, notes.as_slice())?;
-    footnotes_at(alloc, &called, ids.as_slice(), chains, bases)
+    footnotes_by_id(alloc, notes.as_slice(), chains, bases)
 }

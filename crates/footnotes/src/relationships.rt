@@ -104,7 +104,28 @@ fn either(first: bool, second: bool) -> bool
     first || second
 }
 
-/// The elements that some ids name. Each id is looked up once.
+/// Adds what some ids name to a list, and tells whether one of them names nothing that fits the end. Each id is looked
+/// up once.
+fn push_all_named<'a>(
+    index: &Index<'a>,
+    end: End,
+    words: &[&str],
+    spots: &mut Vec<&'a Spot<'a>, &'a Bump>,
+) -> Result<bool, NoMemory>
+    ensures spots { OnOk result (all_located spots.new.items ≡ all_located spots.old.items
+        ++ rules_of.named_by (tests.fits_end end) (asked index.now) (texts_of words.now)) }
+    ensures missing { IfOk result (λ b. b
+        ≡ list_any (λ id. is_none (ids.one_such (tests.fits_end end) (asked index.now) id)) (texts_of words.now)) }
+{
+    let mut is_missing = false;
+    for word in words {
+        let misses = push_named(index, end, word, spots)?;
+        is_missing = either(is_missing, misses);
+    }
+    Ok(is_missing)
+}
+
+/// The elements that some ids name.
 fn named_by<'a>(
     arena: &'a Bump,
     index: &Index<'a>,
@@ -117,11 +138,7 @@ fn named_by<'a>(
         ≡ list_any (λ id. is_none (ids.one_such (tests.fits_end end) (asked index.now) id)) (texts_of words.now)) }
 {
     let mut spots = Vec::new(arena);
-    let mut is_missing = false;
-    for word in words {
-        let misses = push_named(index, end, word, &mut spots)?;
-        is_missing = either(is_missing, misses);
-    }
+    let is_missing = push_all_named(index, end, words, &mut spots)?;
     Ok(NamedElements {
         spots: into_bump_slice(spots),
         is_missing,
@@ -201,7 +218,26 @@ fn push_if_relationship<'a>(
     ensures known { OnOk result (All (IsKnown (asked index.now)) relationships.new.items) }
 {
     if is_relationship(spot) {
-        relationships.push(relationship_of(alloc, arena, index, spot)?)?;
+        let relationship = relationship_of(alloc, arena, index, spot)?;
+        relationships.push(relationship)?;
+    }
+    Ok(())
+}
+
+/// Adds the relationships of a set at the end, in order.
+fn push_relationships<'a>(
+    alloc: Global,
+    arena: &'a Bump,
+    index: &Index<'a>,
+    relationships: &mut Vec<Relationship<'a>>,
+) -> Result<(), NoMemory>
+    requires { All (IsKnown (asked index.now)) relationships.old.items }
+    ensures seen { OnOk result (all_seen relationships.new.items
+        ≡ all_seen relationships.old.items ++ filter rules_of.is_relationship index.now.spots) }
+    ensures known { OnOk result (All (IsKnown (asked index.now)) relationships.new.items) }
+{
+    for spot in index.others() {
+        push_if_relationship(alloc, arena, index, *spot, relationships)?;
     }
     Ok(())
 }
@@ -216,8 +252,6 @@ pub(crate) fn relationships_of<'a>(
     ensures known { IfOk result (λ v. All (IsKnown (asked index.now)) v.items) }
 {
     let mut relationships = Vec::new(alloc);
-    for spot in index.others() {
-        push_if_relationship(alloc, arena, index, *spot, &mut relationships)?;
-    }
+    push_relationships(alloc, arena, index, &mut relationships)?;
     Ok(relationships)
 }

@@ -9,6 +9,7 @@ pub mod Lists
 pub mod Moments
 pub mod Numbering
 pub mod Prefixes
+pub mod SpelledNames
 pub mod Tables
 pub mod Tags
 pub mod Writable

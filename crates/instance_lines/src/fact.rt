@@ -8,12 +8,16 @@ ghost use Rattle.instance_lines.specs.Canonical.{fact_markups, facts_markup, ite
 ghost use Rattle.instance_lines.specs.Elements.{decimals, fact_line, fact_markup, nil_text, precision, value_element};
 ghost use Rattle.instance_lines.specs.Gains.{Gains};
 ghost use Rattle.instance_lines.specs.Holdings.{said_spaces};
+ghost use Rattle.instance_lines.specs.SpelledNames.{spelled};
 ghost use Rattle.instance_lines.specs.Tags.{attrs_of};
 
-use crate::markup::{Valued, push_close, push_element, push_leaf, push_start};
+use crate::markup::{Valued, push_element};
 use crate::names::spaces_in;
 use crate::prefix::Prefixes;
 use crate::sort::sort_texts;
+use crate::spelled::{
+    Spelled, push_named_close, push_named_element, push_named_leaf, push_named_start,
+};
 use ix_base::{Accuracy, Content, Fact, Item, NoMemory, Text, Tuple, Value, shown};
 use std::alloc::Global;
 
@@ -52,42 +56,37 @@ fn nil_of(value: &Value) -> Option<&'static str>
 
 /// Appends a value in an element of this name.
 fn push_value(
-    name: &str,
+    name: Spelled<'_, '_>,
     attributes: &[Valued<'_>],
     value: &Value,
     out: &mut Text,
 ) -> Result<(), NoMemory>
-    ensures { OnOk result (Gains out.old out.new (written (value_element name.now (attrs_of attributes.now) value.now))) }
+    ensures { OnOk result (Gains out.old out.new (written (value_element (spelled name.entry) (attrs_of attributes.now) value.now))) }
 {
     match value {
         Value::Nil => {
-            push_leaf(name, attributes, out)?;
+            push_named_leaf(name, attributes, out)?;
             Ok(())
         }
         Value::Plain(text) => {
-            push_element(name, attributes, text.as_str(), out)?;
+            push_named_element(name, attributes, text.as_str(), out)?;
             Ok(())
         }
         Value::Fraction(above, below) => {
-            push_start(name, attributes, out)?;
+            push_named_start(name, attributes, out)?;
             push_element("xbrli:numerator", &[], above.as_str(), out)?;
             push_element("xbrli:denominator", &[], below.as_str(), out)?;
-            push_close(name, out)?;
+            push_named_close(name, out)?;
             Ok(())
         }
     }
 }
 
 /// Appends an item.
-fn push_item(
-    alloc: Global,
-    prefixes: &Prefixes<'_>,
-    item: &Item,
-    out: &mut Text,
-) -> Result<(), NoMemory>
+fn push_item(prefixes: &Prefixes<'_>, item: &Item, out: &mut Text) -> Result<(), NoMemory>
     ensures { OnOk result (Gains out.old out.new (written (item_markup prefixes.now item.now nothing))) }
 {
-    let name = prefixes.name(alloc, &item.name)?;
+    let name = prefixes.spelled(&item.name);
     let attributes = [
         Valued {
             name: "contextRef",
@@ -114,21 +113,16 @@ fn push_item(
             value: nil_of(&item.value),
         },
     ];
-    push_value(name.as_str(), &attributes, &item.value, out)?;
+    push_value(name, &attributes, &item.value, out)?;
     Ok(())
 }
 
 /// Appends a tuple with its members.
 #[cycle(push)]
-fn push_tuple(
-    alloc: Global,
-    prefixes: &Prefixes<'_>,
-    tuple: &Tuple,
-    out: &mut Text,
-) -> Result<(), NoMemory>
+fn push_tuple(prefixes: &Prefixes<'_>, tuple: &Tuple, out: &mut Text) -> Result<(), NoMemory>
     ensures { OnOk result (Gains out.old out.new (written (fact_markup prefixes.now (Fact.Tuple tuple.now)))) }
 {
-    let name = prefixes.name(alloc, &tuple.name)?;
+    let name = prefixes.spelled(&tuple.name);
     let id = Valued {
         name: "id",
         value: shown(&tuple.id),
@@ -138,32 +132,27 @@ fn push_tuple(
             name: "xsi:nil",
             value: Some("true"),
         };
-        push_leaf(name.as_str(), &[id, nil], out)?;
+        push_named_leaf(name, &[id, nil], out)?;
         return Ok(());
     }
-    push_start(name.as_str(), &[id], out)?;
-    push_facts(alloc, prefixes, tuple.members.as_slice(), out)?;
-    push_close(name.as_str(), out)?;
+    push_named_start(name, &[id], out)?;
+    push_facts(prefixes, tuple.members.as_slice(), out)?;
+    push_named_close(name, out)?;
     Ok(())
 }
 
 /// Appends a fact.
 #[cycle(push)]
-fn push_fact(
-    alloc: Global,
-    prefixes: &Prefixes<'_>,
-    fact: &Fact,
-    out: &mut Text,
-) -> Result<(), NoMemory>
+fn push_fact(prefixes: &Prefixes<'_>, fact: &Fact, out: &mut Text) -> Result<(), NoMemory>
     ensures { OnOk result (Gains out.old out.new (written (fact_markup prefixes.now fact.now))) }
 {
     match fact {
         Fact::Item(item) => {
-            push_item(alloc, prefixes, item, out)?;
+            push_item(prefixes, item, out)?;
             Ok(())
         }
         Fact::Tuple(tuple) => {
-            push_tuple(alloc, prefixes, tuple, out)?;
+            push_tuple(prefixes, tuple, out)?;
             Ok(())
         }
     }
@@ -171,16 +160,11 @@ fn push_fact(
 
 /// Appends facts.
 #[cycle(push)]
-fn push_facts(
-    alloc: Global,
-    prefixes: &Prefixes<'_>,
-    facts: &[Fact],
-    out: &mut Text,
-) -> Result<(), NoMemory>
+fn push_facts(prefixes: &Prefixes<'_>, facts: &[Fact], out: &mut Text) -> Result<(), NoMemory>
     ensures { OnOk result (Gains out.old out.new (written (facts_markup prefixes.now (facts_of facts.now)))) }
 {
     for fact in facts {
-        push_fact(alloc, prefixes, fact, out)?;
+        push_fact(prefixes, fact, out)?;
     }
     Ok(())
 }
@@ -190,7 +174,7 @@ pub fn line_of(alloc: Global, prefixes: &Prefixes<'_>, fact: &Fact) -> Result<Te
     ensures { IfOk result (λ t. t ≡ fact_line prefixes.now fact.now) }
 {
     let mut out = Text::with_room(alloc, LINE)?;
-    push_fact(alloc, prefixes, fact, &mut out)?;
+    push_fact(prefixes, fact, &mut out)?;
     out.push("\n")?;
     Ok(out)
 }

@@ -23,6 +23,7 @@ mod prefix;
 mod reference;
 mod reorder;
 mod sort;
+mod spelled;
 mod unit;
 
 pub use fact::fact_lines_in;

@@ -49,7 +49,7 @@ pub fn push_attribute(attribute: Valued<'_>, out: &mut Text) -> Result<(), NoMem
 }
 
 /// Appends attributes.
-fn push_attributes(attributes: &[Valued<'_>], out: &mut Text) -> Result<(), NoMemory>
+pub(crate) fn push_attributes(attributes: &[Valued<'_>], out: &mut Text) -> Result<(), NoMemory>
     ensures { OnOk result (Gains out.old out.new (attrs_text (attrs_of attributes.now))) }
 {
     for attribute in attributes {

@@ -7,9 +7,11 @@ ghost use Rattle.ix_base.specs.WrittenMarkup.{attrs_text};
 ghost use Rattle.instance_lines.specs.Canonical.{root_line};
 ghost use Rattle.instance_lines.specs.Gains.{Gains};
 ghost use Rattle.instance_lines.specs.Prefixes.{xml, fixed, declared_for, declaration, is_known as known, name_text, numeral, prefix_in};
+ghost use Rattle.instance_lines.specs.SpelledNames.{spelled as spelled_name};
 ghost use Rattle.instance_lines.specs.Tables.{Agrees, values_of};
 
 use crate::markup::{Valued, push_attribute};
+use crate::spelled::Spelled;
 use ix_base::{NoMemory, OwnName, Text};
 use std::alloc::Global;
 use std::collections::BTreeMap;
@@ -31,6 +33,7 @@ pub struct Prefixes<'a> {
 
 impl<'a> Model for Prefixes<'a> {
     ghost use Rattle.std.specs.Prelude.{List as Items, ℕ};
+    ghost use Rattle.instance_lines.specs.SpelledNames.{spelled as spelled_name};
     ghost use Rattle.instance_lines.specs.Tables.{Agrees, values_of};
 
     ghost Value = { Items (Items ℕ) };
@@ -165,6 +168,16 @@ impl<'a> Prefixes<'a> {
         match self.table.get(space) {
             Some(prefix) => Some(prefix.as_str()),
             None => None,
+        }
+    }
+
+    /// A name with the prefix of its namespace. It takes no memory.
+    pub(crate) fn spelled<'p, 'n>(&'p self, name: &'n OwnName) -> Spelled<'p, 'n>
+        ensures { spelled_name result ≡ name_text self.now name.now }
+    {
+        Spelled {
+            prefix: self.prefix(name.ns.as_str()),
+            local: name.local.as_str(),
         }
     }
 

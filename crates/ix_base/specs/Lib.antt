@@ -20,6 +20,7 @@ pub mod FilledMarkup
 pub mod Forms
 pub mod Fronts
 pub mod Ids
+pub mod KindNames
 pub mod Kinds
 pub mod Lines
 pub mod LinkRules

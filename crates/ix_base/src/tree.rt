@@ -1,20 +1,48 @@
 //! Trees of pages. They lie in an arena, and borrow their texts from it.
 ghost use Rattle.std.specs.Prelude.{◌≡◌, true, map};
 ghost use Rattle.ix_base.specs.Bindings.{bound, are_ordered};
+ghost use Rattle.ix_base.specs.KindNames.{inline_by_name};
 
 use crate::attrs::Attrs;
+use crate::kind::{Kind, inline_named};
 use crate::place::Place;
 
 /// An expanded name: the text of its namespace, empty where it has none, and its local name.
 ///
 /// The number is that of the namespace among those of its page: 0 where it has none. Within a page, names have one number exactly
 /// where the texts of their namespaces are equal, so that these need not be compared to their end. It tells nothing else, and
-/// names of two pages, and one that is on no page, have nothing to do with each other's numbers.
+/// names of two pages, and one that is on no page, have nothing to do with each other's numbers. What kind of element an inline element
+/// of the name is, is kept, since it is asked often.
 #[derive(Clone, Copy, Debug)]
 pub struct Name<'a> {
     pub ns: &'a str,
     pub local: &'a str,
     pub number: usize,
+    inline: Option<Kind>,
+    ghost kept: { inline ≡ inline_by_name ns.now local.now },
+}
+
+impl<'a> Name<'a> {
+    /// The name in a namespace that has this number.
+    pub fn of(ns: &'a str, local: &'a str, number: usize) -> Name<'a>
+        ensures ns { result.ns ≡ ns.entry }
+        ensures local { result.local ≡ local.entry }
+        ensures number { result.number ≡ number }
+    {
+        Name {
+            ns,
+            local,
+            number,
+            inline: inline_named(ns, local),
+        }
+    }
+
+    /// The kind of the elements of this name, where they are inline elements.
+    pub(crate) fn inline(&self) -> Option<Kind>
+        ensures { result ≡ inline_by_name self.now.ns.now self.now.local.now }
+    {
+        self.inline
+    }
 }
 
 /// An attribute. Namespace declarations aren't among the attributes of an element. Attributes of one name may share it.

@@ -1,10 +1,12 @@
 -- What elements break, one at a time.
-use Rattle.std.proofs.Common.{◌≡◌, ◌∙◌, ap, sym, rules, ℕ, suc, ◌+◌, ◌<◌, List, ◌∷◌, ◌++◌, Option, Some, None, length, drop, get_or, append_assoc, drop-cons, add-one}
+use Rattle.std.proofs.Common.{refl, false, true, [], ◌&&◌, bytes_eq, ◌≡◌, ◌∙◌, ap, sym, rules, ℕ, suc, ◌+◌, ◌<◌, List, ◌∷◌, ◌++◌, Option, Some, None, length, drop, get_or, append_assoc, drop-cons, add-one}
 use Rattle.std.proofs.lemmas.Grind.{flat_map-append}
 use Rattle.std.specs.Borrow.{Bor}
 use Rattle.ix_base.specs.declared.kind.Kind.{Kind}
+use Rattle.ix_base.specs.declared.kind.Kind.TheVariants.{Other}
 use Rattle.ix_base.specs.declared.place.Place.{Place}
 use Rattle.ix_base.specs.declared.rule.Rule.{Rule}
+use Rattle.ix_base.specs.declared.rule.Rule.TheVariants.{N1}
 use Rattle.ix_base.specs.declared.tree.Element.{Element}
 use Rattle.ix_base.specs.declared.tree.Node.{Node, Elem}
 use Rattle.ix_base.specs.declared.tree.Node as node
@@ -13,6 +15,8 @@ use Rattle.ix_base.specs.declared.tree.Spot as spot
 use Rattle.ix_base.specs.Elements.{Placed, placed, placed_at, path_of, path_above, below, tree_at}
 use Rattle.ix_base.specs.ElementRules.{element_rules, found}
 use Rattle.ix_base.specs.Kinds.{kind_of}
+use Rattle.ix_base.specs.Namespaces.{ix_namespace}
+use Rattle.ix_base.specs.Rows.{row}
 use Rattle.ix_base.specs.Trees.{Head, Nodes, elem, Tree, tree_of, nodes_of}
 use Rattle.ix_grammar.specs.Additions.{found_as, found_at, found_below, found_from}
 
@@ -21,6 +25,12 @@ pub found-is : (rules : List Rule) (k : Kind) (place : Place) (e : Placed) → r
     → found_as rules k place e ≡ found place e
 unfolding found
 found-is rules k place e r h = ap (λ rs. found_as rs k place e) r ∙ ap (λ x. found_as element_rules x place e) h
+
+-- an element that is neither marked nor of the namespace of inline elements breaks no rule
+pub none_found : (e : Placed) (place : Place) → kind_of e ≡ Other → bytes_eq e.tree.head.name.ns ix_namespace ≡ false → found place e ≡ []
+none_found e place k n =
+    sym (found-is element_rules Other place e refl (sym k))
+    ∙ ap (λ b. row (b && true) (record { place = place; rule = N1 }) ++ []) n
 
 -- an element before other nodes
 pub found-elem : (page : ℕ) (above : List Tree) (head : Head) (children rest : Nodes)

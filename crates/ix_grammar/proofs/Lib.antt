@@ -1,3 +1,4 @@
+pub mod FormLaws
 pub mod FoundLaws
 pub mod PageLaws
 pub mod Staging

@@ -1,4 +1,5 @@
 pub mod Additions
 pub mod Measures
+pub mod NeededForms
 pub mod Parts
 pub mod StrayAttributes

@@ -13,6 +13,7 @@ mod places;
 mod references;
 mod rules;
 mod spaces;
+mod subject;
 
 pub use page::check_page;
 pub use rules::check;

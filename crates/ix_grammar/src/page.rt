@@ -8,7 +8,8 @@ ghost use Rattle.ix_base.specs.Fronts.{AppendsFront};
 ghost use Rattle.ix_grammar.specs.Additions.{found_from};
 
 use crate::references::lang_within;
-use crate::rules::{Subject, check_subject};
+use crate::rules::check_subject;
+use crate::subject::{Subject, is_ill};
 use ix_base::{Breaches, Element, NoMemory, Node, Place, Spot, kind_of};
 use std::alloc::Global;
 
@@ -28,14 +29,16 @@ fn walk<'a>(
 {
     let spot = Spot { element, up };
     let lang = lang_within(element, around);
+    let kind = kind_of(&spot);
     let of = Subject {
         spot: &spot,
-        kind: kind_of(&spot),
+        kind,
         lang,
         place: Place {
             page,
             offset: element.place.offset,
         },
+        is_ill: is_ill(kind, &spot),
     };
     check_subject(alloc, &of, breaches)?;
     for node in element.children {

@@ -1,9 +1,11 @@
 //! The rules of an element.
-ghost use Rattle.std.specs.Prelude.{◌≡◌, ◌++◌, OnOk, OnErr, IfOk, option_map};
+ghost use Rattle.std.specs.Prelude.{◌≡◌, ◌++◌, [], true, OnOk, OnErr, IfOk, option_map, bytes_eq};
+ghost use Rattle.ix_base.specs.declared.place.Place.{Place as AtPlace};
 ghost use Rattle.ix_base.specs.ElementRules as grammar;
 ghost use Rattle.ix_base.specs.ElementRules.{found};
 ghost use Rattle.ix_base.specs.Elements.{placed, path_of, place_of};
 ghost use Rattle.ix_base.specs.Kinds.{kind_of as spec_kind_of};
+ghost use Rattle.ix_base.specs.Namespaces.{ix_namespace};
 ghost use Rattle.ix_base.specs.Readers.{lang_along as spec_lang_along};
 ghost use Rattle.ix_base.specs.Fronts.{AppendsFront};
 ghost use Rattle.ix_grammar.specs.Additions.{found_as};
@@ -20,17 +22,9 @@ use crate::parts::{breaks_context, breaks_unit};
 use crate::places::{breaks_exclude, breaks_place};
 use crate::references::{breaks_language, breaks_reference, lang_along};
 use crate::spaces::breaks_spaces;
-use ix_base::{Breaches, Kind, NoMemory, Place, Rule, Spot, kind_of};
+use crate::subject::{Subject, is_ill};
+use ix_base::{Breaches, Kind, NoMemory, Rule, Spot, is_ix, kind_of};
 use std::alloc::Global;
-
-/// An element that is looked at: its kind, the `xml:lang` that holds for it, and where its breaches are reported.
-#[derive(Clone, Copy)]
-pub(crate) struct Subject<'a> {
-    pub(crate) spot: &'a Spot<'a>,
-    pub(crate) kind: Kind,
-    pub(crate) lang: Option<&'a str>,
-    pub(crate) place: Place,
-}
 
 /// The rules of elements, in the order of their table.
 fn element_rules() -> &'static [Rule]
@@ -73,14 +67,14 @@ fn breaks(alloc: Global, rule: Rule, of: &Subject<'_>) -> Result<bool, NoMemory>
         Rule::N1 => Ok(breaks_unknown(kind, e)),
         Rule::N2 => Ok(breaks_required(kind, e)),
         Rule::N3 => Ok(breaks_allowed(kind, e)),
-        Rule::N4 => Ok(breaks_names(kind, e)),
+        Rule::N4 => Ok(breaks_names(of)),
         Rule::N5 => Ok(breaks_spaces(kind, e)),
-        Rule::N6 => Ok(breaks_booleans(kind, e)),
-        Rule::N7 => Ok(breaks_scale(kind, e)),
-        Rule::N8 => Ok(breaks_sign(kind, e)),
-        Rule::N9 => Ok(breaks_accuracy(kind, e)),
-        Rule::N10 => Ok(breaks_order(kind, e)),
-        Rule::N11 => Ok(breaks_roles(kind, e)),
+        Rule::N6 => Ok(breaks_booleans(of)),
+        Rule::N7 => Ok(breaks_scale(of)),
+        Rule::N8 => Ok(breaks_sign(of)),
+        Rule::N9 => Ok(breaks_accuracy(of)),
+        Rule::N10 => Ok(breaks_order(of)),
+        Rule::N11 => Ok(breaks_roles(of)),
         Rule::N12 => Ok(breaks_place(kind, of.spot.up)),
         Rule::N13 => Ok(breaks_children(kind, e)),
         Rule::N14 => Ok(breaks_fraction(kind, e)),
@@ -115,6 +109,25 @@ fn check_some(
     Ok(())
 }
 
+/// Whether an element is of the namespace of inline elements.
+fn is_inline_named(spot: &Spot<'_>) -> bool
+    ensures { result ≡ bytes_eq (placed spot.now).tree.head.name.ns ix_namespace }
+{
+    is_ix(&spot.element.name)
+}
+
+/// Whether an element is neither marked nor of the namespace of inline elements. It breaks no rule.
+#[tactic(auto, using(crate::proofs::FoundLaws::none_found))]
+fn is_foreign(of: &Subject<'_>) -> bool
+    requires { of.now.kind ≡ spec_kind_of (placed of.now.spot.now) }
+    ensures { result ≡ true → (place : AtPlace) → found place (placed of.now.spot.now) ≡ [] }
+{
+    match of.kind {
+        Kind::Other => !is_inline_named(of.spot),
+        _ => false,
+    }
+}
+
 /// Adds exactly the rules of elements that an element breaks.
 #[tactic(auto, unfolding(ix_base::specs::ElementRules::found))]
 pub(crate) fn check_subject(
@@ -127,6 +140,9 @@ pub(crate) fn check_subject(
     ensures ok { OnOk result (breaches.new ≡ breaches.old ++ found of.now.place (placed of.now.spot.now)) }
     ensures err { OnErr result (AppendsFront (found of.now.place (placed of.now.spot.now)) breaches.old breaches.new) }
 {
+    if is_foreign(of) {
+        return Ok(());
+    }
     check_some(alloc, element_rules(), of, breaches)
 }
 
@@ -139,11 +155,13 @@ pub fn check(alloc: Global, spot: &Spot<'_>, breaches: &mut Breaches) -> Result<
     ensures ok { OnOk result (breaches.new ≡ breaches.old ++ found (place_of spot.now) (placed spot.now)) }
     ensures err { OnErr result (AppendsFront (found (place_of spot.now) (placed spot.now)) breaches.old breaches.new) }
 {
+    let kind = kind_of(spot);
     let of = Subject {
         spot,
-        kind: kind_of(spot),
+        kind,
         lang: lang_along(Some(spot)),
         place: spot.element.place,
+        is_ill: is_ill(kind, spot),
     };
     check_subject(alloc, &of, breaches)
 }

@@ -18,7 +18,7 @@ fn shown_byte(b: u8) -> u8
 }
 
 /// Adds a name as it is shown.
-pub fn push_shown(line: &mut Vec<u8>, name: &[u8]) -> Result<(), NoMemory>
+pub(crate) fn push_shown(line: &mut Vec<u8>, name: &[u8]) -> Result<(), NoMemory>
     ensures { OnOk result (line.new.items ≡ line.old.items ++ shown name.now) }
 {
     for b in name {
@@ -97,7 +97,7 @@ fn tell_wrong<E: Write>(alloc: Global, words: &[Text], err: &mut E) {
 }
 
 /// Says in one line why a run of these words ended as it did, where it wasn't done and broke no rule.
-pub fn complain<P: Blamed, S: Blamed, T: Blamed, E: Write>(
+pub(crate) fn complain<P: Blamed, S: Blamed, T: Blamed, E: Write>(
     alloc: Global,
     words: &[Text],
     status: Status,

@@ -21,7 +21,7 @@ fn texts_of(alloc: Global, all: Args) -> Result<Vec<Text>, NoMemory>
 }
 
 /// The words behind the program's name. Where one of them isn't text there are none, which give no command.
-pub fn words_of(alloc: Global, handed: io::Result<Args>) -> Result<Vec<Text>, NoMemory>
+pub(crate) fn words_of(alloc: Global, handed: io::Result<Args>) -> Result<Vec<Text>, NoMemory>
     ensures { IfOk result (λ words. words_in handed ≡ Some words.items) }
 {
     match handed {

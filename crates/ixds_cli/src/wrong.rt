@@ -250,7 +250,7 @@ fn wrong_word<'a>(alloc: Global, words: &'a [Text]) -> Result<Option<Wrong<'a>>,
 }
 
 /// The line that tells what is wrong with words, where they give no command.
-pub fn wrong_line(alloc: Global, words: &[Text]) -> Result<Option<Vec<u8>>, NoMemory>
+pub(crate) fn wrong_line(alloc: Global, words: &[Text]) -> Result<Option<Vec<u8>>, NoMemory>
     ensures { IfOk result (λ line. IfSome line (λ _. run.command_of words.now ≡ None)) }
 {
     if command_of(alloc, words)?.is_some() {

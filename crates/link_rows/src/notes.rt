@@ -22,11 +22,7 @@ fn bare<'a>() -> Element<'a> {
             page: 0,
             offset: 50,
         },
-        name: Name {
-            ns: "",
-            local: "p",
-            number: 0,
-        },
+        name: Name::of("", "p", 0),
         attrs: Attrs::empty(),
         scope: Scope::empty(),
         children: &[],

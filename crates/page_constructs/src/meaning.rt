@@ -160,7 +160,7 @@ pub fn meant<'a, 't>(
         Kind::Cdata => Ok(Some(Token::Cdata(inner))),
         Kind::Doctype => Ok(doctyped(inner)),
         Kind::Unknown => Ok(None),
-        Kind::EndTag => Ok(end_tag(inner)),
+        Kind::EndTag => Ok(end_tag(room.names.as_slice(), inner)),
         Kind::StartTag => start_tag(alloc, arena, room, offset, inner),
         Kind::Reference => Ok(Some(Token::Reference(referred_by(text)))),
         Kind::Text => Ok(worded(text)),

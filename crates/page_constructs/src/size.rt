@@ -64,6 +64,31 @@ fn quote_behind(quote: Option<u8>, byte: u8) -> Option<u8>
     }
 }
 
+/// Whether a byte of a tag ends it, opens a quote or closes the one that is open.
+fn turns(quote: Option<u8>, byte: u8) -> bool
+    ensures { result ≡ false → (cs : List ℕ) → after_tag_of quote (byte ∷ cs) ≡ option_map suc (after_tag_of quote cs) }
+{
+    match quote {
+        Some(open) => byte == open,
+        None => matches!(byte, b'>' | b'"' | b'\''),
+    }
+}
+
+/// The place of the first such byte, from a place on, or the text's end. Most bytes of a tag are passed here.
+fn next_turn(text: &[u8], from: usize, quote: Option<u8>) -> usize
+    ensures on { from ≤ result }
+    ensures goes { GoesOn (after_tag_of quote) from (after_tag_of quote) result text.now }
+{
+    let mut at = from;
+    'bytes: while at < text.len() {
+        if turns(quote, text[at]) {
+            return at;
+        }
+        at += 1;
+    }
+    at
+}
+
 /// Where the first `>` outside quotes ends, from a place on.
 fn after_tag(text: &[u8], from: Sought) -> End
     ensures value { found result ≡ further from.at (after_tag_of from.quote (drop from.at text.now)) }
@@ -78,7 +103,7 @@ fn after_tag(text: &[u8], from: Sought) -> End
             return End::At(at + 1);
         }
         quote = quote_behind(quote, text[at]);
-        at += 1;
+        at = next_turn(text, at + 1, quote);
     }
     End::Beyond(Sought { at, quote })
 }

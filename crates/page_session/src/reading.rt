@@ -50,7 +50,13 @@ pub fn count_tags(piece: &[u8]) -> u64
     ensures value { result ≡ tags_in piece.now }
     ensures most { result ≤ length piece.now }
 {
-    piece.iter().filter(|b| **b == b'<').count() as u64
+    let mut count = 0;
+    for byte in piece {
+        if *byte == b'<' {
+            count += 1;
+        }
+    }
+    count
 }
 
 /// Reads a piece, has it taken and adds to the sums. It answers whether there was any.

@@ -246,7 +246,7 @@ fn targets_of(alloc: Global, valued: &ValuedSet<'_, '_, '_>) -> Result<List<Targ
 }
 
 /// All targets of a set whose items break no rule of values.
-pub fn whole(alloc: Global, set: LinkedSet<'_, '_, '_>) -> Result<Outcome, NoMemory>
+pub fn all_targets(alloc: Global, set: LinkedSet<'_, '_, '_>) -> Result<Outcome, NoMemory>
     requires { IsValued set }
     ensures whole { IfOk result (AreAllTargets (base_in set.entry.bases) set.entry.elements) }
     ensures written { IfOk result CanBeWritten }

@@ -14,7 +14,7 @@ use ix_base::{Breaches, NoMemory, Text};
 use ix_grammar::check_page;
 use page_links::{Page, Pages};
 use std::alloc::Global;
-use target_contents::{Linked, LinkedSet, Outcome, link_all, value_faults, whole};
+use target_contents::{Linked, LinkedSet, Outcome, all_targets, link_all, value_faults};
 
 /// The rules of elements that the pages break, page by page and in document order.
 fn element_faults_of(alloc: Global, pages: &Pages<'_, '_>) -> Result<Breaches, NoMemory>
@@ -44,7 +44,7 @@ fn comes_of_values(
 {
     let found = value_faults(alloc, &set)?;
     if found.is_empty() {
-        return whole(alloc, set);
+        return all_targets(alloc, set);
     }
     Outcome::broken(found, names)
 }

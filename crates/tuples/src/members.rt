@@ -1,24 +1,19 @@
 //! The members of tuples, and the owners of facts.
-ghost use Rattle.std.specs.Prelude.{◌≡◌, ℕ, List, [], All, IfOk, IfSome, filter, option_map};
+ghost use Rattle.std.specs.Prelude.{◌≡◌, ℕ, List, [], IfOk, IfSome, option_map};
 ghost use Rattle.std.specs.Option.{option_map_or};
 ghost use Rattle.ix_base.specs.Asks.{only};
 ghost use Rattle.ix_base.specs.Elements.{placed};
 ghost use Rattle.ix_base.specs.Ids as ids;
-ghost use Rattle.ix_base.specs.LocatedElements.{is_fact, located, offset_of};
+ghost use Rattle.ix_base.specs.LocatedElements.{located, offset_of};
 ghost use Rattle.ix_base.specs.Membership as member;
 ghost use Rattle.ix_base.specs.Spots.{IsOnOnePage};
 ghost use Rattle.id_table.specs.Model.{asked};
 ghost use Rattle.id_table.specs.Slices.{slice_at};
 ghost use Rattle.id_table.specs.Tables.{all_located, spots_at, AreOnOwnPages};
-ghost use Rattle.tuples.specs.MemberTables.{AreGrouped};
+ghost use Rattle.tuples.specs.MemberTables.{members_at};
 ghost use Rattle.tuples.specs.Model.{listed, owner_in, AreAllOnOwnPages, AreMembersOf};
-ghost use Rattle.tuples.specs.OwnedFacts.{all_seen, IsKnown};
 
-use crate::fact::Fact;
-use crate::groups::Groups;
 use crate::owners::nearest_tuple;
-use crate::slices::slices_of;
-use bumpalo::Bump;
 use id_table::{Holders, Index, Slice, Slices, enter, one_in, slice_in};
 use ix_base::{NoMemory, Spot};
 use link_ids::{tuple_id_at, tuple_ref};
@@ -116,20 +111,16 @@ impl<'a> Members<'a> {
     }
 }
 
-/// The members and owners.
+/// The members and owners, by the members.
 pub(crate) fn kept<'a>(
     alloc: Global,
-    arena: &'a Bump,
     index: &Index<'a>,
-    groups: &Groups<'a>,
-    facts: &[Fact<'a>],
+    slices: Slices<'a>,
 ) -> Result<Members<'a>, NoMemory>
-    requires groups { AreGrouped groups.now index.now.spots }
-    requires seen { all_seen facts.now ≡ filter is_fact index.now.spots }
-    requires known { All (IsKnown (asked index.now)) facts.now }
+    requires { (page offset : ℕ)
+        → option_map_or (λ l. l) (slice_at slices page offset) [] ≡ members_at index.now.spots page offset }
     ensures { IfOk result (λ m. AreMembersOf m index.now.spots) }
 {
-    let slices = slices_of(alloc, arena, index, groups, facts)?;
     let tuples = tuples_of(alloc, index)?;
     Ok(Members { slices, tuples })
 }

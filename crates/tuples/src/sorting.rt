@@ -27,9 +27,7 @@ fn copied<'a>(alloc: Global, facts: &[Fact<'a>]) -> Result<Vec<Fact<'a>>, NoMemo
     ensures { IfOk result (λ v. v.items ≡ facts.now) }
 {
     let mut copy = Vec::new(alloc);
-    for fact in facts {
-        copy.push(*fact)?;
-    }
+    copy.extend_from_slice(facts)?;
     Ok(copy)
 }
 

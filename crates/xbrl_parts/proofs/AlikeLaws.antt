@@ -13,7 +13,6 @@ use Rattle.ix_base.specs.declared.content.Period.{Period}
 use Rattle.ix_base.specs.declared.content.Period.TheVariants as period
 use Rattle.ix_base.specs.declared.content.Unit.{Unit as UnitContent}
 use Rattle.ix_base.specs.declared.kind.Kind.{Kind}
-use Rattle.ix_base.specs.declared.kind.Kind.TheVariants as kind
 use Rattle.ix_base.specs.Alike.{same_each, same_member, same_dim, same_period, same_context, same_unit, same_forms}
 use Rattle.ix_base.specs.Kinds.{kind_of}
 use Rattle.ix_base.specs.LocatedElements.{Located}

@@ -147,12 +147,22 @@ pub(crate) fn start_tag<'a, 't>(
     }
 }
 
-/// What stands in an end tag.
-pub(crate) fn end_tag<'a, 't>(inner: &'t str) -> Option<Token<'a, 't>>
+/// Whether a text is a qualified name: one that is remembered is one.
+fn is_qname_among(names: &[Written<'_>], name: &str) -> bool
+    ensures { result ≡ is_qname_of name.now }
+{
+    match same_name(names, name) {
+        Some(_) => true,
+        None => is_qname(name),
+    }
+}
+
+/// What stands in an end tag. Its name is looked through only where it isn't remembered.
+pub(crate) fn end_tag<'a, 't>(names: &[Written<'_>], inner: &'t str) -> Option<Token<'a, 't>>
     ensures { option_map token_of result ≡ end_tag_of inner.now }
 {
     let (name, rest) = split(inner, Stop::White);
-    if is_qname(name) && is_white_text(rest) {
+    if is_qname_among(names, name) && is_white_text(rest) {
         Some(Token::EndTag(name))
     } else {
         None

@@ -2,19 +2,21 @@ use Rattle.std.proofs.Common.{◌∙◌, ap, sym}
 use Rattle.std.proofs.lemmas.Result.{on_ok_weaker}
 use Rattle.ix_base.specs.LinkRules.{is_at}
 use Rattle.ix_base.specs.LocatedElements.{Located, located}
-use Rattle.id_table.specs.Slices.{put_first, slice_at, spots_in}
+use Rattle.id_table.specs.Slices.{put_first, slice_at}
+use Rattle.id_table.specs.Tables.{all_located}
 use Rattle.continuations.proofs.Numbering.{located-at}
 use Rattle.continuations.proofs.Walking.{some-inj}
 use Rattle.continuations.proofs.chains.enter_chain.Goals as goal
 
-pub returns : goal.returns
-returns c =
+pub returns-in-Ok : goal.returns-in-Ok
+returns-in-Ok c =
     let l = c.args.links.now in
     let s = c.index.result in
-    on_ok_weaker c.enter_at_head.result
+    let got = c.as_slice.result.now in
+    on_ok_weaker c.enter_copy.result
     (λ h e at page offset.
     h page offset
-    ∙ ap (λ (x : Located). put_first (slice_at c.args.slices.now page offset) (is_at page offset x) (spots_in c.in_ok-slice.slice))
+    ∙ ap (λ (x : Located). put_first (slice_at c.args.slices.now page offset) (is_at page offset x) (all_located got))
     (some-inj (located s.now.now) e (sym (located-at l.spots.items c.args.number s.now c.requires.number c.index.ensures) ∙ at))
-    ∙ ap (put_first (slice_at c.args.slices.now page offset) (is_at page offset e)) (c.in_ok-slice.ensures e at))
-    c.enter_at_head.ensures
+    ∙ ap (put_first (slice_at c.args.slices.now page offset) (is_at page offset e)) (ap all_located c.as_slice.ensures.value ∙ c.in-Ok.ensures.chain e at))
+    c.enter_copy.ensures

@@ -9,8 +9,9 @@ use Rattle.id_table.specs.Model.{asked}
 use Rattle.id_table.specs.Tables.{all_located, AreOnOwnPages}
 use Rattle.id_table.proofs.OnPages.{on_page-at}
 use Rattle.continuations.specs.Walks.{next_at}
-use Rattle.continuations.proofs.Chaining.{element_at, left, chain-ends, chain-done, chain-goes_on, chain-whole, next-within}
+use Rattle.continuations.proofs.Chaining.{element_at, left, chain-begins, chain-ends, chain-done, chain-goes_on, chain-whole, next-within}
 use Rattle.continuations.proofs.Numbering.{located-at}
+use Rattle.continuations.proofs.Walking.{some-inj}
 use Rattle.continuations.proofs.trail.put_chain.Goals as goal
 
 pub returns-in_default-clause-chain : goal.returns-in_default-clause-chain
@@ -43,3 +44,20 @@ loop-step-preserved c =
           (on_page-at l.spots.items k s within c.index.ensures c.requires.links.on_pages));
       inside = λ j is. next-within a xs l.continuations l.nexts.items c.requires.links.nexts l.spots.items refl k j (sym next ∙ is);
     }
+
+pub loop-step-init : goal.loop-step-init
+loop-step-init c =
+    let l = c.args.links.now in
+    let ss = c.clear.new.self.items in
+    record {
+      walked = λ e at. chain-begins (asked c.args.index.now) (l.continuations + 1) (l.continuations + 1 - 0) c.args.from (all_located l.spots.items) e ss c.clear.ensures.items (omega arith) at;
+      pages = subst AreOnOwnPages (sym {A = List (Bor Spot)} c.clear.ensures.items) (λ i d less. absurd (omega (arith, less)));
+      inside = λ j is. subst (λ k. k < length l.spots.items) (some-inj c.args.from j is) c.requires.from;
+    }
+
+pub index-at-requires : goal.index-at-requires
+index-at-requires c =
+    let l = c.args.links.now in
+    let within : c.in-Some.number < length l.spots.items = c.loop-step.invariant.inside c.in-Some.number c.in-Some.is in
+    let many : length (all_located l.spots.items) ≡ length l.spots.items = length-map l.spots.items (λ (t : Bor Spot). located t.now) in
+    omega (arith, within, many, c.requires.links.nexts.length_is)

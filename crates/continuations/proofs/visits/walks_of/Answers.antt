@@ -1,4 +1,4 @@
-use Rattle.std.proofs.Common.{◌∙◌, ap, length, List, Option}
+use Rattle.std.proofs.Common.{◌∙◌, ap, arith, length, List, Option}
 use Rattle.continuations.specs.declared.visits.Visit.{Visit}
 use Rattle.continuations.specs.Visits.{visit_at}
 use Rattle.continuations.proofs.VisitLaws.{met-none, met-same}
@@ -16,3 +16,13 @@ returns-clause-met c =
     (written-back c.in_ok-visits.visits.len c.walk_all.new.visits c.in_ok-visits.visits.items (c.walk_all.auto.visits ∙ c.as_mut_slice.ensures.len))
     (written-back c.in_ok-meets.meets.len c.walk_all.new.meets c.in_ok-meets.meets.items (c.walk_all.auto.meets ∙ c.as_mut_slice-2.ensures.len))
     c.walk_all.ensures
+
+pub returns-clause-len : goal.returns-clause-len
+returns-clause-len c =
+    omega (
+      arith,
+      ap length (written-back c.in_ok-meets.meets.len c.walk_all.new.meets c.in_ok-meets.meets.items (c.walk_all.auto.meets ∙ c.as_mut_slice-2.ensures.len)),
+      c.walk_all.auto.meets,
+      c.as_mut_slice-2.ensures.len,
+      c.in_ok-meets.ensures.len,
+    )

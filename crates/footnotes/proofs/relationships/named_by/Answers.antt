@@ -1,36 +1,14 @@
-use Rattle.std.proofs.Common.{◌∙◌, ◌||◌, ap, List, ℕ, Bool}
-use Rattle.std.proofs.lemmas.List.{take_all}
+use Rattle.std.proofs.Common.{◌∙◌, ◌++◌, ap, List}
 use Rattle.std.specs.Borrow.{Bor}
-use Rattle.std.specs.List.{filter_map, list_any}
-use Rattle.std.specs.Prelude.{is_none}
-use Rattle.ix_base.specs.Ids.{one_such}
+use Rattle.ix_base.specs.LinkRules.{named_by}
+use Rattle.ix_base.specs.declared.tree.Spot.{Spot}
 use Rattle.id_table.specs.Model.{asked}
 use Rattle.id_table.specs.Tables.{all_located}
 use Rattle.footnotes.specs.ArcLinks.{texts_of}
 use Rattle.footnotes.specs.EndTests.{fits_end}
-use Rattle.footnotes.proofs.LinkLaws.{step-at}
-use Rattle.footnotes.proofs.NamedLaws.{any-at, named-join}
 use Rattle.footnotes.proofs.relationships.named_by.Goals as goal
-
-pub loop-word-preserved : goal.loop-word-preserved
-loop-word-preserved c =
-    let f = one_such (fits_end c.args.end) (asked c.args.index.now) in
-    let g : List ℕ → Bool = λ id. is_none (f id) in
-    record {
-      spots = step-at (λ ws. filter_map f (texts_of ws)) (named-join f) c.args.words.now c.loop-word.word-index _ c.loop-word-test.true _ _
-          c.loop-word.invariant.spots c.in_ok-misses.ensures.spots;
-      missing = c.either-is_missing.ensures ∙ ap (λ m. c.loop-word.is_missing || m) c.in_ok-misses.ensures.missing
-          ∙ any-at g c.args.words.now c.loop-word.word-index _ c.loop-word.is_missing c.loop-word-test.true c.loop-word.invariant.missing;
-    }
 
 pub returns-clause-spots : goal.returns-clause-spots
 returns-clause-spots c =
-    ap all_located c.into_bump_slice.ensures ∙ c.loop-word.invariant.spots
-    ∙ ap (λ (ws : List (Bor (List ℕ))). filter_map (one_such (fits_end c.args.end) (asked c.args.index.now)) (texts_of ws))
-    (take_all c.loop-word.word-index c.args.words.now c.loop-word-test.false)
-
-pub returns-clause-missing : goal.returns-clause-missing
-returns-clause-missing c =
-    c.loop-word.invariant.missing
-    ∙ ap (λ (ws : List (Bor (List ℕ))). list_any (λ id. is_none (one_such (fits_end c.args.end) (asked c.args.index.now) id)) (texts_of ws))
-    (take_all c.loop-word.word-index c.args.words.now c.loop-word-test.false)
+    ap all_located c.into_bump_slice.ensures ∙ c.in_ok-is_missing.ensures.spots
+    ∙ ap (λ (ss : List (Bor Spot)). all_located ss ++ named_by (fits_end c.args.end) (asked c.args.index.now) (texts_of c.args.words.now)) c.new-spots.ensures.items

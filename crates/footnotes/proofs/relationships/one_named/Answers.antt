@@ -15,3 +15,8 @@ pub returns-then-fits_end : goal.returns-then-fits_end
 returns-then-fits_end c =
     ap (λ b. cond b (Some (located c.in_ok-found.found.spot.now)) None) c.if-fits_end.ensures
     ∙ c.in_ok-found.ensures.others (fits_end c.args.end) (others_fit c.args.end)
+
+pub returns-else-fits_end : goal.returns-else-fits_end
+returns-else-fits_end c =
+    ap (λ b. cond b (Some (located c.in_ok-found.found.spot.now)) None) c.if-fits_end.ensures
+    ∙ c.in_ok-found.ensures.others (fits_end c.args.end) (others_fit c.args.end)

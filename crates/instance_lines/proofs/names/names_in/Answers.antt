@@ -1,6 +1,4 @@
-use Rattle.std.proofs.Common.{◌≡◌, ◌∙◌, sym, refl, append-nil}
-use Rattle.ix_base.specs.PlainContents.{said_of}
-use Rattle.instance_lines.specs.Holdings.{all_names}
+use Rattle.std.proofs.Common.{◌∙◌, sym, refl, append-nil}
 use Rattle.instance_lines.specs.Tables.{values_of}
 use Rattle.instance_lines.proofs.names.names_in.Goals as goal
 

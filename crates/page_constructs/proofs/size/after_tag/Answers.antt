@@ -13,6 +13,7 @@ returns-then-ends_tag-clause-value c =
 pub bytes-preserved : goal.bytes-preserved
 bytes-preserved c = λ more.
     c.bytes.invariant more ∙ past-byte (after_tag c.bytes.quote) (after_tag c.quote_behind-quote.result) c.args.text.now c.bytes.at c.bytes-test.true (λ cs. c.quote_behind-quote.ensures cs) more
+    ∙ c.next_turn-at.ensures.goes more
 
 pub returns-clause-value : goal.returns-clause-value
 returns-clause-value c =

@@ -7,20 +7,20 @@ use Rattle.page_tree.specs.declared.names.Expanded.{Expanded}
 use Rattle.page_tree.proofs.names.attributes_of.Goals as goal
 
 -- one more is made of the next of some things
-more-made : {B C : Type 0} (g : B → C) (F : List B → List C) (xs : List B) (i : ℕ) (d : B) (old new r : List C)
-    → ((x : B) (ys : List B) → F (x ∷ ys) ≡ g x ∷ F ys) → i < length xs → new ≡ old ++ g (get_or xs i d) ∷ []
+more-made : {B C : Type 0} (g : B → C) (F : List B → List C) (xs : List B) (i : ℕ) (x : B) (old new r : List C)
+    → ((y : B) (ys : List B) → F (y ∷ ys) ≡ g y ∷ F ys) → i < length xs → x ≡ get_or xs i x → new ≡ old ++ g x ∷ []
     → old ++ F (drop i xs) ≡ r → new ++ F (drop (i + 1) xs) ≡ r
-more-made g F xs i d old new r s h e inv =
-    ap (λ l. l ++ F (drop (i + 1) xs)) e ∙ append_assoc old (g (get_or xs i d) ∷ []) (F (drop (i + 1) xs))
-    ∙ ap (λ l. old ++ l) (sym (ap F (drop_more xs i d h) ∙ s (get_or xs i d) (drop (i + 1) xs))) ∙ inv
+more-made g F xs i x old new r s h is e inv =
+    ap (λ l. l ++ F (drop (i + 1) xs)) (e ∙ ap (λ y. old ++ g y ∷ []) is) ∙ append_assoc old (g (get_or xs i x) ∷ []) (F (drop (i + 1) xs))
+    ∙ ap (λ l. old ++ l) (sym (ap F (drop_more xs i x h) ∙ s (get_or xs i x) (drop (i + 1) xs))) ∙ inv
 
 pub loop-one-preserved : goal.loop-one-preserved
 loop-one-preserved c =
     let xs = c.args.expanded.now in
     let i = c.loop-one.one-index in
     record {
-      values = more-made (λ (e : Expanded). (expansion e).valued) (λ es. map (λ (y : Expansion). y.valued) (map expansion es)) xs i _ _ _ _
-          (λ x ys. refl) c.loop-one-test.true c.in_ok-collect.ensures.values c.loop-one.invariant.values;
-      spaces = more-made (λ (e : Expanded). space_of e.name) spaces_expanded xs i _ _ _ _
-          (λ x ys. refl) c.loop-one-test.true c.in_ok-collect.ensures.spaces c.loop-one.invariant.spaces;
+      values = more-made (λ (e : Expanded). (expansion e).valued) (λ es. map (λ (y : Expansion). y.valued) (map expansion es)) xs i c.one-item.result _ _ _
+          (λ x ys. refl) c.loop-one-test.true c.one-item.is c.in_ok-collect.ensures.values c.loop-one.invariant.values;
+      spaces = more-made (λ (e : Expanded). space_of e.name) spaces_expanded xs i c.one-item.result _ _ _
+          (λ x ys. refl) c.loop-one-test.true c.one-item.is c.in_ok-collect.ensures.spaces c.loop-one.invariant.spaces;
     }

@@ -1,7 +1,7 @@
 use Rattle.std.proofs.Common.{◌≡◌, ◌∙◌, ◌++◌, ◌∷◌, List, [], ap, map}
 use Rattle.std.proofs.lemmas.List.{map-append}
-use Rattle.ix_base.specs.Attributes.{Named, Valued}
-use Rattle.ix_base.specs.Spaces.{Space, space_of}
+use Rattle.ix_base.specs.Attributes.{Named}
+use Rattle.ix_base.specs.Spaces.{space_of}
 use Rattle.ix_base.specs.Trees.{valued}
 use Rattle.ix_base.specs.declared.tree.Attr.{Attr}
 use Rattle.page_tree.proofs.names.collect.Goals as goal

@@ -12,8 +12,8 @@ use Rattle.targets.proofs.ComesLaws.{keeps-on, no-faults, none-is, on-names}
 use Rattle.targets.proofs.ValuesCome.{values-come}
 use Rattle.targets.proofs.closing.comes_of_values.Goals as goal
 
-pub whole-requires : goal.whole-requires
-whole-requires c =
+pub all_targets-requires : goal.all_targets-requires
+all_targets-requires c =
     no-faults (base_in c.args.set.bases) c.args.set.elements c.in_ok-found.found c.in_ok-found.ensures
     (none-is c.in_ok-found.found c.is_empty.result c.is_empty.ensures c.if-is_empty.true)
 
@@ -32,6 +32,6 @@ broken-requires c =
 pub returns-then-is_empty-clause-comes : goal.returns-then-is_empty-clause-comes
 returns-then-is_empty-clause-comes c =
     let none = none-is c.in_ok-found.found c.is_empty.result c.is_empty.ensures c.if-is_empty.true in
-    IfOk-weaker c.whole.result _ _
+    IfOk-weaker c.all_targets.result _ _
     (λ o h. values-come (set_of c.args.pages.now) c.args.set c.in_ok-found.found o c.requires.elements c.requires.bases c.in_ok-found.ensures none h)
-    c.whole.ensures.whole
+    c.all_targets.ensures.whole

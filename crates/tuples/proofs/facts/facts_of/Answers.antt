@@ -7,7 +7,8 @@ use Rattle.id_table.proofs.OnPages.{on_page-at}
 use Rattle.id_table.proofs.Sorting.{filter-within}
 use Rattle.id_table.specs.Tables.{all_located}
 use Rattle.tuples.specs.OrderNumbers.{fits}
-use Rattle.tuples.proofs.Each.{fits-at}
+use Rattle.tuples.specs.OwnedFacts.{all_seen}
+use Rattle.tuples.proofs.Each.{facts-more, fits-at}
 use Rattle.tuples.proofs.facts.facts_of.Goals as goal
 
 pub push_if_fact-requires : goal.push_if_fact-requires
@@ -26,3 +27,10 @@ returns-clause-seen c =
     c.loop-spot.invariant.seen
     ∙ ap (filter is_fact) (ap all_located (take_all c.loop-spot.spot-index facts c.loop-spot-test.false) ∙ c.facts-spot-items.ensures.elements)
     ∙ filter-within is_fact is_fact (λ e h. h) c.args.index.now.spots
+
+pub loop-spot-preserved : goal.loop-spot-preserved
+loop-spot-preserved c = record {
+  seen = facts-more c.facts-spot-items.result.now c.loop-spot.spot-index c.spot-item.result (all_seen c.loop-spot.facts.items) _
+      c.loop-spot-test.true c.spot-item.is c.loop-spot.invariant.seen c.in_ok-push_if_fact.ensures.seen;
+  known = c.in_ok-push_if_fact.ensures.known;
+}

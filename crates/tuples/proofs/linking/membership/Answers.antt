@@ -1,18 +1,10 @@
-use Rattle.std.proofs.Common.{refl}
-use Rattle.ix_base.proofs.FrontLemmas.{front-none}
 use Rattle.ix_base.specs.LinkRules.{breaking}
 use Rattle.ix_base.specs.declared.rule.Rule.TheVariants.{L8, L9, L10, L12, L13}
 use Rattle.tuples.proofs.Adding.{err-any, front-6}
 use Rattle.tuples.proofs.linking.membership.Goals as goal
 
-pub returns-in_err-facts-clause-err : goal.returns-in_err-facts-clause-err
-returns-in_err-facts-clause-err c = err-any _ (front-none _ _ _ refl)
-
-pub returns-in_err-groups-clause-err : goal.returns-in_err-groups-clause-err
-returns-in_err-groups-clause-err c = err-any _ (front-none _ _ _ refl)
-
 pub returns-clause-err : goal.returns-clause-err
 returns-clause-err c =
     let es = c.args.index.now.spots in
-    err-any _ (front-6 (breaking L8 es) (breaking L9 es) (breaking L10 es) (breaking L12 es) (breaking L13 es) c.args.breaches.now c.add_breaches.new.breaches
-    c.in_ok-add_breaches.ensures.ok)
+    err-any _ (front-6 (breaking L8 es) (breaking L9 es) (breaking L10 es) (breaking L12 es) (breaking L13 es) c.args.breaches.now c.member_slices.new.breaches
+    c.in_ok-slices.ensures.breaches)

@@ -1,5 +1,5 @@
 use Rattle.std.proofs.Common.{◌≡◌, ◌∙◌, ◌+◌, ◌++◌, ◌∷◌, [], ap, append_assoc, subst, sym, take}
-use Rattle.std.proofs.lemmas.List.{map-append, take_more}
+use Rattle.std.proofs.lemmas.List.{map-append, take_all, take_more}
 use Rattle.std.proofs.lemmas.List.Elements.{All-push}
 use Rattle.std.specs.Borrow.{Bor}
 use Rattle.ix_base.specs.declared.tree.Spot.{Spot}
@@ -23,3 +23,8 @@ loop-fact-preserved c =
           ∙ ap (λ xs. first ++ xs) (sym (map-append seen (take i facts) (fact ∷ [])) ∙ ap all_seen (sym more));
       pages = subst AreOnOwnPages (sym c.in_ok-push.ensures.items) (All-push (λ (s : Bor Spot). IsOnOnePage s.now) before fact.spot c.loop-fact.invariant.pages fact.on_page);
     }
+
+pub returns-clause-spots : goal.returns-clause-spots
+returns-clause-spots c =
+    c.loop-fact.invariant.spots
+    ∙ ap (λ fs. all_located c.args.to.now.items ++ all_seen fs) (take_all c.loop-fact.fact-index c.args.facts.now c.loop-fact-test.false)

@@ -1,0 +1,6 @@
+use Rattle.ix_base.specs.Elements.{placed}
+use Rattle.ix_grammar.proofs.FormLaws.{accuracy_ill, un-ill}
+use Rattle.ix_grammar.proofs.attributes.has_bad_accuracy.Goals as goal
+
+pub returns-else-of : goal.returns-else-of
+returns-else-of c = un-ill c.args.of.now.is_ill _ _ _ c.if-of.false c.args.of.now.ill (accuracy_ill c.args.of.now.kind (placed c.args.of.now.spot.now).tree)

@@ -1,0 +1,7 @@
+use Rattle.std.proofs.Common.{refl}
+use Rattle.ix_base.proofs.FrontLemmas.{front-none}
+use Rattle.tuples.proofs.Adding.{err-any}
+use Rattle.tuples.proofs.linking.slices_by.Goals as goal
+
+pub returns-in_err-groups-clause-err : goal.returns-in_err-groups-clause-err
+returns-in_err-groups-clause-err c = err-any _ (front-none _ _ _ refl)
