@@ -10,6 +10,7 @@ pub mod Marking
 pub mod NameLaws
 pub mod Nesting
 pub mod Numbering
+pub mod PlaceLaws
 pub mod ReachLaws
 pub mod Reaching
 pub mod SeenLaws

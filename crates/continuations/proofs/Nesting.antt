@@ -24,7 +24,7 @@ use Rattle.continuations.proofs.Numbering.{in-got, located-at}
 use Rattle.continuations.proofs.Reaching.{same-bool}
 use Rattle.continuations.proofs.SeenLaws.{any-append, any-same}
 
-key_total : IsTotalOrder key_cmp
+pub key_total : IsTotalOrder key_cmp
 key_total = then_total (on_total (λ (k : ℕ × ℕ). k.0) nat_cmp_total) (on_total (λ (k : ℕ × ℕ). k.1) nat_cmp_total)
 
 both-equal : (r s : Ordering) → is_eq (ordering_then r s) ≡ (is_eq r && is_eq s)
@@ -32,7 +32,7 @@ both-equal Less s = refl
 both-equal Equal s = refl
 both-equal Greater s = refl
 
-flip : (m n : ℕ) → (m == n) ≡ (n == m)
+pub flip : (m n : ℕ) → (m == n) ≡ (n == m)
 flip m n = same-bool (m == n) (n == m) ((λ h. eq-eqb n m (sym (eqb-true m n h))), (λ h. eq-eqb m n (sym (eqb-true n m h))))
 
 equal-by : (m n : ℕ) (b c : Bool) → nat_lt m n ≡ b → (m == n) ≡ c → is_eq (cond b Less (cond c Equal Greater)) ≡ c
@@ -54,7 +54,7 @@ there : (page offset : ℕ) (xs : List (ℕ × ℕ)) (i : ℕ) → i < length xs
 there page offset [] i h e = absurd (omega arith)
 there page offset (z ∷ zs) i h e = list_any_at (is_key page offset) (z ∷ zs) i z h (sym (equal-key page offset (get_or (z ∷ zs) i z)) ∙ ap is_eq (e z))
 
-other : (page offset : ℕ) (k : ℕ × ℕ) (r : Ordering) → key_cmp k (page, offset) ≡ r → is_eq r ≡ false → is_key page offset k ≡ false
+pub other : (page offset : ℕ) (k : ℕ × ℕ) (r : Ordering) → key_cmp k (page, offset) ≡ r → is_eq r ≡ false → is_key page offset k ≡ false
 other page offset k r e n = sym (equal-key page offset k) ∙ ap is_eq e ∙ n
 
 pub key-found : (page offset : ℕ) (xs : List (ℕ × ℕ)) (r : Result ℕ ℕ) → IsSorted key_cmp xs → IsSearchInRange r (length xs)

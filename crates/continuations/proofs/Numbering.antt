@@ -1,12 +1,14 @@
 -- Numbers of continuations.
 use Rattle.std.proofs.Common.{◌≡◌, ◌∙◌, ◌+◌, ◌<◌, ◌≤◌, ◌++◌, ℕ, zero, suc, Bool, true, false, cond, List, [], ◌∷◌, length, get_or, refl, ap, sym, subst, arith, zero-add, Option, Some, None, ◌⊎◌, inl, inr, ⊎_elim, option_map}
-use Rattle.std.proofs.lemmas.Bool.{cases_eq, cases_lt, true≢false}
+use Rattle.std.proofs.lemmas.Bool.{cases_eq, cases_lt, ltb-false, true≢false}
 use Rattle.std.proofs.lemmas.Option.{slice_get_within, slice_get-map, slice_get_read}
 use Rattle.std.proofs.Math.ListN.{get_or-append, get_or-eq_default}
 use Rattle.std.proofs.Math.Seq.{get_or-append_seam}
 use Rattle.std.proofs.lemmas.List.{length-append}
 use Rattle.std.specs.Borrow.{Bor}
 use Rattle.std.specs.List.{filter, slice_get}
+use Rattle.std.specs.Option.{option_map_or}
+use Rattle.std.specs.Prelude.{nat_lt, is_some}
 use Rattle.ix_base.specs.Asks.{Asks, asks, only, if_such}
 use Rattle.ix_base.specs.Chain.{next, continuation}
 use Rattle.ix_base.specs.Ids.{holds_id}
@@ -23,7 +25,7 @@ unfoldable pub IsIn : {X : Type 0} → X → List X → Type 0
 IsIn x [] = ⊥
 IsIn x (y ∷ ys) = (x ≡ y) ⊎ IsIn x ys
 
-some-none : {X Y : Type 0} (x : X) → None ≡ Some x → Y
+pub some-none : {X Y : Type 0} (x : X) → None ≡ Some x → Y
 some-none x e = absurd cc
 
 pub in-got : {X : Type 0} (xs : List X) (k : ℕ) (x : X) → slice_get xs k ≡ Some x → IsIn x xs
@@ -98,6 +100,41 @@ number-is m es q e o numbers h n = by o n where
       (filter-in (holds_id q) es f.0 (in-filter is_continuation es f.0 (in-got (filter is_continuation es) k f.0 f.1)).0 f.2) in
       ap Some (f.1 ∙ ap Some same)
 
+-- the element of a number that has the id of one continuation alone is that continuation
+pub named-is : (es : List Located) (q : List ℕ) (k : ℕ) (e : Located) → continuation (asks es) q ≡ Some e
+    → option_map_or (holds_id q) (slice_get (filter is_continuation es) k) false ≡ true → slice_get (filter is_continuation es) k ≡ Some e
+named-is es q k e h t = by (slice_get (filter is_continuation es) k) refl t where
+  by : (o : Option Located) → slice_get (filter is_continuation es) k ≡ o → option_map_or (holds_id q) o false ≡ true → o ≡ Some e
+  by None s t = absurd (let z : false ≡ true = t in cc)
+  by (Some x) s t = ap Some (only-is (filter (holds_id q) es) e x (such-is is_continuation (only (filter (holds_id q) es)) e h).0
+      (filter-in (holds_id q) es x (in-filter is_continuation es x (in-got (filter is_continuation es) k x s)).0 t))
+
+pub named-known : (es : List Located) (q : List ℕ) (k : ℕ) (s : Option (Bor Spot)) → is_some s ≡ true → option_map (λ t. located t.now) s ≡ continuation (asks es) q
+    → option_map_or (holds_id q) (slice_get (filter is_continuation es) k) false ≡ true
+    → Some (slice_get (filter is_continuation es) k) ≡ option_map Some (continuation (asks es) q)
+named-known es q k None h e t = absurd (let z : false ≡ true = h in cc)
+named-known es q k (Some s) h e t = ap Some (named-is es q k (located s.now) (sym e) t) ∙ ap (option_map Some) e
+
+only-of : {X : Type 0} (xs : List X) (x : X) → nat_lt 1 (length xs) ≡ false → IsIn x xs → only xs ≡ Some x
+unfolding IsIn
+only-of [] x h i = absurd i
+only-of (y ∷ []) x h (inl same) = ap Some (sym same)
+only-of (y ∷ []) x h (inr i) = absurd i
+only-of (y ∷ z ∷ zs) x h i = absurd (let l : suc (suc (length zs)) ≤ 1 = ltb-false 1 (suc (suc (length zs))) h in omega (arith, l))
+
+-- where no other element has the id of a continuation, it is the one continuation with it
+pub named-alone : (es : List Located) (q : List ℕ) (k : ℕ) → nat_lt 1 (length (filter (holds_id q) es)) ≡ false
+    → option_map_or (holds_id q) (slice_get (filter is_continuation es) k) false ≡ true
+    → Some (slice_get (filter is_continuation es) k) ≡ option_map Some (continuation (asks es) q)
+named-alone es q k h t = by (slice_get (filter is_continuation es) k) refl t where
+  by : (o : Option Located) → slice_get (filter is_continuation es) k ≡ o → option_map_or (holds_id q) o false ≡ true
+      → Some o ≡ option_map Some (continuation (asks es) q)
+  by None s t = absurd (let z : false ≡ true = t in cc)
+  by (Some x) s t =
+      let among : IsIn x es × (is_continuation x ≡ true) = in-filter is_continuation es x (in-got (filter is_continuation es) k x s) in
+      ap (option_map Some) (sym (ap (if_such is_continuation) (only-of (filter (holds_id q) es) x h (filter-in (holds_id q) es x among.0 t))
+      ∙ ap (λ b. cond b (Some x) None) among.1))
+
 -- one number more
 pub numbered-more : (old new : Texts ℕ) (xs : List Located) (i : ℕ) (x : Located) → AreNumbers old xs i → slice_get xs i ≡ Some x
     → ((q : List ℕ) → number_at new q ≡ cond (holds_id q x) (Some i) (number_at old q)) → AreNumbers new xs (i + 1)
@@ -155,6 +192,11 @@ pub got-at : {X : Type 0} (xs : List X) (k : ℕ) → k < length xs → (x : X) 
 got-at [] k l = absurd (omega (arith, l))
 got-at (x ∷ xs) zero l = (x, refl)
 got-at (x ∷ xs) (suc k) l = got-at xs k (omega (arith, l))
+
+pub none-at : {X : Type 0} (xs : List X) (k : ℕ) → length xs ≤ k → slice_get xs k ≡ None
+none-at [] k l = refl
+none-at (x ∷ xs) zero l = absurd (omega (arith, l))
+none-at (x ∷ xs) (suc k) l = none-at xs k (omega (arith, l))
 
 -- the element that a spot in a list is
 pub located-at : (xs : List (Bor Spot)) (i : ℕ) (s : Bor Spot) → i < length xs → s ≡ get_or xs i s → slice_get (all_located xs) i ≡ Some (located s.now)

@@ -1,3 +1,4 @@
+pub mod ByPlace
 pub mod ChainReach
 pub mod ChainStarts
 pub mod Courses

@@ -4,17 +4,17 @@ ghost use Rattle.ix_base.specs.Chain as chains;
 ghost use Rattle.ix_base.specs.LinkRules.{is_at};
 ghost use Rattle.ix_base.specs.LocatedElements.{Located, located, offset_of};
 ghost use Rattle.id_table.specs.Model.{asked};
-ghost use Rattle.id_table.specs.Slices.{put_first, slice_at, spots_in};
+ghost use Rattle.id_table.specs.Slices.{put_first, spots_in};
 ghost use Rattle.id_table.specs.Tables.{all_located, AreOnOwnPages};
-ghost use Rattle.continuations.specs.ChainStarts.{first_start};
 ghost use Rattle.continuations.specs.Links.{AreLinks};
 ghost use Rattle.continuations.specs.Model.{chain_at, AreChainsOf};
 
+use crate::by_place::ByPlace;
 use crate::links::Links;
 use crate::trail::put_chain;
 use bumpalo::Bump;
 use bumpalo::collections::into_bump_slice;
-use id_table::{Index, Slice, Slices, enter_slice, slice_in};
+use id_table::{Index, Slice};
 use ix_base::{NoMemory, Spot};
 use std::alloc::Global;
 use std::marker::Model;
@@ -24,33 +24,32 @@ use std::marker::Model;
 /// Contracts see them with their places, in the order in which they were made.
 #[derive(Drop)]
 pub struct Chains<'a> {
-    slices: Slices<'a>,
+    chains: ByPlace<'a>,
 }
 
 impl<'a> Model for Chains<'a> {
     ghost use Rattle.std.specs.Prelude.{ℕ, List as Items};
     ghost use Rattle.ix_base.specs.LocatedElements.{Located};
-    ghost use Rattle.id_table.specs.Slices.{lists_in};
     ghost use Rattle.continuations.specs.Model.{kept_code};
 
     ghost Value = { Items ((ℕ × ℕ) × Items Located) };
 
     ghost coded = { kept_code };
 
-    ghost view = { λ c. lists_in c.slices };
+    ghost view = { λ c. c.chains };
 }
 
 /// Enters a chain at the place of its first element, unless there is one.
 fn enter_at_head<'a>(
-    slices: &mut Slices<'a>,
+    kept: &mut ByPlace<'a>,
     head: &Spot<'_>,
     chain: Slice<'a>,
 ) -> Result<(), NoMemory>
-    ensures { OnOk result ((page offset : ℕ) → slice_at slices.new page offset
-        ≡ put_first (slice_at slices.old page offset) (is_at page offset (located head.now)) (spots_in chain.entry)) }
+    ensures { OnOk result ((page offset : ℕ) → chain_at kept.new page offset
+        ≡ put_first (chain_at kept.old page offset) (is_at page offset (located head.now)) (spots_in chain.entry)) }
 {
     let place = head.element.place;
-    enter_slice(slices, (place.page, place.offset), chain)
+    kept.enter((place.page, place.offset), chain)
 }
 
 /// A chain, in the arena.
@@ -70,14 +69,14 @@ fn enter_copy<'a>(
     arena: &'a Bump,
     head: &Spot<'_>,
     chain: &[&'a Spot<'a>],
-    slices: &mut Slices<'a>,
+    kept: &mut ByPlace<'a>,
 ) -> Result<(), NoMemory>
     requires { AreOnOwnPages chain.now }
-    ensures { OnOk result ((page offset : ℕ) → slice_at slices.new page offset
-        ≡ put_first (slice_at slices.old page offset) (is_at page offset (located head.now)) (all_located chain.now)) }
+    ensures { OnOk result ((page offset : ℕ) → chain_at kept.new page offset
+        ≡ put_first (chain_at kept.old page offset) (is_at page offset (located head.now)) (all_located chain.now)) }
 {
     let slice = slice_of(arena, chain)?;
-    enter_at_head(slices, head, slice)
+    enter_at_head(kept, head, slice)
 }
 
 /// Enters the chain from a numbered element. It is put in the place of what was in `chain`, and copied from there.
@@ -87,37 +86,36 @@ fn enter_chain<'a>(
     links: &Links<'a>,
     number: usize,
     chain: &mut Vec<&'a Spot<'a>>,
-    slices: &mut Slices<'a>,
+    kept: &mut ByPlace<'a>,
 ) -> Result<(), NoMemory>
     requires links { AreLinks index.now.spots links.now }
     requires number { number < length links.now.spots.items }
     ensures { OnOk result ((e : Located) → slice_get (all_located links.now.spots.items) number ≡ Some e
-        → (page offset : ℕ) → slice_at slices.new page offset
-        ≡ put_first (slice_at slices.old page offset) (is_at page offset e) (chains.chain (asked index.now) e)) }
+        → (page offset : ℕ) → chain_at kept.new page offset
+        ≡ put_first (chain_at kept.old page offset) (is_at page offset e) (chains.chain (asked index.now) e)) }
 {
     match put_chain(index, links, number, chain) {
-        Ok(()) => enter_copy(arena, links.spots[number], chain.as_slice(), slices),
+        Ok(()) => enter_copy(arena, links.spots[number], chain.as_slice(), kept),
         Err(error) => Err(error),
     }
 }
 
-/// The chains from all elements with which one begins.
-fn slices_of<'a>(
+/// The chains from all elements with which one begins, by their places.
+fn kept_chains<'a>(
     arena: &'a Bump,
     index: &Index<'a>,
     links: &Links<'a>,
-) -> Result<Slices<'a>, NoMemory>
+) -> Result<ByPlace<'a>, NoMemory>
     requires { AreLinks index.now.spots links.now }
-    ensures { IfOk result (λ m. (page offset : ℕ) → slice_at m page offset
-        ≡ option_map (chains.chain (asked index.now)) (first_start page offset index.now.spots)) }
+    ensures { IfOk result (λ c. AreChainsOf c index.now.spots) }
 {
     let first = links.continuations;
     let mut chain = Vec::new(links.alloc);
-    let mut slices = Slices::with_capacity(links.alloc, links.spots.len() - first)?;
+    let mut kept = ByPlace::with_capacity(links.alloc, links.spots.len() - first)?;
     for number in first..links.spots.len() {
-        enter_chain(arena, index, links, number, &mut chain, &mut slices)?;
+        enter_chain(arena, index, links, number, &mut chain, &mut kept)?;
     }
-    Ok(slices)
+    Ok(kept)
 }
 
 /// The chains from all elements with which one begins.
@@ -129,8 +127,8 @@ pub(crate) fn chains_of<'a>(
     requires { AreLinks index.now.spots links.now }
     ensures { IfOk result (λ c. AreChainsOf c index.now.spots) }
 {
-    let slices = slices_of(arena, index, links)?;
-    Ok(Chains { slices })
+    let chains = kept_chains(arena, index, links)?;
+    Ok(Chains { chains })
 }
 
 /// No chains. It takes no memory.
@@ -138,16 +136,16 @@ pub(crate) fn no_chains<'a>(alloc: Global) -> Chains<'a>
     ensures { result ≡ [] }
 {
     Chains {
-        slices: Slices::new(alloc),
+        chains: ByPlace::new(alloc),
     }
 }
 
 /// The chain that begins with an element.
-fn find<'a>(slices: &Slices<'a>, head: &Spot<'_>) -> Option<Slice<'a>>
-    ensures { option_map spots_in result ≡ slice_at slices.now (located head.now).page (offset_of (located head.now)) }
+fn find<'a>(chains: &ByPlace<'a>, head: &Spot<'_>) -> Option<Slice<'a>>
+    ensures { option_map spots_in result ≡ chain_at chains.now (located head.now).page (offset_of (located head.now)) }
 {
     let place = head.element.place;
-    slice_in(slices, (place.page, place.offset))
+    chains.find((place.page, place.offset))
 }
 
 impl<'a> Chains<'a> {
@@ -155,7 +153,7 @@ impl<'a> Chains<'a> {
     pub fn has(&self, head: &Spot<'_>) -> bool
         ensures { result ≡ is_some (chain_at self.now (located head.now).page (offset_of (located head.now))) }
     {
-        find(&self.slices, head).is_some()
+        find(&self.chains, head).is_some()
     }
 
     /// The chain from an element with which one begins, itself first. It takes no memory.
@@ -164,7 +162,7 @@ impl<'a> Chains<'a> {
         ensures chain { chain_at self.now (located head.now).page (offset_of (located head.now)) ≡ Some (all_located result.now) }
         ensures pages { AreOnOwnPages result.now }
     {
-        match find(&self.slices, head) {
+        match find(&self.chains, head) {
             Some(slice) => slice.spots,
             None => unreachable!(),
         }

@@ -3,7 +3,7 @@ ghost use Rattle.std.specs.Prelude.{◌≡◌, ℕ, OnOk, IfOk, filter};
 ghost use Rattle.std.specs.List.{list_any};
 ghost use Rattle.std.specs.List.Sorted.{IsSorted};
 ghost use Rattle.ix_base.specs.Chain as chains;
-ghost use Rattle.ix_base.specs.LinkRules.{is_at};
+ghost use Rattle.ix_base.specs.LinkRules.{is_at, stands_inside};
 ghost use Rattle.ix_base.specs.LocatedElements.{located, is_start as spec_is_start};
 ghost use Rattle.id_table.specs.Model.{asked};
 ghost use Rattle.id_table.specs.Slices.{is_key};
@@ -15,6 +15,9 @@ use crate::links::Links;
 use crate::trail::put_chain;
 use id_table::Index;
 use ix_base::{NoMemory, Spot};
+
+/// So many elements are few.
+const FEW: usize = 4;
 
 /// The place of an element.
 fn place_of(spot: &Spot<'_>) -> (u32, u64)
@@ -75,6 +78,63 @@ fn any_within(spots: &[&Spot<'_>], places: &mut Vec<(u32, u64)>) -> Result<bool,
     Ok(false)
 }
 
+/// Whether an element is at a place.
+fn stands_at(spot: &Spot<'_>, page: u32, offset: u64) -> bool
+    ensures { result ≡ is_at page offset (located spot.now) }
+{
+    let place = spot.element.place;
+    page == place.page && offset == place.offset
+}
+
+/// Whether one of these elements is at a place.
+fn is_any_at(spots: &[&Spot<'_>], page: u32, offset: u64) -> bool
+    ensures { result ≡ list_any (is_at page offset) (all_located spots.now) }
+{
+    for spot in spots {
+        if stands_at(*spot, page, offset) {
+            return true;
+        }
+    }
+    false
+}
+
+/// Whether an element around this one is at the place of one of these.
+fn stands_among(spots: &[&Spot<'_>], spot: &Spot<'_>) -> bool
+    ensures { result ≡ stands_inside (all_located spots.now) (located spot.now) }
+{
+    let page = spot.element.place.page;
+    let mut up = spot.up;
+    while let Some(around) = up {
+        if is_any_at(spots, page, around.element.place.offset) {
+            return true;
+        }
+        up = around.up;
+    }
+    false
+}
+
+/// Whether one of these elements stands inside another one of them, by comparing each with each.
+fn any_among(spots: &[&Spot<'_>]) -> bool
+    ensures { result ≡ is_nested (all_located spots.now) }
+{
+    for spot in spots {
+        if stands_among(spots, *spot) {
+            return true;
+        }
+    }
+    false
+}
+
+/// Whether one of these elements stands inside another one of them. Few are compared as they are, without their places.
+fn has_nested(spots: &[&Spot<'_>], places: &mut Vec<(u32, u64)>) -> Result<bool, NoMemory>
+    ensures { IfOk result (λ b. b ≡ is_nested (all_located spots.now)) }
+{
+    if spots.len() <= FEW {
+        return Ok(any_among(spots));
+    }
+    any_within(spots, places)
+}
+
 /// Whether an element of a chain stands inside another one of it. Where chains share no element, all of them together
 /// are no longer than the elements are many.
 pub(crate) fn any_nested<'a>(index: &Index<'a>, links: &Links<'a>) -> Result<bool, NoMemory>
@@ -86,7 +146,7 @@ pub(crate) fn any_nested<'a>(index: &Index<'a>, links: &Links<'a>) -> Result<boo
     let mut places = Vec::new(links.alloc);
     for number in links.continuations..links.spots.len() {
         put_chain(index, links, number, &mut chain)?;
-        if any_within(chain.as_slice(), &mut places)? {
+        if has_nested(chain.as_slice(), &mut places)? {
             return Ok(true);
         }
     }

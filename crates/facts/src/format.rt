@@ -199,6 +199,8 @@ pub(crate) fn transformed(alloc: Global, format: Format, text: &str) -> Result<T
 pub(crate) fn text_in(alloc: Global, name: Name<'_>, text: &str) -> Result<Text, ItemFault>
     ensures { IfSome (said result) (IsTransformed (named name.entry) text.now) }
 {
-    let format = Format::named(name).ok_or(ItemFault::Breach(Rule::V1))?;
+    let Some(format) = Format::named(name) else {
+        return Err(ItemFault::Breach(Rule::V1));
+    };
     Ok(transformed(alloc, format, text)?)
 }

@@ -68,7 +68,9 @@ fn plain_digits(alloc: Global, text: &str) -> Result<Text, ItemFault>
 fn format_digits(alloc: Global, name: Name<'_>, text: &str) -> Result<Text, ItemFault>
     ensures { IfSome (said result) (numerals.IsDigits (Some (named name.entry)) text.now) }
 {
-    let format = Format::named(name).ok_or(ItemFault::Breach(Rule::V1))?;
+    let Some(format) = Format::named(name) else {
+        return Err(ItemFault::Breach(Rule::V1));
+    };
     let digits = transformed(alloc, format, text)?;
     if !format.gives_number() {
         return Err(ItemFault::Breach(Rule::V4));

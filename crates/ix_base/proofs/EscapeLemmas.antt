@@ -1,11 +1,12 @@
 -- Texts that are written character by character.
-use Rattle.std.proofs.Common.{◌≡◌, ◌∙◌, ap, sym, ℕ, suc, ◌<◌, ◌≤◌, ◌==◌, false, List, [], ◌∷◌, ◌++◌, length, take, get_or, Option, Some, None, option_map, refl, append_assoc, append-nil, arith, ⊎_elim}
+use Rattle.std.proofs.Common.{◌≡◌, ◌∙◌, ap, sym, ℕ, suc, ◌<◌, ◌≤◌, ◌==◌, true, false, is_none, List, [], ◌∷◌, ◌++◌, length, take, get_or, Option, Some, None, option_map, refl, append_assoc, append-nil, arith, ⊎_elim}
 use Rattle.std.specs.Char.{encode_utf8}
 use Rattle.std.proofs.lemmas.Str.{encode_ascii, inside_one}
-use Rattle.std.proofs.lemmas.Bool.{cases_lt}
+use Rattle.std.specs.List.{list_all}
+use Rattle.std.proofs.lemmas.Bool.{and_parts, cases_lt}
 use Rattle.std.proofs.lemmas.Bool.Decides.{nat_tests}
 use Rattle.std.proofs.Math.Seq.{take-append_seam}
-use Rattle.ix_base.specs.Escapes.{te_ref, ae_ref, put, escaped, written_as}
+use Rattle.ix_base.specs.Escapes.{te_ref, ae_ref, is_own, put, escaped, written_as}
 use Rattle.ix_base.specs.Fronts.{AppendsFront}
 
 -- a table of ASCII characters alone
@@ -48,6 +49,16 @@ high-encode c h = high-by (encode_utf8 c) (λ k l. ⊎_elim (λ low. (let e = in
 escaped-high : (table : ℕ → Option (List ℕ)) → IsLow table → (xs ys : List ℕ) → High xs → escaped table (xs ++ ys) ≡ xs ++ escaped table ys
 escaped-high table low [] ys h = refl
 escaped-high table low (x ∷ xs) ys h = rw (low.high x h.0) (ap (λ z. x ∷ z) (escaped-high table low xs ys h.1))
+
+-- characters that are written as themselves
+pub escaped-own : (table : ℕ → Option (List ℕ)) (t : List ℕ) → list_all (is_own table) t ≡ true → escaped table t ≡ t
+escaped-own table [] h = refl
+escaped-own table (c ∷ t) h =
+    let parts = and_parts (is_own table c) (list_all (is_own table) t) h in
+    ap (λ r. put r c (escaped table t)) (none (table c) parts.0) ∙ ap (λ x. c ∷ x) (escaped-own table t parts.1) where
+      none : (r : Option (List ℕ)) → is_none r ≡ true → r ≡ None
+      none None h = refl
+      none (Some x) h = absurd (cc)
 
 abbrev whole : Option (List ℕ) → Option (List ℕ)
 whole = option_map (λ r. 38 ∷ r)

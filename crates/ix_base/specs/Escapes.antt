@@ -1,6 +1,6 @@
 -- How characters of texts and of attribute values are written (XML 1.0, sections 2.4 and 3.3.3): each by its reference,
 -- where it has one in the table, and else as itself.
-use Rattle.std.specs.Prelude.{ℕ, ◌==◌, List, [], ◌∷◌, ◌++◌, Option, Some, None, if◌then◌else◌, codes, encode_utf8}
+use Rattle.std.specs.Prelude.{ℕ, ◌==◌, Bool, is_none, List, [], ◌∷◌, ◌++◌, Option, Some, None, if◌then◌else◌, codes, encode_utf8}
 
 -- what stands behind `&` in the reference of a character of a text
 abbrev pub te_ref : ℕ → Option (List ℕ)
@@ -14,6 +14,10 @@ abbrev pub ae_ref : ℕ → Option (List ℕ)
 ae_ref c = if c == 34 then Some (codes "quot;")
     else (if c == 9 then Some (codes "#9;")
     else (if c == 10 then Some (codes "#10;") else te_ref c))
+
+-- a character is written as itself
+abbrev pub is_own : (ℕ → Option (List ℕ)) → ℕ → Bool
+is_own table c = is_none (table c)
 
 -- a character by its reference or as itself, and what follows
 abbrev pub put : Option (List ℕ) → ℕ → List ℕ → List ℕ

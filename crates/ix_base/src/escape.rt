@@ -1,6 +1,7 @@
 //! How texts and attribute values are written.
 ghost use Rattle.std.specs.Prelude.{◌≡◌, ◌++◌, ◌∷◌, OnOk, OnErr, option_map};
-ghost use Rattle.ix_base.specs.Escapes.{te, ae, te_ref, ae_ref, escaped};
+ghost use Rattle.std.specs.List.{list_all};
+ghost use Rattle.ix_base.specs.Escapes.{te, ae, te_ref, ae_ref, escaped, is_own};
 ghost use Rattle.ix_base.specs.Fronts.{AppendsFront};
 ghost use Rattle.ix_base.specs.Manners.{ref_in};
 
@@ -65,9 +66,33 @@ fn reference_in(manner: Manner, byte: u8) -> Option<&'static str>
     }
 }
 
+/// Whether a byte is written as itself.
+#[inline(always)]
+fn is_own(manner: Manner, byte: u8) -> bool
+    ensures { result ≡ is_own (ref_in manner) byte }
+{
+    let is_text = (byte != b'&') & (byte != b'<') & (byte != b'>') & (byte != b'\r');
+    match manner {
+        Manner::Text => is_text,
+        Manner::Value => is_text & (byte != b'"') & (byte != b'\t') & (byte != b'\n'),
+    }
+}
+
+/// Whether all bytes are written as themselves. It looks at each, so that a compiler can let it look at several in one step.
+#[inline(always)]
+fn are_own(manner: Manner, bytes: &[u8]) -> bool
+    ensures { result ≡ list_all (is_own (ref_in manner)) bytes.now }
+{
+    let mut all = true;
+    for byte in bytes {
+        all = is_own(manner, *byte) & all;
+    }
+    all
+}
+
 /// Appends a text as it is written in this manner: the runs of bytes that are written as themselves, and the references between.
 #[inline(always)]
-fn push_escaped(manner: Manner, text: &str, out: &mut Text) -> Result<(), NoMemory>
+fn push_runs(manner: Manner, text: &str, out: &mut Text) -> Result<(), NoMemory>
     ensures ok { OnOk result (out.new ≡ out.old ++ escaped (ref_in manner) text.now) }
     ensures err { OnErr result (AppendsFront (escaped (ref_in manner) text.now) out.old out.new) }
 {
@@ -81,4 +106,16 @@ fn push_escaped(manner: Manner, text: &str, out: &mut Text) -> Result<(), NoMemo
         from = at + 1;
     }
     out.push(&text[from..])
+}
+
+/// Appends a text as it is written in this manner. Most texts are written as they are.
+#[inline(always)]
+fn push_escaped(manner: Manner, text: &str, out: &mut Text) -> Result<(), NoMemory>
+    ensures ok { OnOk result (out.new ≡ out.old ++ escaped (ref_in manner) text.now) }
+    ensures err { OnErr result (AppendsFront (escaped (ref_in manner) text.now) out.old out.new) }
+{
+    if are_own(manner, text.as_bytes()) {
+        return out.push(text);
+    }
+    push_runs(manner, text, out)
 }

@@ -73,6 +73,23 @@ fn bound_from<'a>(first: Option<&'a Level<'a>>, prefix: &str) -> Option<Binding<
     None
 }
 
+/// How many declarations of an element are compared one by one. Among more a prefix is looked for by halving.
+const FEW: usize = 8;
+
+/// The first of some bindings of a prefix.
+fn first_of<'a>(bindings: &'a [Binding<'a>], prefix: &str) -> Option<Binding<'a>>
+    ensures value { option_map (λ b. b.ns.now) result ≡ namespace_of (map bound bindings.entry.now) prefix.now }
+    ensures prefix { IfSome result (λ b. b.prefix.now ≡ prefix.now) }
+    ensures listed { IfSome result (λ b. Contains bindings.entry.now b) }
+{
+    for binding in bindings {
+        if binding.prefix == prefix {
+            return Some(*binding);
+        }
+    }
+    None
+}
+
 impl<'a> Declared<'a> {
     /// The declaration of a prefix.
     fn binding_of(self, prefix: &str) -> Option<Binding<'a>>
@@ -80,6 +97,9 @@ impl<'a> Declared<'a> {
         ensures prefix { IfSome result (λ b. b.prefix.now ≡ prefix.now) }
         ensures listed { IfSome result (λ b. Contains self.entry.list.now b) }
     {
+        if self.list.len() <= FEW {
+            return first_of(self.list, prefix);
+        }
         let at = place_in(self.list, prefix);
         if is_bound_at(self.list, at, prefix) {
             return Some(self.list[at]);

@@ -1,15 +1,14 @@
 -- An attribute that isn't of the form that a rule asks of it isn't of the form that its name needs.
-use Rattle.std.proofs.Common.{◌≡◌, ℕ, Bool, true, false, not, ◌&&◌, ◌||◌, List, [], ◌∷◌, Option, Some, None, if◌then◌else◌, refl, sym, ap, ◌∙◌, bytes_eq, codes, is_some, All}
+use Rattle.std.proofs.Common.{◌≡◌, ℕ, Bool, true, false, not, ◌&&◌, ◌||◌, List, [], ◌∷◌, Option, Some, if◌then◌else◌, refl, sym, ap, ◌∙◌, bytes_eq, codes}
 use Rattle.std.specs.List.{list_any}
 use Rattle.std.specs.Option.{option_map_or}
 use Rattle.std.proofs.lemmas.Bool.{and_from, and_left, and_parts, and_right, or_left, or_right, false≢true}
 use Rattle.std.proofs.lemmas.Slice.Eq.{bytes_eq-Decides}
 use Rattle.ix_base.specs.declared.kind.Kind.{Kind}
 use Rattle.ix_base.specs.Attributes.{is_named, value_of}
-use Rattle.ix_base.specs.ElementRules.{lacks, lacks_accuracy, name_tokens, qname_tokens, name_lists, roles}
+use Rattle.ix_base.specs.ElementRules.{lacks, name_tokens, qname_tokens, name_lists, roles}
 use Rattle.ix_base.specs.Forms.{is_empty, is_name_token, is_qname_token, are_names, is_boolean, is_scale, is_sign, is_decimals, is_precision, is_order, is_some_token}
-use Rattle.ix_base.specs.Kinds.{is_inline, is_fact}
-use Rattle.ix_base.specs.Readers.{attr}
+use Rattle.ix_base.specs.Kinds.{is_inline}
 use Rattle.ix_base.specs.Trees.{Valued, Tree}
 use Rattle.value_forms.specs.FormTests.{has}
 use Rattle.value_forms.specs.declared.forms.Form.{Form}
@@ -19,7 +18,7 @@ use Rattle.ix_grammar.specs.NeededForms.{form_rows, needed_form, is_ill_formed, 
 abbrev isn't : Form → Option (List ℕ) → Bool
 isn't f v = option_map_or (λ value. not (has f value)) v false
 
-no_space : (ns : List ℕ) → bytes_eq ns [] ≡ true → is_empty ns ≡ true
+pub no_space : (ns : List ℕ) → bytes_eq ns [] ≡ true → is_empty ns ≡ true
 no_space [] e = refl
 no_space (c ∷ ns) e = e
 

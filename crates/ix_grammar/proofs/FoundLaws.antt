@@ -48,7 +48,7 @@ placed-is e (Some s) = search (rules, spot.the_lemmas)
 offset-is : (e : Element) → (tree_of e).head.offset ≡ e.place.offset
 offset-is e = search (rules, node.the_lemmas)
 
-children-is : (e : Element) → (tree_of e).children ≡ nodes_of e.children.now
+pub children-is : (e : Element) → (tree_of e).children ≡ nodes_of e.children.now
 children-is e = search (rules, node.the_lemmas)
 
 -- what an element breaks, and what those below it do

@@ -12,6 +12,7 @@ mod parts;
 mod places;
 mod references;
 mod rules;
+mod sound;
 mod spaces;
 mod subject;
 

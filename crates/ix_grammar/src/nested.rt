@@ -45,7 +45,7 @@ pub fn breaks_number(kind: Kind, e: &Element) -> bool
     ensures { result ≡ grammar.breaks_number kind (tree_of e.now) }
 {
     match kind {
-        Kind::NonFraction => !is_nil(e) && !holds_number(e.children),
+        Kind::NonFraction => !holds_number(e.children) && !is_nil(e),
         _ => false,
     }
 }
@@ -138,12 +138,25 @@ fn any_differs(own: &Measure, nodes: &[Node]) -> bool
     false
 }
 
-/// Whether a number within a number is measured in another way. What the outer one has is read once.
+/// Whether a nonFraction in a number is measured in another way. What the outer one has is read once, and only where it
+/// holds elements.
+#[tactic(auto, unfolding(ix_base::specs::Namespaces::ix_namespace))]
+fn holds_differing(e: &Element) -> bool
+    ensures { result ≡ list_any (spec_differs_from (measured (tree_of e.now)))
+        (named_in ix_namespace (codes "nonFraction") (tree_of e.now).children) }
+{
+    if has_no_elements(e.children) {
+        return false;
+    }
+    any_differs(&measure_of(e), e.children)
+}
+
+/// Whether a number within a number is measured in another way.
 pub fn breaks_nested(kind: Kind, e: &Element) -> bool
     ensures { result ≡ grammar.breaks_nested kind (tree_of e.now) }
 {
     match kind {
-        Kind::NonFraction => !is_nil(e) && any_differs(&measure_of(e), e.children),
+        Kind::NonFraction => !is_nil(e) && holds_differing(e),
         _ => false,
     }
 }

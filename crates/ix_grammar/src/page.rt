@@ -8,9 +8,8 @@ ghost use Rattle.ix_base.specs.Fronts.{AppendsFront};
 ghost use Rattle.ix_grammar.specs.Additions.{found_from};
 
 use crate::references::lang_within;
-use crate::rules::check_subject;
-use crate::subject::{Subject, is_ill};
-use ix_base::{Breaches, Element, NoMemory, Node, Place, Spot, kind_of};
+use crate::rules::check_spot;
+use ix_base::{Breaches, Element, NoMemory, Node, Place, Spot};
 use std::alloc::Global;
 
 /// Adds the rules that an element and those below it break, in document order. The element stands below `up`, where
@@ -29,18 +28,11 @@ fn walk<'a>(
 {
     let spot = Spot { element, up };
     let lang = lang_within(element, around);
-    let kind = kind_of(&spot);
-    let of = Subject {
-        spot: &spot,
-        kind,
-        lang,
-        place: Place {
-            page,
-            offset: element.place.offset,
-        },
-        is_ill: is_ill(kind, &spot),
+    let place = Place {
+        page,
+        offset: element.place.offset,
     };
-    check_subject(alloc, &of, breaches)?;
+    check_spot(alloc, &spot, lang, place, breaches)?;
     for node in element.children {
         if let Node::Elem(below) = node {
             walk(alloc, page, below, Some(&spot), lang, breaches)?;

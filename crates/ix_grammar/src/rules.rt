@@ -1,11 +1,9 @@
 //! The rules of an element.
-ghost use Rattle.std.specs.Prelude.{◌≡◌, ◌++◌, [], true, OnOk, OnErr, IfOk, option_map, bytes_eq};
-ghost use Rattle.ix_base.specs.declared.place.Place.{Place as AtPlace};
+ghost use Rattle.std.specs.Prelude.{◌≡◌, ◌++◌, OnOk, OnErr, IfOk, option_map};
 ghost use Rattle.ix_base.specs.ElementRules as grammar;
 ghost use Rattle.ix_base.specs.ElementRules.{found};
 ghost use Rattle.ix_base.specs.Elements.{placed, path_of, place_of};
 ghost use Rattle.ix_base.specs.Kinds.{kind_of as spec_kind_of};
-ghost use Rattle.ix_base.specs.Namespaces.{ix_namespace};
 ghost use Rattle.ix_base.specs.Readers.{lang_along as spec_lang_along};
 ghost use Rattle.ix_base.specs.Fronts.{AppendsFront};
 ghost use Rattle.ix_grammar.specs.Additions.{found_as};
@@ -21,9 +19,10 @@ use crate::nested::{breaks_nested, breaks_number};
 use crate::parts::{breaks_context, breaks_unit};
 use crate::places::{breaks_exclude, breaks_place};
 use crate::references::{breaks_language, breaks_reference, lang_along};
+use crate::sound::is_sound;
 use crate::spaces::breaks_spaces;
 use crate::subject::{Subject, is_ill};
-use ix_base::{Breaches, Kind, NoMemory, Rule, Spot, is_ix, kind_of};
+use ix_base::{Breaches, NoMemory, Place, Rule, Spot, kind_of};
 use std::alloc::Global;
 
 /// The rules of elements, in the order of their table.
@@ -109,41 +108,41 @@ fn check_some(
     Ok(())
 }
 
-/// Whether an element is of the namespace of inline elements.
-fn is_inline_named(spot: &Spot<'_>) -> bool
-    ensures { result ≡ bytes_eq (placed spot.now).tree.head.name.ns ix_namespace }
-{
-    is_ix(&spot.element.name)
-}
-
-/// Whether an element is neither marked nor of the namespace of inline elements. It breaks no rule.
-#[tactic(auto, using(crate::proofs::FoundLaws::none_found))]
-fn is_foreign(of: &Subject<'_>) -> bool
-    requires { of.now.kind ≡ spec_kind_of (placed of.now.spot.now) }
-    ensures { result ≡ true → (place : AtPlace) → found place (placed of.now.spot.now) ≡ [] }
-{
-    match of.kind {
-        Kind::Other => !is_inline_named(of.spot),
-        _ => false,
-    }
-}
-
 /// Adds exactly the rules of elements that an element breaks.
 #[tactic(auto, unfolding(ix_base::specs::ElementRules::found))]
-pub(crate) fn check_subject(
-    alloc: Global,
-    of: &Subject<'_>,
-    breaches: &mut Breaches,
-) -> Result<(), NoMemory>
+fn check_subject(alloc: Global, of: &Subject<'_>, breaches: &mut Breaches) -> Result<(), NoMemory>
     requires lang { option_map (λ s. s.now) of.now.lang ≡ spec_lang_along (path_of (placed of.now.spot.now)) }
     requires kind { of.now.kind ≡ spec_kind_of (placed of.now.spot.now) }
     ensures ok { OnOk result (breaches.new ≡ breaches.old ++ found of.now.place (placed of.now.spot.now)) }
     ensures err { OnErr result (AppendsFront (found of.now.place (placed of.now.spot.now)) breaches.old breaches.new) }
 {
-    if is_foreign(of) {
+    check_some(alloc, element_rules(), of, breaches)
+}
+
+/// Adds exactly the rules of elements that an element breaks, where this is the `xml:lang` that holds for it.
+pub(crate) fn check_spot(
+    alloc: Global,
+    spot: &Spot<'_>,
+    lang: Option<&str>,
+    place: Place,
+    breaches: &mut Breaches,
+) -> Result<(), NoMemory>
+    requires { option_map (λ s. s.now) lang ≡ spec_lang_along (path_of (placed spot.now)) }
+    ensures ok { OnOk result (breaches.new ≡ breaches.old ++ found place (placed spot.now)) }
+    ensures err { OnErr result (AppendsFront (found place (placed spot.now)) breaches.old breaches.new) }
+{
+    let kind = kind_of(spot);
+    if is_sound(kind, spot) {
         return Ok(());
     }
-    check_some(alloc, element_rules(), of, breaches)
+    let of = Subject {
+        spot,
+        kind,
+        lang,
+        place,
+        is_ill: is_ill(kind, spot),
+    };
+    check_subject(alloc, &of, breaches)
 }
 
 /// Adds exactly the rules of elements that an element breaks, in the order of their table. After a refusal a front of
@@ -155,13 +154,11 @@ pub fn check(alloc: Global, spot: &Spot<'_>, breaches: &mut Breaches) -> Result<
     ensures ok { OnOk result (breaches.new ≡ breaches.old ++ found (place_of spot.now) (placed spot.now)) }
     ensures err { OnErr result (AppendsFront (found (place_of spot.now) (placed spot.now)) breaches.old breaches.new) }
 {
-    let kind = kind_of(spot);
-    let of = Subject {
+    check_spot(
+        alloc,
         spot,
-        kind,
-        lang: lang_along(Some(spot)),
-        place: spot.element.place,
-        is_ill: is_ill(kind, spot),
-    };
-    check_subject(alloc, &of, breaches)
+        lang_along(Some(spot)),
+        spot.element.place,
+        breaches,
+    )
 }

@@ -9,8 +9,6 @@ mod pages;
 mod parts;
 mod system;
 mod target_files;
-#[cfg(test)]
-mod tests;
 mod text;
 mod writing;
 

@@ -92,14 +92,6 @@ impl<F: Folder + Drop> FileTargets<F> {
     }
 }
 
-#[cfg(test)]
-impl<F: Folder + Drop> FileTargets<F> {
-    /// The folder.
-    pub fn folder(&self) -> &F {
-        &self.folder
-    }
-}
-
 impl<F: Folder + Drop> TargetSink for FileTargets<F> {
     ghost use Rattle.std.specs.Prelude.{is_err, ◌^◌, ◌<◌};
     ghost use Rattle.ix_base.specs.Outside.{IsCounted};

@@ -1,12 +1,15 @@
 -- Texts in other texts, and around them.
-use Rattle.std.proofs.Common.{◌≡◌, ◌≢◌, ℕ, Bool, true, false, ◌||◌, ◌⊎◌, inl, inr, List, [], ◌∷◌, ◌++◌, length, drop, refl, sym, ap, ◌∙◌, arith, append_assoc, append-nil, length-append}
+use Rattle.std.proofs.Common.{◌≡◌, ◌≢◌, ℕ, ◌+◌, ◌-◌, ◌≤◌, ◌==◌, Bool, true, false, ◌||◌, ◌⊎◌, inl, inr, List, [], ◌∷◌, ◌++◌, length, take, drop, subst, refl, sym, ap, ◌∙◌, arith, append_assoc, append-nil, length-append}
+use Rattle.std.proofs.lemmas.Str.{IsCharBoundary-at_seam, IsCharBoundary-from_take}
+use Rattle.std.proofs.lemmas.Bool.{and_right}
+use Rattle.std.specs.Str.{IsUtf8, IsCharBoundary}
 use Rattle.std.specs.Str.Iter.{HasSubslice}
 use Rattle.page_constructs.specs.Constructs.{starts}
 use Rattle.page_constructs.specs.Ends.{HasEnds, IsAround, front_around, back_around}
-use Rattle.page_constructs.specs.Forms.{holds}
+use Rattle.page_constructs.specs.Forms.{has, holds}
 use Rattle.page_constructs.specs.declared.kind.Kind.{Kind}
 use Rattle.page_constructs.specs.declared.kind.Kind.TheVariants.{Declaration, Instruction, Comment, Cdata, Doctype, Unknown, EndTag, StartTag, Reference, Text}
-use Rattle.page_constructs.proofs.SpanLaws.{clash, either, is_same, starts-front, starts-append}
+use Rattle.page_constructs.proofs.SpanLaws.{clash, either, is_same, or_left, or_right, starts-front, starts-append, take-front}
 
 holds-within : (c : ℕ) (part a b : List ℕ) → holds (c ∷ part) (a ++ (c ∷ part ++ b)) ≡ true
 holds-within c part [] b = rw (is_same c, starts-append part b) refl
@@ -82,3 +85,33 @@ ends-around EndTag text h = inl h
 ends-around StartTag text h = inl h
 ends-around Reference text h = inl (text, sym (append-nil text))
 ends-around Text text h = inl (text, sym (append-nil text))
+
+-- without its last byte, a part stands nowhere
+pub ends-none : (c : ℕ) (part cs : List ℕ) → has c cs ≡ false → holds (part ++ c ∷ []) cs ≡ false
+ends-none c part [] n = refl
+ends-none c part (d ∷ cs) n =
+    rw (starts-none part (d ∷ cs) n, ends-none c part cs (or_right (d == c) (has c cs) n)) refl where
+      starts-none : (part cs : List ℕ) → has c cs ≡ false → starts (part ++ c ∷ []) cs ≡ false
+      starts-none [] [] n = refl
+      starts-none (p ∷ ps) [] n = refl
+      starts-none [] (d ∷ cs) n = rw (or_left (d == c) (has c cs) n) refl
+      starts-none (p ∷ ps) (d ∷ cs) n = rw (starts-none ps cs (or_right (d == c) (has c cs) n)) (and_right (d == p) false refl)
+
+-- a text may be cut behind what stands in front of what it says, and before what stands behind it
+module _ (front back text : List ℕ) (around : IsAround front back text) (u : IsUtf8 text) (room : length front + length back ≤ length text) where
+  pub cut-front : IsUtf8 front → IsCharBoundary text (length front)
+  cut-front f = elim around [
+    | inl w ↦ IsCharBoundary-from_take text (length front) u (omega arith)
+        (subst IsUtf8 (sym (ap (take (length front)) w.1 ∙ take-front front (w.0 ++ back))) f)
+    | inr few ↦ absurd (omega arith)
+  ]
+
+  pub cut-back : IsUtf8 back → IsCharBoundary text (length text - length back)
+  cut-back b = elim around [
+    | inl w ↦
+        let splits : text ≡ (front ++ w.0) ++ back = w.1 ∙ sym (append_assoc front w.0 back) in
+        let long = ap length splits ∙ length-append (front ++ w.0) back in
+        let place : length (front ++ w.0) ≡ length text - length back = omega arith in
+        subst (IsCharBoundary text) place (IsCharBoundary-at_seam text (front ++ w.0) back splits b)
+    | inr few ↦ absurd (omega arith)
+  ]

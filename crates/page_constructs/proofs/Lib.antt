@@ -4,6 +4,7 @@ pub mod BoolLaws
 pub mod CodeNames
 pub mod CutLaws
 pub mod NameBytes
+pub mod OwnValues
 pub mod Parting
 pub mod SizeLaws
 pub mod SpanLaws

@@ -6,16 +6,14 @@ use Rattle.std.specs.Str.{IsUtf8, IsCharBoundary}
 use Rattle.std.specs.Str.Pattern.{FindsTextPrefix, StripsPrefix}
 use Rattle.std.proofs.lemmas.Bool.Decides.{nat_tests}
 use Rattle.std.proofs.lemmas.Str.{IsCharBoundary-start, IsCharBoundary-end, IsCharBoundary-before_ascii, IsCharBoundary-after_ascii}
-use Rattle.std.proofs.lemmas.Str.Pattern.{IsSplitOnceResult, split_parts}
 use Rattle.ix_base.specs.NcName.{is_white}
 use Rattle.page_constructs.specs.Constructs.{starts}
 use Rattle.page_constructs.specs.Forms.{has, is_quote}
 use Rattle.page_constructs.specs.Meanings.{before, from, is_dark, behind_front, behind_white, is_white_text, ends_name, ends_tag_name, quoted}
-use Rattle.page_constructs.specs.Stops.{stops, is_special}
-use Rattle.page_constructs.specs.Spans.{parted}
+use Rattle.page_constructs.specs.Stops.{stops, is_special, is_odd}
 use Rattle.page_constructs.specs.declared.meaning.span.Stop.{Stop}
-use Rattle.page_constructs.specs.declared.meaning.span.Stop.TheVariants.{White, Dark, Name, TagName, Special}
-use Rattle.page_constructs.proofs.SpanLaws.{one_number, either, same_or, is_same, NoneStops, before-span, from-span, before-from, starts-front, starts-append, drop-front, take-front}
+use Rattle.page_constructs.specs.declared.meaning.span.Stop.TheVariants.{White, Dark, Name, TagName, Special, Odd, Double, Single}
+use Rattle.page_constructs.proofs.SpanLaws.{one_number, either, same_or, is_same, NoneStops, before-from, starts-front, starts-append, drop-front, take-front}
 
 -- what stands before the first byte that stops, and from it on
 pub take-before : (f : ℕ → Bool) (t : List ℕ) → take (length (before f t)) t ≡ before f t
@@ -91,6 +89,9 @@ tag-name-low c h = grind (arith, nat_tests)
 pub special-low : (c : ℕ) → is_special c ≡ true → c < 128
 special-low c h = grind (arith, nat_tests)
 
+odd-low : (c : ℕ) → is_odd c ≡ true → c < 128
+odd-low c h = grind (arith, nat_tests)
+
 dark-low : (c : ℕ) → is_dark c ≡ false → c < 128
 dark-low c h = white-low c (Rattle.page_constructs.proofs.BoolLaws.not_false (is_white c) h)
 
@@ -100,6 +101,9 @@ cut-stop Dark t u = cut-behind is_dark dark-low t u
 cut-stop Name t u = cut-low ends_name name-low t
 cut-stop TagName t u = cut-low ends_tag_name tag-name-low t
 cut-stop Special t u = cut-low is_special special-low t
+cut-stop Odd t u = cut-low is_odd odd-low t
+cut-stop Double t u = cut-low (λ c. c == 34) (λ c h. grind (arith, nat_tests)) t
+cut-stop Single t u = cut-low (λ c. c == 39) (λ c h. grind (arith, nat_tests)) t
 
 pub white-none : (t : List ℕ) → (length (behind_white t) == 0) ≡ is_white_text t
 white-none [] = refl
@@ -133,13 +137,26 @@ has-within : (q : ℕ) (t u : List ℕ) → has q (t ++ q ∷ u) ≡ true
 has-within q [] u = rw (is_same q) refl
 has-within q (c ∷ t) u = elim (c == q) as (λ b. (b || has q (t ++ q ∷ u)) ≡ true) [ true ↦ refl | false ↦ has-within q t u ]
 
-pub quoted-split : (q : ℕ) (text rest : List ℕ) (r : Option (Bor (List ℕ) × Bor (List ℕ))) → is_quote q ≡ true → q < 128 → text ≡ q ∷ rest → IsSplitOnceResult q rest r → option_map parted r ≡ quoted text
-quoted-split q text rest r k low e h = by_parts r (split_parts q rest r h low) ∙ ap quoted (sym e) where
-  by_parts : (r : Option (Bor (List ℕ) × Bor (List ℕ))) → MatchOption r ((i : ℕ) → i < length rest → get_or rest i 0 ≢ q) (λ x. (rest ≡ x.0.now ++ (q ∷ x.1.now)) × ((i : ℕ) → i < length x.0.now → get_or x.0.now i 0 ≢ q)) → option_map parted r ≡ quoted (q ∷ rest)
-  by_parts None h = rw (k, none-has q rest (index-none q rest h)) refl
-  by_parts (Some x) h =
-      let none = index-none q x.0.now h.1 in
-      rw (h.0) (rw (k, has-within q x.0.now x.1.now, before-span (λ c. c == q) x.0.now (q ∷ x.1.now) none (is_same q), from-span (λ c. c == q) x.0.now (q ∷ x.1.now) none (is_same q)) refl)
+-- a value up to the quote that closes it
+pub closed-some : (q : ℕ) (text value raw behind more : List ℕ) → is_quote q ≡ true → text ≡ q ∷ value → raw ≡ before (λ c. c == q) value
+    → behind ≡ from (λ c. c == q) value → behind ≡ q ∷ more → Some (raw, more) ≡ quoted text
+closed-some q text value raw behind more k t b f e =
+    let there : has q value ≡ true = ap (has q) (before-from (λ c. c == q) value ∙ ap (λ l. before (λ c. c == q) value ++ l) (sym f ∙ e)) ∙ has-within q (before (λ c. c == q) value) more in
+    let is : Some (raw, more) ≡ quoted (q ∷ value) = rw (k, there) (λ i. Some (b i, ap (drop 1) (sym e ∙ f) i)) in
+    is ∙ ap quoted (sym t)
+
+no-has : (q : ℕ) (t : List ℕ) → ((more : List ℕ) → from (λ c. c == q) t ≢ q ∷ more) → has q t ≡ false
+no-has q [] h = refl
+no-has q (c ∷ t) h = elim (same_or c q) as (λ x. has q (c ∷ t) ≡ false) [
+  | inl e ↦ absurd (let here : from (λ y. y == q) (q ∷ t) ≡ q ∷ t = rw (is_same q) refl in h t (ap (λ x. from (λ y. y == q) (x ∷ t)) e ∙ here))
+  | inr n ↦ rw n (no-has q t (λ more e. h more (let on : from (λ y. y == q) (c ∷ t) ≡ from (λ y. y == q) t = rw n refl in on ∙ e)))
+]
+
+pub closed-none : (q : ℕ) (text value behind : List ℕ) → text ≡ q ∷ value → behind ≡ from (λ c. c == q) value → ((more : List ℕ) → behind ≢ q ∷ more) → None ≡ quoted text
+closed-none q text value behind t f h =
+    let gone : has q value ≡ false = no-has q value (λ more e. h more (f ∙ e)) in
+    let is : None ≡ quoted (q ∷ value) = rw (gone, Rattle.std.proofs.lemmas.Bool.and_right (is_quote q) false refl) refl in
+    is ∙ ap quoted (sym t)
 
 pub quoted-none : (text : List ℕ) → ((rest : List ℕ) → text ≢ 34 ∷ rest) → ((rest : List ℕ) → text ≢ 39 ∷ rest) → None ≡ quoted text
 quoted-none [] d s = refl

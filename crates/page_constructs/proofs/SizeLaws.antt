@@ -1,9 +1,11 @@
 -- How the code that finds a construct's end meets its definition.
-use Rattle.std.proofs.Common.{◌≡◌, ◌≢◌, ℕ, suc, ◌+◌, ◌<◌, ◌≤◌, ◌==◌, Bool, true, false, ◌&&◌, ◌||◌, if◌then◌else◌, List, [], ◌∷◌, ◌++◌, length, take, drop, Option, Some, None, option_map, is_none, refl, sym, ap, ◌∙◌, subst, arith, rules, bytes_eq, get_or, drop-cons, add-one, append_assoc, append-nil, length-append, length-drop, codes, ⊎_elim}
-use Rattle.std.proofs.lemmas.Bool.{cases_lt}
+use Rattle.std.proofs.Common.{◌≡◌, ◌≢◌, ℕ, suc, ◌+◌, ◌<◌, ◌≤◌, ◌==◌, Bool, true, false, ◌&&◌, ◌||◌, if◌then◌else◌, List, [], ◌∷◌, ◌++◌, zero, length, take, drop, Option, Some, None, option_map, is_none, refl, sym, ap, ◌∙◌, subst, arith, rules, bytes_eq, get_or, drop-cons, add-one, append_assoc, append-nil, length-append, length-drop, codes, ⊎_elim}
+use Rattle.std.proofs.lemmas.Bool.{and_parts, cases_lt, not-true}
 use Rattle.std.proofs.lemmas.List.{get_or_append_left, drop-append-le}
 use Rattle.std.proofs.Math.ListN.{drop_of_length-le}
-use Rattle.page_constructs.specs.Constructs.{starts, starts_white, after, after_tag, kind_of, with_front, size_by, size}
+use Rattle.std.specs.List.{list_all}
+use Rattle.page_constructs.specs.Stops.{is_text}
+use Rattle.page_constructs.specs.Constructs.{starts, starts_white, after, after_tag, text_size, kind_of, with_front, size_by, size}
 use Rattle.page_constructs.specs.Searches.{seek, skipped, further, GoesOn, IsSought}
 use Rattle.page_constructs.specs.declared.kind.Kind.{Kind}
 use Rattle.page_constructs.specs.declared.kind.Kind.TheVariants.{Declaration, Instruction, Comment, Cdata, Doctype, Unknown, EndTag, StartTag, Reference, Text}
@@ -38,6 +40,19 @@ further-suc n (Some k) = ap Some (omega arith)
 pub past-byte : (f g : List ℕ → Option ℕ) (t : List ℕ) (i : ℕ) → i < length t → ((cs : List ℕ) → f (get_or t i 0 ∷ cs) ≡ option_map suc (g cs)) → GoesOn f i g (i + 1) t
 past-byte f g t i h e ds =
     ap (λ x. further i (f x)) (at-more t ds i h) ∙ ap (further i) (e (drop (i + 1) (t ++ ds))) ∙ further-suc i (g (drop (i + 1) (t ++ ds)))
+
+-- a text goes on through bytes that don't end it
+pub past-text : (n : ℕ) (t : List ℕ) (i : ℕ) → i + n ≤ length t → list_all is_text (take n (drop i t)) ≡ true → GoesOn text_size i text_size (i + n) t
+past-text zero t i h a = λ more. let same : i ≡ i + 0 = omega arith in ap (λ k. further k (text_size (drop k (t ++ more)))) same
+past-text (suc n) t i h a =
+    let d : drop i t ≡ get_or t i 0 ∷ drop (i + 1) t = drop-next t i (omega arith) in
+    let both : (is_text (get_or t i 0) && list_all is_text (take n (drop (i + 1) t))) ≡ true = rw d at a in
+    let parts = and_parts (is_text (get_or t i 0)) (list_all is_text (take n (drop (i + 1) t))) both in
+    let other = not-true (get_or t i 0 == 60 || get_or t i 0 == 38) parts.0 in
+    let on = past-byte text_size text_size t i (omega arith) (λ cs. ap (λ b. if b then Some 0 else option_map suc (text_size cs)) other) in
+    let rest = past-text n t (i + 1) (omega arith) parts.1 in
+    let place : i + 1 + n ≡ i + suc n = omega arith in
+    λ more. on more ∙ rest more ∙ ap (λ k. further k (text_size (drop k (t ++ more)))) place
 
 -- it ends at a byte
 pub at-byte : (f : List ℕ → Option ℕ) (t : List ℕ) (i k : ℕ) → i < length t → ((cs : List ℕ) → f (get_or t i 0 ∷ cs) ≡ Some k) → further i (f (drop i t)) ≡ Some (i + k)

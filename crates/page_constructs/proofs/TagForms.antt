@@ -138,7 +138,7 @@ equal-out text p e =
     }
 
 -- a name's bytes don't end it
-name-none : (name : List ℕ) → is_qname name ≡ true → NoneStops ends_name name
+pub name-none : (name : List ℕ) → is_qname name ≡ true → NoneStops ends_name name
 unfolding is_name_byte Rattle.ix_base.specs.NcName.is_name_char Rattle.ix_base.specs.NcName.is_name_start
 name-none name h = none-all ends_name is_qname_byte (λ c k. rw (name-not-white c k, name-not 61 c refl k) refl) name (qname-bytes name h)
 

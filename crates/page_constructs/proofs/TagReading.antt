@@ -1,5 +1,5 @@
 -- How the code that reads tags meets its definitions.
-use Rattle.std.proofs.Common.{◌≡◌, ◌≢◌, ℕ, suc, zero, ◌+◌, ◌<◌, ◌≤◌, nat_lt, Bool, true, false, List, [], ◌∷◌, ◌++◌, map, length, Option, Some, None, option_map, refl, sym, ap, ◌∙◌, arith, bytes_eq, append_assoc, append-nil, length-append}
+use Rattle.std.proofs.Common.{◌≡◌, ◌≢◌, ℕ, suc, zero, ◌+◌, ◌<◌, ◌≤◌, ◌==◌, inl, inr, nat_lt, Bool, true, false, drop, List, [], ◌∷◌, ◌++◌, map, length, Option, Some, None, option_map, refl, sym, ap, ◌∙◌, arith, bytes_eq, append_assoc, append-nil, length-append}
 use Rattle.std.proofs.lemmas.Bool.{lt-ltb}
 use Rattle.std.proofs.lemmas.Bool.Decides.{nat_tests}
 use Rattle.ix_base.specs.Scope.{is_qname}
@@ -7,7 +7,10 @@ use Rattle.page_constructs.specs.Meanings.{◌>>=◌, is_dark, behind_white, is_
 use Rattle.page_constructs.specs.Forms.{has}
 use Rattle.page_constructs.specs.Tokens.{Attribute}
 use Rattle.page_constructs.proofs.Parting.{from-short}
-use Rattle.page_constructs.proofs.TagForms.{equal-out}
+use Rattle.page_constructs.specs.Constructs.{starts}
+use Rattle.page_constructs.proofs.BoolLaws.{and_left}
+use Rattle.page_constructs.proofs.SpanLaws.{Stops, before-span, from-span, either, one_number, starts-front}
+use Rattle.page_constructs.proofs.TagForms.{equal-out, name-none}
 
 -- what is behind a quoted value
 pub equalled-short : (text : List ℕ) (p : List ℕ × List ℕ) → Some p ≡ equalled text → length p.1 ≤ length text
@@ -15,6 +18,24 @@ equalled-short text p e =
     let q = equal-out text p (sym e) in
     let l : length text ≡ length (q.front ++ 61 ∷ (q.back ++ q.quote ∷ (p.0 ++ q.quote ∷ p.1))) = ap length q.splits in
     omega (arith, length-append q.front (61 ∷ (q.back ++ q.quote ∷ (p.0 ++ q.quote ∷ p.1))), length-append q.back (q.quote ∷ (p.0 ++ q.quote ∷ p.1)), length-append p.0 (q.quote ∷ p.1))
+
+-- a qualified name at the front, and a `=` behind it
+pub name-known : (name text rest : List ℕ) → is_qname name ≡ true → Some rest ≡ behind_front name text → starts (61 ∷ []) rest ≡ true
+    → (name ≡ before ends_name text) × (rest ≡ from ends_name text)
+name-known name text rest q b e =
+    let splits = behind-splits name text rest b in
+    let free = name-none name q in
+    let ends = equal-stops rest e in
+    (sym (ap (before ends_name) splits ∙ before-span ends_name name rest free ends), sym (ap (from ends_name) splits ∙ from-span ends_name name rest free ends)) where
+      behind-splits : (front text rest : List ℕ) → Some rest ≡ behind_front front text → text ≡ front ++ rest
+      behind-splits front text rest b = elim (either (starts front text)) as (λ x. text ≡ front ++ rest) [
+        | inl y ↦ let z : Some rest ≡ Some (drop (length front) text) = b ∙ rw y refl in let same : rest ≡ drop (length front) text = cc in starts-front front text y ∙ ap (λ r. front ++ r) (sym same)
+        | inr n ↦ let z : Some rest ≡ None = b ∙ rw n refl in absurd (cc)
+      ]
+
+      equal-stops : (rest : List ℕ) → starts (61 ∷ []) rest ≡ true → Stops ends_name rest
+      equal-stops [] e = absurd (cc)
+      equal-stops (c ∷ rest) e = let same : c ≡ 61 = one_number c 61 (and_left (c == 61) true e) in rw same refl
 
 -- no attribute
 module _ (text name rest : List ℕ) (b : before ends_name text ≡ name) (f : from ends_name text ≡ rest) (n : is_qname name ≡ true) where

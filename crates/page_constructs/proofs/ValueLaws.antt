@@ -150,6 +150,10 @@ After v rest = option_map (λ more. v ++ more) (meant_in None rest)
 after-plain : (v rest : List ℕ) → After (v ++ before is_special rest) (from is_special rest) ≡ After v rest
 after-plain v rest = sym (joined v (before is_special rest) (meant_in None (from is_special rest))) ∙ ap (option_map (λ more. v ++ more)) (meant-plain rest)
 
+pub with-none : (o : Option (List ℕ)) → option_map (λ more. [] ++ more) o ≡ o
+with-none None = refl
+with-none (Some x) = refl
+
 pub after-end : (v rest : List ℕ) → from is_special rest ≡ [] → Some (v ++ before is_special rest) ≡ After v rest
 unfolding meant_in
 after-end v rest e = ap Some (sym (append-nil (v ++ before is_special rest))) ∙ ap (After (v ++ before is_special rest)) (sym e) ∙ after-plain v rest

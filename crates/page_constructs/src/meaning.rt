@@ -7,6 +7,7 @@ ghost use Rattle.page_constructs.specs.Tokens.{words};
 ghost use Rattle.page_constructs.specs.Model.{token_of};
 
 mod declaration;
+mod own;
 mod span;
 mod tag;
 mod value;
@@ -18,6 +19,7 @@ use bumpalo::Bump;
 use declaration::declared;
 use ix_base::{NoMemory, is_white};
 use scopes::is_ncname;
+pub(crate) use span::behind_front;
 use span::{Stop, split};
 use std::alloc::Global;
 use tag::{end_tag, start_tag};
@@ -28,13 +30,10 @@ fn inside<'t>(front: &str, back: &str, text: &'t str) -> &'t str
     requires { IsAround front.now back.now text.now }
     ensures { result.now ≡ inside_of (length front.now) (length back.now) text.now }
 {
-    match text.strip_prefix(front) {
-        Some(rest) => match rest.strip_suffix(back) {
-            Some(inner) => inner,
-            None => "",
-        },
-        None => "",
+    if text.len() < front.len() || text.len() - front.len() < back.len() {
+        return "";
     }
+    &text[front.len()..text.len() - back.len()]
 }
 
 /// Whether a text stands somewhere in another.
@@ -110,11 +109,18 @@ fn doctyped<'a, 't>(inner: &'t str) -> Option<Token<'a, 't>>
     }
 }
 
+/// Whether `]]>` stands somewhere in a text. In most texts no `>` does.
+fn holds_end(text: &str) -> bool
+    ensures { result ≡ holds_of (codes "]]>") text.now }
+{
+    text.as_bytes().contains(&b'>') && holds(text, "]]>")
+}
+
 /// What a text means.
 fn worded<'a, 't>(text: &'t str) -> Option<Token<'a, 't>>
     ensures { option_map token_of result ≡ (if holds_of (codes "]]>") text.now then None else Some (words text.now)) }
 {
-    if holds(text, "]]>") {
+    if holds_end(text) {
         None
     } else {
         Some(Token::Text(text))
@@ -160,7 +166,7 @@ pub fn meant<'a, 't>(
         Kind::Cdata => Ok(Some(Token::Cdata(inner))),
         Kind::Doctype => Ok(doctyped(inner)),
         Kind::Unknown => Ok(None),
-        Kind::EndTag => Ok(end_tag(room.names.as_slice(), inner)),
+        Kind::EndTag => Ok(end_tag(&mut room.names, inner)),
         Kind::StartTag => start_tag(alloc, arena, room, offset, inner),
         Kind::Reference => Ok(Some(Token::Reference(referred_by(text)))),
         Kind::Text => Ok(worded(text)),

@@ -1,11 +1,12 @@
 //! Where constructs end.
-ghost use Rattle.std.specs.Prelude.{◌≡◌, ◌∷◌, ◌==◌, ◌||◌, ◌&&◌, suc, is_none, false, ◌+◌, ◌≤◌, ◌<◌, ◌++◌, ℕ, List, length, drop, Some, None, option_map, IfSome};
-ghost use Rattle.ix_base.specs.NcName.{is_white as is_white_byte};
-ghost use Rattle.page_constructs.specs.Constructs.{after as after_of, after_tag as after_tag_of, text_size as text_size_of, reference_size as reference_size_of, kind_of as kind_of_spec, size as size_of, size_by as size_by_spec, is_run as is_run_of, whole_size as whole_size_of};
+ghost use Rattle.std.specs.Prelude.{◌≡◌, ◌∷◌, [], ◌==◌, ◌||◌, ◌&&◌, suc, is_none, false, ◌+◌, ◌≤◌, ◌<◌, ◌++◌, ℕ, List, length, drop, Some, None, option_map, IfSome};
+ghost use Rattle.page_constructs.specs.Constructs.{after as after_of, after_tag as after_tag_of, kind_of as kind_of_spec, size as size_of, size_by as size_by_spec, is_run as is_run_of, whole_size as whole_size_of};
 ghost use Rattle.page_constructs.specs.Searches.{seek as seek_of, skipped, further, found, GoesOn, IsSought};
 
+mod run;
+
 use crate::kind::{Kind, behind_first, kind_of, starts};
-use ix_base::is_white;
+use run::{reference_size, text_size};
 
 /// How far the end of a construct was looked for: behind so many of its bytes, where this quote is open. At 0 it wasn't
 /// looked for.
@@ -45,6 +46,22 @@ fn after(text: &[u8], from: usize, ends: &[u8]) -> End
     End::Beyond(Sought { at, quote: None })
 }
 
+/// Where the first such byte ends, from a place on.
+fn after_byte(text: &[u8], from: usize, end: u8) -> End
+    ensures value { found result ≡ further from (after_of (end ∷ []) (drop from text.now)) }
+    ensures within { IfSome (found result) (λ n. n ≤ length text.now) }
+    ensures goes { (s : _) → result ≡ End.Beyond s → GoesOn (after_of (end ∷ [])) from (after_of (end ∷ [])) s.at text.now }
+{
+    let mut at = from;
+    'bytes: while at < text.len() {
+        if text[at] == end {
+            return End::At(at + 1);
+        }
+        at += 1;
+    }
+    End::Beyond(Sought { at, quote: None })
+}
+
 /// Whether a byte ends a tag, behind an open quote where there is one.
 fn ends_tag(quote: Option<u8>, byte: u8) -> bool
     ensures { result ≡ (is_none quote && (byte == 62)) }
@@ -74,19 +91,45 @@ fn turns(quote: Option<u8>, byte: u8) -> bool
     }
 }
 
-/// The place of the first such byte, from a place on, or the text's end. Most bytes of a tag are passed here.
-fn next_turn(text: &[u8], from: usize, quote: Option<u8>) -> usize
+/// The place of the byte that closes a quote, from a place on, or the text's end.
+fn next_close(text: &[u8], from: usize, closing: u8) -> usize
     ensures on { from ≤ result }
-    ensures goes { GoesOn (after_tag_of quote) from (after_tag_of quote) result text.now }
+    ensures goes { GoesOn (after_tag_of (Some closing)) from (after_tag_of (Some closing)) result text.now }
 {
     let mut at = from;
     'bytes: while at < text.len() {
-        if turns(quote, text[at]) {
+        if turns(Some(closing), text[at]) {
             return at;
         }
         at += 1;
     }
     at
+}
+
+/// The place of the first byte outside quotes that ends a tag or opens a quote, from a place on, or the text's end.
+fn next_outside(text: &[u8], from: usize) -> usize
+    ensures on { from ≤ result }
+    ensures goes { GoesOn (after_tag_of None) from (after_tag_of None) result text.now }
+{
+    let mut at = from;
+    'bytes: while at < text.len() {
+        if turns(None, text[at]) {
+            return at;
+        }
+        at += 1;
+    }
+    at
+}
+
+/// The place of the first such byte, from a place on, or the text's end. Most bytes of a tag are passed here.
+fn next_turn(text: &[u8], from: usize, quote: Option<u8>) -> usize
+    ensures on { from ≤ result }
+    ensures goes { GoesOn (after_tag_of quote) from (after_tag_of quote) result text.now }
+{
+    match quote {
+        Some(open) => next_close(text, from, open),
+        None => next_outside(text, from),
+    }
 }
 
 /// Where the first `>` outside quotes ends, from a place on.
@@ -108,55 +151,6 @@ fn after_tag(text: &[u8], from: Sought) -> End
     End::Beyond(Sought { at, quote })
 }
 
-/// Whether a byte ends a text.
-fn is_markup(byte: u8) -> bool
-    ensures { result ≡ (byte == 60 || byte == 38) }
-{
-    byte == b'<' || byte == b'&'
-}
-
-/// Where a text goes on to, from a place on.
-fn text_size(text: &[u8], from: usize) -> End
-    ensures value { found result ≡ further from (text_size_of (drop from text.now)) }
-    ensures within { IfSome (found result) (λ n. n ≤ length text.now) }
-    ensures goes { (s : _) → result ≡ End.Beyond s → GoesOn text_size_of from text_size_of s.at text.now }
-{
-    let mut at = from;
-    'bytes: while at < text.len() {
-        if is_markup(text[at]) {
-            return End::At(at);
-        }
-        at += 1;
-    }
-    End::Beyond(Sought { at, quote: None })
-}
-
-/// Whether a byte ends a reference and doesn't belong to it.
-fn ends_reference(byte: u8) -> bool
-    ensures { result ≡ (is_white_byte byte || byte == 60 || byte == 38) }
-{
-    is_white(byte) || byte == b'<' || byte == b'&'
-}
-
-/// Where a reference goes on to, from a place on.
-fn reference_size(text: &[u8], from: usize) -> End
-    ensures value { found result ≡ further from (reference_size_of (drop from text.now)) }
-    ensures within { IfSome (found result) (λ n. n ≤ length text.now) }
-    ensures goes { (s : _) → result ≡ End.Beyond s → GoesOn reference_size_of from reference_size_of s.at text.now }
-{
-    let mut at = from;
-    'bytes: while at < text.len() {
-        if text[at] == b';' {
-            return End::At(at + 1);
-        }
-        if ends_reference(text[at]) {
-            return End::At(at);
-        }
-        at += 1;
-    }
-    End::Beyond(Sought { at, quote: None })
-}
-
 /// Where a construct of a kind ends, from a place on.
 fn seek(kind: Kind, text: &[u8], from: Sought) -> End
     ensures value { found result ≡ further from.at (seek_of kind from.quote (drop from.at text.now)) }
@@ -168,7 +162,7 @@ fn seek(kind: Kind, text: &[u8], from: Sought) -> End
         Kind::Declaration | Kind::Instruction => after(text, from.at, b"?>"),
         Kind::Comment => after(text, from.at, b"-->"),
         Kind::Cdata => after(text, from.at, b"]]>"),
-        Kind::Unknown | Kind::EndTag => after(text, from.at, b">"),
+        Kind::Unknown | Kind::EndTag => after_byte(text, from.at, b'>'),
         Kind::Doctype | Kind::StartTag => after_tag(text, from),
         Kind::Reference => reference_size(text, from.at),
         Kind::Text => text_size(text, from.at),

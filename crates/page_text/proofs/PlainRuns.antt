@@ -1,5 +1,5 @@
 -- A text of clear bytes is plain.
-use Rattle.std.proofs.Common.{◌≡◌, ℕ, ◌+◌, ◌/◌, ◌<◌, ◌≤◌, ◌&&◌, ◌⊎◌, inl, inr, Bool, true, false, List, [], ◌∷◌, take, drop, take-append-drop, refl, sym, ap, ◌∙◌, arith, ⊎_elim}
+use Rattle.std.proofs.Common.{◌≡◌, ℕ, ◌+◌, ◌/◌, ◌<◌, ◌≤◌, ◌&&◌, ◌⊎◌, inl, inr, Bool, true, false, List, [], ◌∷◌, take, drop, take-add, take-append-drop, refl, sym, ap, ◌∙◌, arith, ⊎_elim}
 use Rattle.std.proofs.lemmas.Bool.{and_parts, cases_lt}
 use Rattle.std.proofs.Math.Dec.{ltb}
 use Rattle.std.proofs.Math.Utf8.{scalar, scalar_cases}
@@ -64,3 +64,9 @@ pub all-front : (n : ℕ) (xs : List ℕ) → list_all is_clear xs ≡ true → 
 all-front n xs h =
     (and_parts (list_all is_clear (take n xs)) (list_all is_clear (drop n xs))
     (sym (list_all-append is_clear (take n xs) (drop n xs)) ∙ ap (list_all is_clear) (take-append-drop n xs) ∙ h)).0
+
+-- bytes at the front, and those behind them
+pub all-joined : (m n : ℕ) (xs : List ℕ) → list_all is_clear (take m xs) ≡ true → list_all is_clear (take n (drop m xs)) ≡ true
+    → list_all is_clear (take (m + n) xs) ≡ true
+all-joined m n xs front rest =
+    ap (list_all is_clear) (take-add m n xs) ∙ list_all-append is_clear (take m xs) (take n (drop m xs)) ∙ rw (front, rest) refl

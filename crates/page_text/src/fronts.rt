@@ -52,17 +52,43 @@ fn is_clear(byte: u8) -> bool
     matches!(byte, 0x20..=0xEE) || matches!(byte, b'\t' | b'\n' | 0xF0..=0xFF)
 }
 
+/// How many bytes are looked at together, whatever each of them is.
+const BLOCK: usize = 64;
+
+/// Whether bytes are clear. It looks at all of them, so that a compiler can let it look at several in one step.
+fn are_clear(bytes: &[u8]) -> bool
+    ensures { result ≡ list_all is_clear bytes.now }
+{
+    let mut all = true;
+    for byte in bytes {
+        all = is_clear(*byte) & all;
+    }
+    all
+}
+
+/// How many bytes at the front are clear, by whole blocks.
+fn clear_blocks(bytes: &[u8]) -> usize
+    ensures within { result ≤ length bytes.now }
+    ensures clear { list_all is_clear (take result bytes.now) ≡ true }
+{
+    let mut at = 0;
+    while BLOCK <= bytes.len() - at && are_clear(&bytes[at..at + BLOCK]) {
+        at += BLOCK;
+    }
+    at
+}
+
 /// How many bytes at the front are clear, as far as they are taken in one go.
 fn clear_size(bytes: &[u8]) -> usize
     ensures within { result ≤ length bytes.now }
     ensures clear { list_all is_clear (take result bytes.now) ≡ true }
 {
-    for (at, byte) in bytes.iter().enumerate() {
-        if at == PIECE || !is_clear(*byte) {
-            return at;
-        }
+    let (front, _) = bytes.split_at(bytes.len().min(PIECE));
+    let mut at = clear_blocks(front);
+    while at < front.len() && is_clear(front[at]) {
+        at += 1;
     }
-    bytes.len()
+    at
 }
 
 /// The whole characters at the front.

@@ -33,9 +33,9 @@ module _ (bs : List Bound) (all : List Attribute) (i : ℕ) (a : Attribute) (r :
   expanded-past old b so = ap (λ xs. map expansion old ++ xs) (sym (first ∙ ap (λ o. cons_option o (from bs (i + 1) all)) (sym b))) ∙ so
 
 -- one more is from the scope
-pub from-more : (around : List Space) (old more : List Expanded) (e : Expanded) → more ≡ old ++ e ∷ [] → IsFrom around (space_of e.name)
+pub from-more : (around : List Space) (old more : List Expanded) (e : Expanded) → more ≡ old ++ e ∷ [] → IsFrom around (space_of e.name.now)
     → AreFrom around (spaces_expanded old) → AreFrom around (spaces_expanded more)
 from-more around old more e m one h numbers all =
-    All-same (HasNumber numbers) (spaces_expanded more) (spaces_expanded old ++ space_of e.name ∷ [])
-    (ap spaces_expanded m ∙ map-append (λ (x : Expanded). space_of x.name) old (e ∷ []))
-    (All-push (HasNumber numbers) (spaces_expanded old) (space_of e.name) (h numbers all) (one numbers all))
+    All-same (HasNumber numbers) (spaces_expanded more) (spaces_expanded old ++ space_of e.name.now ∷ [])
+    (ap spaces_expanded m ∙ map-append (λ (x : Expanded). space_of x.name.now) old (e ∷ []))
+    (All-push (HasNumber numbers) (spaces_expanded old) (space_of e.name.now) (h numbers all) (one numbers all))

@@ -1,11 +1,11 @@
 -- What a tag breaks behind some state, and the states behind the steps.
-use Rattle.std.proofs.Common.{◌≡◌, ℕ, ◌<◌, ◌≤◌, nat_lt, true, false, ◌&&◌, not, List, [], ◌∷◌, ◌++◌, length, map, Option, Some, None, refl, sym, ap, ◌∙◌}
+use Rattle.std.proofs.Common.{◌≡◌, ◌≢◌, ℕ, ◌<◌, ◌≤◌, nat_lt, true, false, ◌&&◌, not, List, [], ◌∷◌, ◌++◌, length, map, Option, Some, None, refl, sym, ap, ◌∙◌}
 use Rattle.std.proofs.lemmas.Bool.{lt-ltb, le-ltb}
 use Rattle.ix_base.specs.Trees.{Bound, Tree, none}
 use Rattle.ix_base.specs.declared.rule.Rule.{Rule}
 use Rattle.ix_base.specs.declared.rule.Rule.TheVariants.{W10, W12}
 use Rattle.page_tree.specs.Break.{is_outside, inner_scope, broken_or, broken_by_tag}
-use Rattle.page_tree.specs.Machine.{Frame, State, outlined, outline_of, scope_in, flush, flushed, closed, opening, closing}
+use Rattle.page_tree.specs.Machine.{Frame, State, outlined, outline_of, scope_in, flushed, closed, opening, closing}
 use Rattle.page_tree.specs.Stacks.{frame, frames_of}
 use Rattle.page_tree.specs.Tags.{scope_of, tag_break, head_of}
 use Rattle.page_constructs.specs.Tokens.{Tag}
@@ -47,14 +47,31 @@ opening-is s t mid more o text m f e n =
     (pushed-frames mid more o m ∙ ap (λ g. g ∷ frames_of mid) e ∙ ap (λ fs. record { written = t.name; head = head_of (scope_in s.frames) t; done = none } ∷ fs) f)
     ∙ ap (λ x. st (record { written = t.name; head = head_of (scope_in s.frames) t; done = none } ∷ flushed s.frames s.text) x s.root s.doctyped) n
 
--- the innermost open element is popped, its text has become a child, and it is put where it belongs
-pub closing-is : (s : State) (rest all : List Open) (own more : Open) (t : Tree) (fs : List Frame) (text : List ℕ) (root : Option Tree)
-    → all ≡ rest ++ own ∷ [] → s.frames ≡ frames_of all → frame more ≡ record (frame own) { done = flush (frame own).done s.text }
-    → t ≡ record { head = (frame more).head; children = (frame more).done }
+-- the innermost open element, whose text has become a child, ends
+abbrev popped : List Frame → State → State
+popped [] s = s
+popped (f ∷ fs) s = closed fs f.head f.done s.root s.doctyped
+
+popped-flushed : (fs : List Frame) (s : State) → popped (flushed fs s.text) s ≡ closing fs s
+popped-flushed [] s = refl
+popped-flushed (f ∷ fs) s = refl
+
+-- its text has become a child, it is popped, and it is put where it belongs
+pub closing-is : (s : State) (rest mid : List Open) (own : Open) (t : Tree) (fs : List Frame) (text : List ℕ) (root : Option Tree)
+    → mid ≡ rest ++ own ∷ [] → frames_of mid ≡ flushed s.frames s.text → t ≡ record { head = (frame own).head; children = (frame own).done }
     → closed (frames_of rest) t.head t.children s.root s.doctyped ≡ st fs [] root s.doctyped → text ≡ []
     → st fs text root s.doctyped ≡ closing s.frames s
-closing-is s rest all own more t fs text root a b e u p n =
+closing-is s rest mid own t fs text root a e u p n =
     ap (λ x. st fs x root s.doctyped) n ∙ sym p
-    ∙ ap (λ x. closed (frames_of rest) x.head x.children s.root s.doctyped) u
-    ∙ ap (λ (f : Frame). closed (frames_of rest) f.head f.done s.root s.doctyped) e
-    ∙ sym (ap (λ x. closing x s) (b ∙ ap frames_of a ∙ frames-snoc [] rest own))
+    ∙ ap (λ (x : Tree). closed (frames_of rest) x.head x.children s.root s.doctyped) u
+    ∙ ap (λ x. popped x s) (sym (ap frames_of a ∙ frames-snoc [] rest own) ∙ e)
+    ∙ popped-flushed s.frames s
+
+-- where no element is open once the text has become a child, none was
+pub flushed-none : (fs : List Frame) (text : List ℕ) → flushed fs text ≡ [] → fs ≡ []
+flushed-none [] text e = refl
+flushed-none (f ∷ fs) text e = absurd (cc)
+
+pub some-last : (rest : List Open) (o : Open) → rest ++ o ∷ [] ≢ []
+some-last [] o e = absurd (cc)
+some-last (p ∷ rest) o e = absurd (cc)

@@ -1,5 +1,5 @@
 -- An attribute that stands twice in a tag, found from the front by what was seen.
-use Rattle.std.proofs.Common.{◌≡◌, ℕ, arith, ◌+◌, ◌<◌, drop, length, get_or, Bool, true, false, ◌&&◌, ◌||◌, not, if◌then◌else◌, List, [], ◌∷◌, map, Option, Some, None, refl, sym, ap, ◌∙◌, bytes_eq, Ordering, Less, Equal, Greater}
+use Rattle.std.proofs.Common.{◌≡◌, ℕ, arith, ◌+◌, ◌<◌, ◌≤◌, drop, length, get_or, Bool, true, false, ◌&&◌, ◌||◌, not, if◌then◌else◌, List, [], ◌∷◌, map, Option, Some, None, refl, sym, ap, ◌∙◌, bytes_eq, Ordering, Less, Equal, Greater}
 use Rattle.std.specs.List.{list_any, filter_map, cons_option}
 use Rattle.std.specs.Prelude.{unwrap_or}
 use Rattle.std.specs.Ordering.{nat_cmp, is_eq, ordering_then, match_ordering}
@@ -10,7 +10,7 @@ use Rattle.ix_base.specs.Trees.{Bound, Named}
 use Rattle.ix_base.specs.Scope.{has_prefix, attribute_name}
 use Rattle.page_tree.specs.Expansions.{Expansion, expansion, named_pair, expansion_of, prefix_in, known_name, is_unknown, repeats_by}
 use Rattle.page_tree.specs.declared.names.PrefixState.TheVariants.{Missing, Known, Unknown}
-use Rattle.page_tree.specs.Tags.{declares, is_bound, is_expanded, is_unbound, same_name, repeats, valued}
+use Rattle.page_tree.specs.Tags.{binding_of, bound_to, declared_prefix, declares, is_bound, is_expanded, is_unbound, same_name, repeats, valued}
 use Rattle.page_constructs.specs.Tokens.{Attribute}
 use Rattle.page_constructs.specs.Model.{attribute_of}
 use Rattle.page_tree.specs.declared.names.Expanded.{Expanded}
@@ -274,6 +274,26 @@ module _ (scope : List Bound) where
         ≡ cons_option (if d then None else Some (record { name = attribute_name scope a.name; value = unwrap_or a.value [] })) (filter_map (valued scope) as')
     by_test ih true = ih
     by_test ih false = ap (λ t. record { name = attribute_name scope a.name; value = unwrap_or a.value [] } ∷ t) ih
+
+-- where each attribute is expanded none is a declaration
+module _ (scope : List Bound) where
+  no-more : (as' : List Attribute) → length (filter_map (expansion_of scope) as') ≤ length as'
+  no-more [] = omega arith
+  no-more (a ∷ as') = by_test (no-more as') (declares a) where
+    by_test : length (filter_map (expansion_of scope) as') ≤ length as' → (d : Bool)
+        → length (cons_option (if d then None else Some (record { valued = record { name = attribute_name scope a.name; value = unwrap_or a.value [] }; prefix = prefix_in scope a.name })) (filter_map (expansion_of scope) as'))
+        ≤ length (a ∷ as')
+    by_test ih true = omega arith
+    by_test ih false = omega arith
+
+  pub undeclared : (as' : List Attribute) → length (filter_map (expansion_of scope) as') ≡ length as' → filter_map binding_of as' ≡ []
+  undeclared [] e = refl
+  undeclared (a ∷ as') e = by_test (undeclared as') (no-more as') (declares a) e where
+    by_test : (length (filter_map (expansion_of scope) as') ≡ length as' → filter_map binding_of as' ≡ []) → length (filter_map (expansion_of scope) as') ≤ length as' → (d : Bool)
+        → length (cons_option (if d then None else Some (record { valued = record { name = attribute_name scope a.name; value = unwrap_or a.value [] }; prefix = prefix_in scope a.name })) (filter_map (expansion_of scope) as'))
+        ≡ length (a ∷ as') → cons_option (if d then bound_to (declared_prefix a) a.value else None) (filter_map binding_of as') ≡ []
+    by_test ih l true e = absurd (omega arith)
+    by_test ih l false e = ih (omega arith)
 
 pub repeats-short : (scope : List Bound) (attrs : List code.Attribute) → length attrs < 2 → false ≡ repeats scope (map attribute_of attrs)
 repeats-short scope [] h = refl

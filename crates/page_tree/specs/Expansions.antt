@@ -18,7 +18,7 @@ pub record Expansion : Type 0 where
   pub prefix : PrefixState
 
 abbrev pub expansion : Expanded → Expansion
-expansion e = record { valued = record { name = named e.name; value = e.value.now }; prefix = e.prefix }
+expansion e = record { valued = record { name = named e.name.now; value = e.value.now }; prefix = e.prefix }
 
 abbrev pub prefix_in : List Bound → List ℕ → PrefixState
 prefix_in scope name = if has_prefix name then (if is_bound scope name then Known else Unknown) else Missing

@@ -28,7 +28,7 @@ Keeps old new = (ns : List ℕ) (n : ℕ) → number_in old ns ≡ Some n → nu
 
 -- the namespaces of attributes
 abbrev pub spaces_expanded : List Expanded → List Space
-spaces_expanded es = map (λ e. space_of e.name) es
+spaces_expanded es = map (λ e. space_of e.name.now) es
 
 -- whatever numbers those around it have, this one has, too
 abbrev pub IsFrom : List Space → Space → Type 0

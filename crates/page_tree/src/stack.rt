@@ -1,5 +1,5 @@
 //! The open elements of a page, and what is built of them.
-ghost use Rattle.std.specs.Prelude.{◌≡◌, ◌∷◌, [], ℕ, Bool, OnOk, IfOk, string_bytes, option_map, map, flat_map};
+ghost use Rattle.std.specs.Prelude.{◌≡◌, ◌≢◌, ◌∷◌, [], ℕ, Bool, OnOk, IfOk, string_bytes, option_map, map, flat_map};
 ghost use Rattle.ix_base.specs.Elements.{pages_of, pages_in};
 ghost use Rattle.ix_base.specs.Spaces.{spaces_bound, spaces_of};
 ghost use Rattle.ix_base.specs.Trees.{none, tree_of, nodes_of, bindings_in};
@@ -8,10 +8,11 @@ ghost use Rattle.page_tree.specs.Machine.{flushed, scope_in, closed};
 ghost use Rattle.page_tree.specs.Tags.{head_of, scope_of as scope_under_tag};
 ghost use Rattle.page_constructs.specs.Model.{tag_of};
 ghost use Rattle.page_tree.specs.Expansions.{expansion, expansions};
+ghost use Rattle.page_tree.specs.Names.{IsNamed};
 ghost use Rattle.page_tree.specs.Spaces.{AreFrom, HaveNumbers, spaces_expanded};
 ghost use Rattle.page_tree.specs.Stacks.{frame, frames_of, pages_open, pages_built, spaces_built, spaces_open, AreAll};
 
-use crate::names::{Collected, Expanded, attributes_of, element_name};
+use crate::names::{ElementName, Expanded, attributes_of};
 use crate::opened::Open;
 use crate::scope::outermost_scope;
 use bumpalo::Bump;
@@ -26,16 +27,15 @@ pub(crate) fn flush_innermost<'a>(
     text: &mut String,
 ) -> Result<(), NoMemory>
     ensures frames { OnOk result (frames_of elements.new.items ≡ flushed (frames_of elements.old.items) (string_bytes text.old)) }
+    ensures text { OnOk result (elements.new.items ≢ [] → string_bytes text.new ≡ []) }
+    ensures none { OnOk result (elements.new.items ≡ [] → text.new ≡ text.old) }
     ensures pages { OnOk result (flat_map pages_open elements.new.items ≡ flat_map pages_open elements.old.items) }
     ensures spaces { OnOk result (flat_map spaces_open elements.new.items ≡ flat_map spaces_open elements.old.items) }
 {
-    let Some(mut parent) = elements.pop() else {
+    let Some(parent) = elements.last_mut() else {
         return Ok(());
     };
     parent.flush(arena, text)?;
-    if elements.push(parent).is_err() {
-        return Err(NoMemory);
-    }
     Ok(())
 }
 
@@ -71,29 +71,29 @@ pub(crate) fn open_element<'a>(
     children: Vec<Node<'a>>,
     arena: &'a Bump,
     page: u32,
-    scope: Scope<'a>,
+    own: ElementName<'a>,
     tag: &Tag<'a, '_>,
     expanded: &[Expanded<'a>],
-    collected: &mut Collected<'a>,
 ) -> Result<Open<'a>, NoMemory>
     requires children { children.items ≡ [] }
-    requires expanded { map expansion expanded.now ≡ expansions (bindings_in scope) (tag_of tag.now) }
-    ensures frame { IfOk result (λ o. (outer : _) → bindings_in scope.entry ≡ scope_under_tag outer (tag_of tag.now)
+    requires expanded { map expansion expanded.now ≡ expansions (bindings_in own.scope) (tag_of tag.now) }
+    requires named { IsNamed own tag.now.name.name.now }
+    ensures frame { IfOk result (λ o. (outer : _) → bindings_in own.entry.scope ≡ scope_under_tag outer (tag_of tag.now)
         → frame o ≡ record { written = tag.now.name.name.now; head = head_of outer (tag_of tag.now); done = none }) }
     ensures pages { IfOk result (λ o. pages_open o ≡ page ∷ []) }
-    ensures spaces { IfOk result (λ o. AreFrom (spaces_bound scope.entry) (spaces_expanded expanded.now)
-        → AreFrom (spaces_bound scope.entry) (spaces_open o)) }
+    ensures spaces { IfOk result (λ o. AreFrom (spaces_bound own.entry.scope) (spaces_expanded expanded.now)
+        → AreFrom (spaces_bound own.entry.scope) (spaces_open o)) }
 {
-    let attrs = attributes_of(arena, expanded, collected)?;
+    let attrs = attributes_of(arena, expanded)?;
     Ok(Open {
         written: tag.name.name,
         place: Place {
             page,
             offset: tag.offset,
         },
-        name: element_name(scope, &tag.name),
+        name: own.name,
         attrs,
-        scope,
+        scope: own.scope,
         children,
     })
 }
@@ -141,13 +141,10 @@ pub(crate) fn put<'a>(
     ensures spaces { OnOk result ((numbers : Texts ℕ) → HaveNumbers numbers (spaces_of element.now)
         → HaveNumbers numbers (spaces_built elements.old.items root.old) → HaveNumbers numbers (spaces_built elements.new.items root.new)) }
 {
-    let Some(mut parent) = elements.pop() else {
+    let Some(parent) = elements.last_mut() else {
         *root = Some(element);
         return Ok(());
     };
     parent.add(element)?;
-    if elements.push(parent).is_err() {
-        return Err(NoMemory);
-    }
     Ok(())
 }

@@ -50,18 +50,18 @@ impl<'a> Building<'a> {
     fn take_start_tag(&mut self, setting: &Setting<'a>, tag: &Tag<'a, '_>) -> Result<(), Refusal>
         ensures { Takes setting.now self.old self.new (start (tag_of tag.now)) result }
     {
-        let scope = self.judge(setting, tag)?;
-        self.open(setting, scope, tag)?;
+        let own = self.judge(setting, tag)?;
+        self.open(setting, own, tag)?;
         Ok(())
     }
 
-    /// Takes an empty-element tag.
+    /// Takes an empty-element tag: its element begins and ends.
     #[tactic(auto, unfolding(crate::specs::Break::broken_by, crate::specs::Machine::moved))]
     fn take_empty_tag(&mut self, setting: &Setting<'a>, tag: &Tag<'a, '_>) -> Result<(), Refusal>
         ensures { Takes setting.now self.old self.new (empty (tag_of tag.now)) result }
     {
-        let scope = self.judge(setting, tag)?;
-        self.stand(setting, scope, tag)?;
+        self.take_start_tag(setting, tag)?;
+        self.close(setting)?;
         Ok(())
     }
 

@@ -5,17 +5,19 @@ ghost use Rattle.ix_base.specs.Spaces.{AreNumbered, spaces_bound, spaces_of};
 ghost use Rattle.ix_base.specs.Trees.{tree_of, bindings_in, none};
 ghost use Rattle.page_tree.specs.Break.{broken_by_tag, is_outside as is_outside_of, matches as matches_of};
 ghost use Rattle.page_tree.specs.Expansions.{expansion, expansions};
-ghost use Rattle.page_tree.specs.Machine.{outline_of, scope_in, begin, flushed, opening, standing, closing, running};
+ghost use Rattle.page_tree.specs.Machine.{outline_of, scope_in, begin, flushed, opening, closing, running};
+ghost use Rattle.page_tree.specs.Names.{IsNamed};
 ghost use Rattle.page_tree.specs.Spaces.{AreFrom, HaveNumbers, Keeps, spaces_expanded};
 ghost use Rattle.page_tree.specs.Stacks.{frame, frames_of, pages_open, spaces_open, AreAll};
 ghost use Rattle.page_tree.specs.Tags.{head_of, scope_of as scope_under_tag};
 ghost use Rattle.page_constructs.specs.Model.{tag_of};
 
-use crate::names::{Collected, Expanded, expand, judge_names};
+use crate::names::{ElementName, Expanded, element_name, expand, judge_names};
 use crate::opened::Open;
 use crate::refusal::Refusal;
 use crate::scope::scope_of;
 use crate::setting::Setting;
+use crate::shared::Shared;
 use crate::spaces::Spaces;
 use crate::stack::{
     close_element, empty_list, flush_innermost, innermost_scope, open_element, put,
@@ -34,10 +36,9 @@ pub(crate) struct Building<'a> {
     pub doctyped: bool,
     /// The namespaces that were declared so far.
     pub spaces: Spaces<'a>,
-    /// Lists in which the parts of a tag are collected, one tag after another: its attributes with their expanded names, and
-    /// those of the element with names that later ones may share.
+    /// The attributes of a tag with their expanded names, one tag after another, and names that later ones may share.
     pub expanded: Vec<Expanded<'a>>,
-    pub collected: Collected<'a>,
+    pub shared: Shared<'a>,
     /// Lists of children that ended elements are done with, and the next ones use.
     pub spare: Vec<Vec<Node<'a>>>,
 }
@@ -58,7 +59,7 @@ impl<'a> Building<'a> {
             doctyped: false,
             spaces: Spaces::new(alloc),
             expanded: Vec::new(alloc),
-            collected: Collected::new(alloc),
+            shared: Shared::new(alloc),
             spare: Vec::new(alloc),
         }
     }
@@ -131,18 +132,19 @@ impl<'a> Building<'a> {
         )
     }
 
-    /// Judges a tag, whose element has this scope: the lowest rule that it breaks is an error.
+    /// Judges a tag, whose element has this name and this scope: the lowest rule that it breaks is an error.
     fn judge_tag(
         &self,
         setting: &Setting<'_>,
-        scope: Scope<'_>,
+        own: &ElementName<'_>,
         tag: &Tag<'_, '_>,
     ) -> Result<(), Refusal>
-        requires scope { bindings_in scope ≡ scope_under_tag (scope_in (state_of self.now).frames) (tag_of tag.now) }
-        requires expanded { map expansion self.now.expanded.items ≡ expansions (bindings_in scope) (tag_of tag.now) }
+        requires scope { bindings_in own.now.scope ≡ scope_under_tag (scope_in (state_of self.now).frames) (tag_of tag.now) }
+        requires expanded { map expansion self.now.expanded.items ≡ expansions (bindings_in own.now.scope) (tag_of tag.now) }
+        requires named { IsNamed own.now tag.now.name.name.now }
         ensures { Judges (broken_by_tag setting.now.depth (outline_of (state_of self.now)) (tag_of tag.now)) result }
     {
-        judge_names(setting.alloc, scope, tag, self.expanded.as_slice())?;
+        judge_names(setting.alloc, own, tag, self.expanded.as_slice())?;
         if self.elements.len() >= setting.depth as usize {
             return Err(Refusal::Breaks(Rule::W10));
         }
@@ -156,11 +158,12 @@ impl<'a> Building<'a> {
     fn begin(
         &mut self,
         setting: &Setting<'a>,
-        scope: Scope<'a>,
+        own: ElementName<'a>,
         tag: &Tag<'a, '_>,
     ) -> Result<Open<'a>, NoMemory>
-        requires scope { bindings_in scope ≡ scope_under_tag (scope_in (state_of self.old).frames) (tag_of tag.now) }
-        requires expanded { map expansion self.old.expanded.items ≡ expansions (bindings_in scope) (tag_of tag.now) }
+        requires scope { bindings_in own.scope ≡ scope_under_tag (scope_in (state_of self.old).frames) (tag_of tag.now) }
+        requires expanded { map expansion self.old.expanded.items ≡ expansions (bindings_in own.scope) (tag_of tag.now) }
+        requires named { IsNamed own tag.now.name.name.now }
         ensures frame { IfOk result (λ o. frame o ≡ record {
           written = tag.now.name.name.now;
           head = head_of (scope_in (state_of self.old).frames) (tag_of tag.now);
@@ -171,8 +174,8 @@ impl<'a> Building<'a> {
         ensures rest { (self.new.root ≡ self.old.root) × (self.new.doctyped ≡ self.old.doctyped) × (self.new.spaces ≡ self.old.spaces) }
         ensures pages { IfOk result (λ o. pages_open o ≡ setting.now.page ∷ []) }
         ensures on_page { OnOk result (flat_map pages_open self.new.elements.items ≡ flat_map pages_open self.old.elements.items) }
-        ensures own_spaces { IfOk result (λ o. AreFrom (spaces_bound scope.entry) (spaces_expanded self.old.expanded.items)
-            → AreFrom (spaces_bound scope.entry) (spaces_open o)) }
+        ensures own_spaces { IfOk result (λ o. AreFrom (spaces_bound own.entry.scope) (spaces_expanded self.old.expanded.items)
+            → AreFrom (spaces_bound own.entry.scope) (spaces_open o)) }
         ensures spaces { OnOk result (flat_map spaces_open self.new.elements.items ≡ flat_map spaces_open self.old.elements.items) }
     {
         flush_innermost(setting.arena, &mut self.elements, &mut self.text)?;
@@ -182,10 +185,9 @@ impl<'a> Building<'a> {
             children,
             setting.arena,
             setting.page,
-            scope,
+            own,
             tag,
             self.expanded.as_slice(),
-            &mut self.collected,
         )?;
         Ok(element)
     }
@@ -194,36 +196,18 @@ impl<'a> Building<'a> {
     pub(crate) fn open(
         &mut self,
         setting: &Setting<'a>,
-        scope: Scope<'a>,
+        own: ElementName<'a>,
         tag: &Tag<'a, '_>,
     ) -> Result<(), NoMemory>
-        requires scope { bindings_in scope ≡ scope_under_tag (scope_in (state_of self.old).frames) (tag_of tag.now) }
-        requires expanded { map expansion self.old.expanded.items ≡ expansions (bindings_in scope) (tag_of tag.now) }
-        requires from { AreFrom (spaces_bound scope) (spaces_expanded self.old.expanded.items) }
-        requires spaces { IsOnPage setting.now.page self.old → HaveNumbers self.old.spaces.numbers (spaces_bound scope) }
+        requires scope { bindings_in own.scope ≡ scope_under_tag (scope_in (state_of self.old).frames) (tag_of tag.now) }
+        requires expanded { map expansion self.old.expanded.items ≡ expansions (bindings_in own.scope) (tag_of tag.now) }
+        requires from { AreFrom (spaces_bound own.scope) (spaces_expanded self.old.expanded.items) }
+        requires spaces { IsOnPage setting.now.page self.old → HaveNumbers self.old.spaces.numbers (spaces_bound own.scope) }
+        requires named { IsNamed own tag.now.name.name.now }
         ensures { OnOk result (Becomes setting.now.page self.old self.new (opening (state_of self.old) (tag_of tag.now))) }
     {
-        let element = self.begin(setting, scope, tag)?;
+        let element = self.begin(setting, own, tag)?;
         self.elements.push(element)?;
-        Ok(())
-    }
-
-    /// An element begins and ends.
-    pub(crate) fn stand(
-        &mut self,
-        setting: &Setting<'a>,
-        scope: Scope<'a>,
-        tag: &Tag<'a, '_>,
-    ) -> Result<(), NoMemory>
-        requires expanded { map expansion self.old.expanded.items ≡ expansions (bindings_in scope) (tag_of tag.now) }
-        requires scope { bindings_in scope ≡ scope_under_tag (scope_in (state_of self.old).frames) (tag_of tag.now) }
-        requires spaces { IsOnPage setting.now.page self.old → HaveNumbers self.old.spaces.numbers (spaces_bound scope) }
-        requires from { AreFrom (spaces_bound scope) (spaces_expanded self.old.expanded.items) }
-        ensures { OnOk result (Becomes setting.now.page self.old self.new (standing (state_of self.old) (tag_of tag.now))) }
-    {
-        let own = self.begin(setting, scope, tag)?;
-        let element = close_element(setting.arena, own, &mut self.spare)?;
-        put(&mut self.elements, &mut self.root, element)?;
         Ok(())
     }
 
@@ -231,10 +215,10 @@ impl<'a> Building<'a> {
     pub(crate) fn close(&mut self, setting: &Setting<'a>) -> Result<(), NoMemory>
         ensures { OnOk result (Becomes setting.now.page self.old self.new (closing (state_of self.old).frames (state_of self.old))) }
     {
-        let Some(mut own) = self.elements.pop() else {
+        flush_innermost(setting.arena, &mut self.elements, &mut self.text)?;
+        let Some(own) = self.elements.pop() else {
             return Ok(());
         };
-        own.flush(setting.arena, &mut self.text)?;
         let element = close_element(setting.arena, own, &mut self.spare)?;
         put(&mut self.elements, &mut self.root, element)?;
         Ok(())
@@ -264,22 +248,31 @@ impl<'a> Building<'a> {
         Ok(())
     }
 
-    /// The scope of a tag's element. The lowest rule that the tag breaks is an error. Its attributes are expanded.
+    /// The name of a tag's element and its scope. The lowest rule that the tag breaks is an error. Its attributes are expanded.
     pub(crate) fn judge(
         &mut self,
         setting: &Setting<'a>,
         tag: &Tag<'a, '_>,
-    ) -> Result<Scope<'a>, Refusal>
-        ensures scope { IfOk result (λ s. bindings_in s ≡ scope_under_tag (scope_in (state_of self.old).frames) (tag_of tag.now)) }
-        ensures expanded { IfOk result (λ s. map expansion self.new.expanded.items ≡ expansions (bindings_in s) (tag_of tag.now)) }
-        ensures from { IfOk result (λ s. AreFrom (spaces_bound s) (spaces_expanded self.new.expanded.items)) }
-        ensures spaces { IfOk result (λ s. IsOnPage setting.now.page self.new → HaveNumbers self.new.spaces.numbers (spaces_bound s)) }
+    ) -> Result<ElementName<'a>, Refusal>
+        ensures scope { IfOk result (λ o. bindings_in o.scope ≡ scope_under_tag (scope_in (state_of self.old).frames) (tag_of tag.now)) }
+        ensures expanded { IfOk result (λ o. map expansion self.new.expanded.items ≡ expansions (bindings_in o.scope) (tag_of tag.now)) }
+        ensures from { IfOk result (λ o. AreFrom (spaces_bound o.scope) (spaces_expanded self.new.expanded.items)) }
+        ensures spaces { IfOk result (λ o. IsOnPage setting.now.page self.new
+            → HaveNumbers self.new.spaces.numbers (spaces_bound o.scope)) }
+        ensures named { IfOk result (λ o. IsNamed o tag.now.name.name.now) }
         ensures rule { Judges (broken_by_tag setting.now.depth (outline_of (state_of self.old)) (tag_of tag.now)) result }
         ensures becomes { Becomes setting.now.page self.old self.new (state_of self.old) }
     {
         let scope = self.element_scope(setting, tag)?;
-        expand(scope, tag.attrs, &mut self.expanded)?;
-        self.judge_tag(setting, scope, tag)?;
-        Ok(scope)
+        expand(
+            setting.arena,
+            &mut self.shared,
+            scope,
+            tag.attrs,
+            &mut self.expanded,
+        )?;
+        let own = element_name(scope, &tag.name);
+        self.judge_tag(setting, &own, tag)?;
+        Ok(own)
     }
 }

@@ -28,7 +28,7 @@ impl<'a> Model for Among<'a> {
 
 impl<'a> Among<'a> {
     /// These texts, put in order.
-    pub fn of(mut texts: Vec<&'a str>) -> Among<'a>
+    pub(crate) fn of(mut texts: Vec<&'a str>) -> Among<'a>
         ensures { result ≡ sorted text_cmp (values_of texts.entry.items) }
     {
         texts.sort_unstable();
@@ -36,14 +36,14 @@ impl<'a> Among<'a> {
     }
 
     /// Whether a text is among these.
-    pub fn has(&self, text: &str) -> bool
+    pub(crate) fn has(&self, text: &str) -> bool
         ensures { result ≡ has self.now text.now }
     {
         self.texts.binary_search(&text).is_ok()
     }
 
     /// Whether each of some texts is among these.
-    pub fn have(&self, texts: &[&str]) -> bool
+    pub(crate) fn have(&self, texts: &[&str]) -> bool
         ensures { result ≡ is_within (values_of texts.now) self.now }
     {
         for text in texts {
@@ -57,7 +57,7 @@ impl<'a> Among<'a> {
 
 /// Whether each of some texts is among others.
 #[tactic(auto, using(crate::proofs::ListLaws::within_sorted))]
-pub fn are_within(texts: &[&str], others: Vec<&str>) -> bool
+pub(crate) fn are_within(texts: &[&str], others: Vec<&str>) -> bool
     ensures { result ≡ is_within (values_of texts.now) (values_of others.entry.items) }
 {
     Among::of(others).have(texts)
@@ -65,7 +65,7 @@ pub fn are_within(texts: &[&str], others: Vec<&str>) -> bool
 
 /// Whether each of some texts is among others, and each of these among them.
 #[tactic(auto, using(crate::proofs::ListLaws::within_both))]
-pub fn have_same(first: Vec<&str>, second: Vec<&str>) -> bool
+pub(crate) fn have_same(first: Vec<&str>, second: Vec<&str>) -> bool
     ensures { result ≡ (is_within (values_of first.entry.items) (values_of second.entry.items)
         && is_within (values_of second.entry.items) (values_of first.entry.items)) }
 {

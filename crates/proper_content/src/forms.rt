@@ -58,7 +58,7 @@ fn are_normal_units(units: &[Unit]) -> bool
 
 /// Whether periods, dimensions and units are of their normal forms.
 #[tactic(auto, unfolding(instance_out::specs::Proper::forms_fit))]
-pub fn forms_fit(content: &Content) -> bool
+pub(crate) fn forms_fit(content: &Content) -> bool
     ensures { result ≡ proper.forms_fit (said_of content.now) }
 {
     are_normal_contexts(content.contexts.as_slice()) && are_normal_units(content.units.as_slice())

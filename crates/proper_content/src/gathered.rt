@@ -69,7 +69,7 @@ impl Named for Footnote {
 }
 
 /// The texts that name some things.
-pub fn names_of<T: Named>(alloc: Global, things: &[T]) -> Result<Vec<&str>, NoMemory>
+pub(crate) fn names_of<T: Named>(alloc: Global, things: &[T]) -> Result<Vec<&str>, NoMemory>
     ensures { IfOk result (λ v. values_of v.items ≡ map T.name things.now) }
 {
     let mut names = Vec::new(alloc);

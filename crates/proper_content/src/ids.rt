@@ -112,7 +112,7 @@ fn are_ncnames(ids: &[&str]) -> bool
 /// Whether ids are NCNames, and none stands twice. Footnotes that are the same count as one. The cost of n ids is that of
 /// sorts: n log n comparisons.
 #[tactic(auto, unfolding(instance_out::specs::Proper::ids_fit))]
-pub fn ids_fit(alloc: Global, content: &Content, held: &Held) -> Result<bool, NoMemory>
+pub(crate) fn ids_fit(alloc: Global, content: &Content, held: &Held) -> Result<bool, NoMemory>
     requires { IsHeld (said_of content.now) held.now }
     ensures { IfOk result (λ b. b ≡ proper.ids_fit (said_of content.now)) }
 {

@@ -181,7 +181,7 @@ fn links_never_fall(alloc: Global, content: &Content) -> Result<bool, NoMemory>
 /// Whether each list is in the order of the instance, and references, locators, footnotes and arcs stand once. The cost is
 /// that of writing the lines of references and facts and the texts of arcs, and of comparing neighbours.
 #[tactic(auto, using(crate::proofs::OrderLaws::lists_told))]
-pub fn lists_fit(alloc: Global, content: &Content) -> Result<bool, NoMemory>
+pub(crate) fn lists_fit(alloc: Global, content: &Content) -> Result<bool, NoMemory>
     ensures { IfOk result (λ b. b ≡ proper.lists_fit (said_of content.now)) }
 {
     if !references_rise(alloc, content)? {

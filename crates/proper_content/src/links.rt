@@ -74,7 +74,7 @@ fn are_whole(alloc: Global, facts: &Among, links: &[NoteLink]) -> Result<bool, N
 
 /// Whether the locators and footnotes of each footnote link are what its arcs name, and its locators are facts. The cost
 /// of n facts, locators, footnotes and arcs is that of sorts and of n searches by halving: n log n comparisons.
-pub fn links_fit(alloc: Global, content: &Content, held: &Held) -> Result<bool, NoMemory>
+pub(crate) fn links_fit(alloc: Global, content: &Content, held: &Held) -> Result<bool, NoMemory>
     requires { IsHeld (said_of content.now) held.now }
     ensures { IfOk result (λ b. b ≡ proper.links_fit (said_of content.now)) }
 {
@@ -86,7 +86,7 @@ pub fn links_fit(alloc: Global, content: &Content, held: &Held) -> Result<bool, 
 
 /// Whether the orders of arcs are canonical decimals. It takes no memory.
 #[tactic(auto, unfolding(instance_out::specs::Proper::orders_fit))]
-pub fn orders_fit(content: &Content, held: &Held) -> bool
+pub(crate) fn orders_fit(content: &Content, held: &Held) -> bool
     requires { IsHeld (said_of content.now) held.now }
     ensures { result ≡ proper.orders_fit (said_of content.now) }
 {

@@ -54,7 +54,7 @@ fn are_fact_names(names: &[&OwnName]) -> bool
 
 /// Whether names are NCNames in no namespace of declarations, and those of facts in none of XBRL's own. It takes no memory.
 #[tactic(auto, unfolding(instance_out::specs::Proper::names_fit))]
-pub fn names_fit(content: &Content, held: &Held) -> bool
+pub(crate) fn names_fit(content: &Content, held: &Held) -> bool
     requires { IsHeld (said_of content.now) held.now }
     ensures { result ≡ proper.names_fit (said_of content.now) }
 {

@@ -10,7 +10,7 @@ use ix_base::{Dim, OwnName};
 use std::cmp::Ordering;
 
 /// Whether each text is before the next.
-pub fn rise(texts: &[&str]) -> bool
+pub(crate) fn rise(texts: &[&str]) -> bool
     ensures { result ≡ strictly text_cmp (values_of texts.now) }
 {
     let [first, rest @ ..] = texts else {
@@ -27,7 +27,7 @@ pub fn rise(texts: &[&str]) -> bool
 }
 
 /// Whether no text is behind the next.
-pub fn never_fall(texts: &[&str]) -> bool
+pub(crate) fn never_fall(texts: &[&str]) -> bool
     ensures { result ≡ rises text_cmp (values_of texts.now) }
 {
     let [first, rest @ ..] = texts else {
@@ -44,7 +44,7 @@ pub fn never_fall(texts: &[&str]) -> bool
 }
 
 /// Whether no text stands twice.
-pub fn are_apart(mut texts: Vec<&str>) -> bool
+pub(crate) fn are_apart(mut texts: Vec<&str>) -> bool
     ensures { result ≡ stand_apart (values_of texts.entry.items) }
 {
     texts.sort_unstable();
@@ -61,7 +61,7 @@ fn compare(a: &OwnName, b: &OwnName) -> Ordering
 }
 
 /// Whether no name is behind the next.
-pub fn names_never_fall(names: &[OwnName]) -> bool
+pub(crate) fn names_never_fall(names: &[OwnName]) -> bool
     ensures { result ≡ rises name_cmp names.now }
 {
     let [first, rest @ ..] = names else {
@@ -78,7 +78,7 @@ pub fn names_never_fall(names: &[OwnName]) -> bool
 }
 
 /// Whether each dimension is before the next.
-pub fn dims_rise(dims: &[Dim]) -> bool
+pub(crate) fn dims_rise(dims: &[Dim]) -> bool
     ensures { result ≡ strictly by_dimension dims.now }
 {
     let [first, rest @ ..] = dims else {

@@ -39,7 +39,7 @@ fn units_named<'a>(alloc: Global, items: &[&'a Item]) -> Result<Vec<&'a str>, No
 /// Whether contexts and units are those that items name. The cost of n items, contexts and units is that of sorts:
 /// n log n comparisons.
 #[tactic(auto, unfolding(instance_out::specs::Proper::parts_fit))]
-pub fn parts_fit(alloc: Global, content: &Content, held: &Held) -> Result<bool, NoMemory>
+pub(crate) fn parts_fit(alloc: Global, content: &Content, held: &Held) -> Result<bool, NoMemory>
     requires { IsHeld (said_of content.now) held.now }
     ensures { IfOk result (λ b. b ≡ proper.parts_fit (said_of content.now)) }
 {

@@ -73,7 +73,7 @@ fn stand_apart(alloc: Global, roles: &[RoleRef]) -> Result<bool, NoMemory>
 /// Whether role and arcrole references are used, with one address each. The cost of n references, links, footnotes and
 /// arcs is that of sorts: n log n comparisons.
 #[tactic(auto, using(crate::proofs::ToldLaws::roles_told))]
-pub fn roles_fit(alloc: Global, content: &Content, held: &Held) -> Result<bool, NoMemory>
+pub(crate) fn roles_fit(alloc: Global, content: &Content, held: &Held) -> Result<bool, NoMemory>
     requires { IsHeld (said_of content.now) held.now }
     ensures { IfOk result (λ b. b ≡ proper.roles_fit (said_of content.now)) }
 {

@@ -68,7 +68,7 @@ fn are_nil_empty(facts: &[Fact]) -> bool
 
 /// Whether no nil tuple has members, and tuples stand at most 100 deep. It goes at most 101 calls deep.
 #[tactic(auto, unfolding(instance_out::specs::Proper::tuples_fit))]
-pub fn tuples_fit(content: &Content) -> bool
+pub(crate) fn tuples_fit(content: &Content) -> bool
     ensures { result ≡ proper.tuples_fit (said_of content.now) }
 {
     let facts = content.facts.as_slice();

@@ -1,9 +1,10 @@
 //! Where texts stand: the first ones in one table, further ones in the tables of their classes, and those for which their class has no
 //! room in the order of texts.
-ghost use Rattle.std.specs.Prelude.{◌≡◌, [], ℕ, List, IfOk, OnOk, OnErr, Some, None, if◌then◌else◌, bytes_eq};
+ghost use Rattle.std.specs.Prelude.{◌≡◌, [], ℕ, List, IfOk, OnOk, OnErr, Some, None, true, if◌then◌else◌, bytes_eq};
 ghost use Rattle.std.specs.Option.{option_copied};
 ghost use Rattle.text_map.specs.Places.{IsBounded, found, free_place as spec_free_place, items_at_rest, items_found, place_of as spec_place_of, rest_at, texts_in};
-ghost use Rattle.text_map.specs.Tables.{added};
+ghost use Rattle.text_map.specs.Tables.{added, at};
+ghost use Rattle.text_map.specs.declared.tables.Place.TheVariants.{Class};
 
 use crate::class::{FULL, get_classed, has_room, push_classed, put_classed, take_classed};
 use crate::table::{Table, push, put, take};
@@ -114,12 +115,22 @@ impl<'a, V> Tables<'a, V> {
         }
     }
 
+    /// Whether a text that isn't among the first ones stands in its class, or may go there and nowhere else. So it is with most.
+    fn is_of_class(&self, text: &str) -> bool
+        ensures { result ≡ true → at self.now.first text.now ≡ None → spec_place_of self.now text.now ≡ Class }
+    {
+        self.first.len() >= FULL && self.rest.is_empty() && has_room(self.classes.as_slice(), text)
+    }
+
     /// Where a text stands, or else where there is room for it.
     fn place_of(&self, text: &str) -> Place
         ensures { result ≡ spec_place_of self.now text.now }
     {
         if self.first.contains_key(text) {
             return Place::First;
+        }
+        if self.is_of_class(text) {
+            return Place::Class;
         }
         if get_classed(self.classes.as_slice(), text).is_some() {
             return Place::Class;

@@ -18,6 +18,12 @@ pub(crate) enum Stop {
     TagName,
     /// What doesn't mean itself in a value.
     Special,
+    /// What isn't itself in a value between `"`, and `"`.
+    Odd,
+    /// `"`.
+    Double,
+    /// `'`.
+    Single,
 }
 
 fn stops_at(stop: Stop, byte: u8) -> bool
@@ -29,6 +35,9 @@ fn stops_at(stop: Stop, byte: u8) -> bool
         Stop::Name => is_white(byte) || byte == b'=',
         Stop::TagName => is_white(byte) || byte == b'/',
         Stop::Special => matches!(byte, b'&' | b'\t' | b'\n'),
+        Stop::Odd => matches!(byte, b'"' | b'<' | b'&' | b'\t' | b'\n'),
+        Stop::Double => byte == b'"',
+        Stop::Single => byte == b'\'',
     }
 }
 
@@ -76,10 +85,13 @@ pub(crate) fn behind_front<'t>(front: &str, text: &'t str) -> Option<&'t str>
 fn quoted(text: &str) -> Option<(&str, &str)>
     ensures { option_map parted result ≡ quoted_of text.now }
 {
-    if let Some(rest) = text.strip_prefix('"') {
-        return rest.split_once('"');
+    if let Some(value) = text.strip_prefix('"') {
+        let (raw, behind) = split(value, Stop::Double);
+        return Some((raw, behind.strip_prefix('"')?));
     }
-    text.strip_prefix('\'')?.split_once('\'')
+    let value = text.strip_prefix('\'')?;
+    let (raw, behind) = split(value, Stop::Single);
+    Some((raw, behind.strip_prefix('\'')?))
 }
 
 /// The same behind `=`, with white space allowed around that.

@@ -1,78 +1,78 @@
 //! Tags.
-ghost use Rattle.std.specs.Prelude.{◌≡◌, ◌≤◌, ◌<◌, ℕ, Bool, true, false, length, option_map, IfOk, IfSome, MatchOption};
+ghost use Rattle.std.specs.Prelude.{◌≡◌, ◌≤◌, ◌<◌, ℕ, true, false, length, option_map, IfOk, IfSome, MatchOption};
 ghost use Rattle.std.specs.Str.{IsUtf8};
 ghost use Rattle.ix_base.specs.Scope.{is_qname as is_qname_of};
-ghost use Rattle.page_constructs.specs.Meanings.{attribute_at as attribute_at_of, attributes_in as attributes_in_of, start_tag as start_tag_of, end_tag as end_tag_of};
+ghost use Rattle.page_constructs.specs.Meanings.{before, from, ends_name, attribute_at as attribute_at_of, attributes_in as attributes_in_of, start_tag as start_tag_of, end_tag as end_tag_of};
 ghost use Rattle.page_constructs.specs.ReadAttributes.{attribute_and_more, attributes_and_end};
 ghost use Rattle.page_constructs.specs.Model.{token_of};
 
+use crate::meaning::own::own_equalled;
 use crate::meaning::span::{Stop, behind_white, equalled, is_white_text, split};
 use crate::meaning::value::value_of;
-use crate::room::TagRoom;
+use crate::room::{Names, TagRoom};
 use crate::token::{Attribute, Tag, Token};
 use crate::written::{Written, is_qname, parted};
 use bumpalo::Bump;
 use ix_base::NoMemory;
 use std::alloc::Global;
 
-/// How many names are remembered. Each name is compared with these at most.
-const MOST_NAMES: usize = 16;
-
-/// The same name among some.
-fn same_name<'a>(names: &[Written<'a>], name: &str) -> Option<Written<'a>>
-    ensures { IfSome result (λ w. w.name.now ≡ name.now) }
-{
-    for known in names {
-        if known.name == name {
-            return Some(*known);
-        }
-    }
-    None
-}
-
-/// Remembers a name. Where as many are remembered as may be, all of them are forgotten.
-fn remember<'a>(names: &mut Vec<Written<'a>>, name: Written<'a>) -> Result<(), NoMemory> {
-    if names.len() >= MOST_NAMES {
-        names.clear();
-    }
-    names.push(name)?;
-    Ok(())
-}
-
 /// A name, kept in the arena, in its parts, where it is a qualified name: one that is remembered, or a new one.
 fn kept_name<'a>(
     arena: &'a Bump,
-    names: &mut Vec<Written<'a>>,
+    names: &mut Names<'a>,
     name: &str,
 ) -> Result<Option<Written<'a>>, NoMemory>
     ensures { IfOk result (λ r. MatchOption r (is_qname_of name.now ≡ false)
         (λ w. (is_qname_of name.now ≡ true) × (w.name.now ≡ name.now))) }
 {
-    if let Some(known) = same_name(names.as_slice(), name) {
+    if let Some(known) = names.find(name) {
         return Ok(Some(known));
     }
     let Some(written) = parted(arena.try_alloc_str(name)?) else {
         return Ok(None);
     };
-    remember(names, written)?;
+    names.remember(written)?;
     Ok(Some(written))
+}
+
+/// The name of an attribute at the front, where it is a qualified name, kept in the arena, and what is behind it.
+fn name_at<'a, 't>(
+    arena: &'a Bump,
+    names: &mut Names<'a>,
+    text: &'t str,
+) -> Result<Option<(Written<'a>, &'t str)>, NoMemory>
+    ensures { IfOk result (λ r. MatchOption r (is_qname_of (before ends_name text.now) ≡ false)
+        (λ p. (is_qname_of (before ends_name text.now) ≡ true) × (p.0.name.now ≡ before ends_name text.now)
+        × (p.1.now ≡ from ends_name text.now))) }
+{
+    if let Some(expected) = names.expected(text) {
+        return Ok(Some(expected));
+    }
+    let (front, rest) = split(text, Stop::Name);
+    match kept_name(arena, names, front)? {
+        Some(name) => Ok(Some((name, rest))),
+        None => Ok(None),
+    }
 }
 
 /// An attribute at the front, and what is behind it.
 fn attribute_at<'a, 't>(
     alloc: Global,
     arena: &'a Bump,
-    names: &mut Vec<Written<'a>>,
+    names: &mut Names<'a>,
     text: &'t str,
 ) -> Result<Option<(Attribute<'a>, &'t str)>, NoMemory>
     ensures value { IfOk result (λ r. option_map attribute_and_more r ≡ attribute_at_of text.now) }
     ensures shorter { IfOk result (λ r. IfSome r (λ p. length p.1.now ≤ length text.now)) }
     ensures text { IfOk result (λ r. IfSome r (λ p. IsUtf8 p.1.now)) }
 {
-    let (front, rest) = split(text, Stop::Name);
-    let Some(name) = kept_name(arena, names, front)? else {
+    let Some((name, rest)) = name_at(arena, names, text)? else {
         return Ok(None);
     };
+    if let Some((own, more)) = own_equalled(rest) {
+        let value = Some(arena.try_alloc_str(own)?);
+        return Ok(Some((Attribute { name, value }, more)));
+    }
     match equalled(rest) {
         Some((raw, more)) if !raw.as_bytes().contains(&b'<') => {
             let value = value_of(alloc, arena, raw)?;
@@ -87,7 +87,7 @@ fn attributes_in<'a>(
     alloc: Global,
     arena: &'a Bump,
     attrs: &mut Vec<Attribute<'a>>,
-    names: &mut Vec<Written<'a>>,
+    names: &mut Names<'a>,
     text: &str,
 ) -> Result<Option<bool>, NoMemory>
     ensures { IfOk result (λ r. (n : ℕ) → length text.now < n
@@ -96,10 +96,10 @@ fn attributes_in<'a>(
     attrs.clear();
     let mut rest = text;
     loop {
-        if is_white_text(rest) {
+        let dark = behind_white(rest);
+        if dark.is_empty() {
             return Ok(Some(false));
         }
-        let dark = behind_white(rest);
         if dark == "/" {
             return Ok(Some(true));
         }
@@ -147,22 +147,13 @@ pub(crate) fn start_tag<'a, 't>(
     }
 }
 
-/// Whether a text is a qualified name: one that is remembered is one.
-fn is_qname_among(names: &[Written<'_>], name: &str) -> bool
-    ensures { result ≡ is_qname_of name.now }
-{
-    match same_name(names, name) {
-        Some(_) => true,
-        None => is_qname(name),
-    }
-}
-
 /// What stands in an end tag. Its name is looked through only where it isn't remembered.
-pub(crate) fn end_tag<'a, 't>(names: &[Written<'_>], inner: &'t str) -> Option<Token<'a, 't>>
+pub(crate) fn end_tag<'a, 't>(names: &mut Names<'_>, inner: &'t str) -> Option<Token<'a, 't>>
     ensures { option_map token_of result ≡ end_tag_of inner.now }
 {
     let (name, rest) = split(inner, Stop::White);
-    if is_qname_among(names, name) && is_white_text(rest) {
+    let is_name = names.find(name).is_some() || is_qname(name);
+    if is_name && is_white_text(rest) {
         Some(Token::EndTag(name))
     } else {
         None

@@ -16,12 +16,13 @@ use Rattle.continuations.proofs.links.nexts_of.Goals as goal
 pub loop-spot-preserved : goal.loop-spot-preserved
 loop-spot-preserved c = record {
   len = omega (arith, c.loop-spot.invariant.len, c.in_ok-push.ensures.len);
-  names = names-more (asked c.args.index.now) _ _ _ (located c.spot-item.result.now) c.number_in-next.result c.loop-spot.nexts.items c.push.new.self.items
+  names = names-more (asked c.args.index.now) _ _ _ (located c.spot-item.result.now) c.in_ok-next.next c.loop-spot.nexts.items c.push.new.self.items
       c.loop-spot.invariant.len c.loop-spot.invariant.names
       (located-at c.args.spots.now c.loop-spot.spot-index c.spot-item.result c.loop-spot-test.true c.spot-item.is)
-      (c.number_in-next.ensures ∙ ap (λ o. option_map Some (option_and_then (continuation (asked c.args.index.now)) o)) c.continued_at-id.ensures) c.in_ok-push.ensures.items;
-  lacks = lacks-more (asked c.args.index.now) _ c.args.spots.now c.loop-spot.spot-index c.spot-item.result c.continued_at-id.result c.number_in-next.result c.loop-spot.lacks c.is_lost-lacks.result
-      c.loop-spot-test.true c.spot-item.is c.continued_at-id.ensures c.number_in-next.ensures c.is_lost-lacks.ensures c.loop-spot.invariant.lacks;
+      (c.in_ok-next.ensures.number ∙ ap (λ o. option_map Some (option_and_then (continuation (asked c.args.index.now)) o)) c.continued_at-id.ensures) c.in_ok-push.ensures.items;
+  lacks = lacks-more (asked c.args.index.now) _ c.args.spots.now c.loop-spot.spot-index c.spot-item.result c.continued_at-id.result c.in_ok-next.next c.loop-spot.lacks c.is_lost-lacks.result
+      c.loop-spot-test.true c.spot-item.is c.continued_at-id.ensures c.in_ok-next.ensures.number c.is_lost-lacks.ensures c.loop-spot.invariant.lacks;
+  table = c.in_ok-next.ensures.table;
 }
 
 pub returns-clause-lacks : goal.returns-clause-lacks

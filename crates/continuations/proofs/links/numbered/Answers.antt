@@ -1,15 +1,9 @@
-use Rattle.std.proofs.Common.{◌≡◌, ◌∙◌, ap, refl, sym, subst, take, length, List, Result, Ok, Err}
-use Rattle.std.proofs.lemmas.List.{length-map}
+use Rattle.std.proofs.Common.{◌∙◌, ap, refl, Result, Ok, Err}
 use Rattle.std.proofs.lemmas.Result.{IfOk-weaker}
-use Rattle.std.specs.Borrow.{Bor}
-use Rattle.std.specs.List.{filter, list_any}
+use Rattle.std.specs.List.{list_any}
 use Rattle.std.specs.Result.{IfOk}
-use Rattle.ix_base.specs.declared.tree.Spot.{Spot}
 use Rattle.ix_base.specs.LinkRules.{lacks_continuation}
-use Rattle.ix_base.specs.LocatedElements.{Located, located, is_continuation}
 use Rattle.id_table.specs.Model.{asked}
-use Rattle.id_table.specs.Tables.{all_located}
-use Rattle.continuations.specs.Numbers.{AreNumbers}
 use Rattle.continuations.proofs.LinkLaws.{any-kinds, first-numbers, lacking-kind, linked}
 use Rattle.continuations.proofs.links.numbered.Goals as goal
 
@@ -19,12 +13,7 @@ if-both (Ok x) P Q R f p q = f x p q
 if-both (Err e) P Q R f p q = tt
 
 pub nexts_of-requires : goal.nexts_of-requires
-nexts_of-requires c =
-    let es = c.args.index.now.spots in
-    let front : List (Bor Spot) = take c.args.continuations c.args.spots.now in
-    let conts : all_located front ≡ filter is_continuation es = first-numbers es c.args.spots.now c.args.continuations c.requires.spots c.requires.counted in
-    subst (λ (xs : List Located). AreNumbers c.in_ok-numbers.numbers xs (length (filter is_continuation es))) conts
-    (subst (AreNumbers c.in_ok-numbers.numbers (all_located front)) (sym (length-map front (λ (s : Bor Spot). located s.now)) ∙ ap length conts) c.in_ok-numbers.ensures)
+nexts_of-requires c = first-numbers c.args.index.now.spots c.args.spots.now c.args.continuations c.requires.spots c.requires.counted
 
 pub returns-clause-nexts : goal.returns-clause-nexts
 returns-clause-nexts c =

@@ -11,14 +11,14 @@ pub returns-clause-spots : goal.returns-clause-spots
 returns-clause-spots c =
     let es = c.args.index.now.spots in
     c.in_ok-push_starts.ensures.spots ∙ ap (λ (xs : List Located). xs ++ filter is_start es)
-    (first-spots es c.new-spots.result.items c.push_continuations.new.spots.items c.new-spots.ensures.items c.in_ok-push_continuations.ensures.spots)
+    (first-spots es c.in_ok-spots.spots.items c.push_continuations.new.spots.items c.in_ok-spots.ensures.items c.in_ok-push_continuations.ensures.spots)
 
 pub returns-clause-counted : goal.returns-clause-counted
 returns-clause-counted c =
     let es = c.args.index.now.spots in
     let first = c.push_continuations.new.spots in
     c.len-continuations.ensures ∙ first.ok.0 ∙ sym (length-map first.items (λ (s : Bor Spot). located s.now))
-    ∙ ap length (first-spots es c.new-spots.result.items first.items c.new-spots.ensures.items c.in_ok-push_continuations.ensures.spots)
+    ∙ ap length (first-spots es c.in_ok-spots.spots.items first.items c.in_ok-spots.ensures.items c.in_ok-push_continuations.ensures.spots)
 
 pub returns-clause-pages : goal.returns-clause-pages
 returns-clause-pages c = c.in_ok-push_starts.ensures.pages

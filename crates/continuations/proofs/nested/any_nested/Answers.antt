@@ -22,7 +22,7 @@ returns-then-branch c =
     let within : c.loop-number.number < length xs = omega (arith, many, l.spots.ok.0, c.len-number-end.ensures, c.loop-number-test.true) in
     let at : (e : Located) × (slice_get xs c.loop-number.number ≡ Some e) = got-at xs c.loop-number.number within in
     sym (start-passes c.args.index.now.spots xs l.continuations c.requires.spots c.requires.counted (λ s. is_nested (chain a s)) c.loop-number.number at.0 c.loop-number.auto.number at.1
-    (ap is_nested (sym (ap all_located c.as_slice.ensures.value ∙ c.in_ok-put_chain.ensures.chain at.0 at.1)) ∙ sym c.in_ok-any_within.ensures ∙ c.if-branch.true))
+    (ap is_nested (sym (ap all_located c.as_slice.ensures.value ∙ c.in_ok-put_chain.ensures.chain at.0 at.1)) ∙ sym c.in_ok-has_nested.ensures ∙ c.if-branch.true))
 
 pub loop-number-preserved : goal.loop-number-preserved
 loop-number-preserved c = λ k e low high at.
@@ -31,7 +31,7 @@ loop-number-preserved c = λ k e low high at.
     ⊎_elim
     (λ (same : k ≡ c.loop-number.number).
     ap is_nested (sym (ap all_located c.as_slice.ensures.value ∙ c.in_ok-put_chain.ensures.chain e (sym (ap (slice_get xs) same) ∙ at)))
-    ∙ sym c.in_ok-any_within.ensures ∙ c.if-branch.false)
+    ∙ sym c.in_ok-has_nested.ensures ∙ c.if-branch.false)
     (λ (other : k ≡ c.loop-number.number → ⊥). c.loop-number.invariant k e low (omega (arith, high, other)) at)
     (cases_eq k c.loop-number.number)
 

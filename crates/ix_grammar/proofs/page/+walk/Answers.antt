@@ -4,9 +4,9 @@ use Rattle.ix_grammar.proofs.FoundLaws.{found-here, found-next}
 use Rattle.ix_grammar.proofs.Staging.{on_refusal, first_refused, later_refused}
 use Rattle.ix_grammar.proofs.page.+walk.Goals as goal
 
-pub returns-in_err-check_subject-clause-err : goal.returns-in_err-check_subject-clause-err
-returns-in_err-check_subject-clause-err t c =
-    on_refusal _ (first_refused _ c.args.breaches.now _ _ _ (found-here c.args.page c.args.element c.args.up) c.in_err-check_subject.ensures.err)
+pub returns-in_err-check_spot-clause-err : goal.returns-in_err-check_spot-clause-err
+returns-in_err-check_spot-clause-err t c =
+    on_refusal _ (first_refused _ c.args.breaches.now _ _ _ (found-here c.args.page c.args.element c.args.up) c.in_err-check_spot.ensures.err)
 
 pub returns-in_err-walk-clause-err : goal.returns-in_err-walk-clause-err
 returns-in_err-walk-clause-err t c =

@@ -1,6 +1,8 @@
 use Rattle.std.proofs.Common.{◌≡◌, ◌∙◌, ◌++◌, ◌+◌, ◌<◌, ◌∷◌, ℕ, List, [], ap, append_assoc, drop, get_or, length, map, refl, sym}
-use Rattle.std.proofs.lemmas.List.{drop_more}
+use Rattle.std.proofs.lemmas.List.{drop_more, map-append}
 use Rattle.ix_base.specs.Spaces.{space_of}
+use Rattle.ix_base.specs.Trees.{valued}
+use Rattle.ix_base.specs.declared.tree.Attr.{Attr}
 use Rattle.page_tree.specs.Expansions.{Expansion, expansion}
 use Rattle.page_tree.specs.Spaces.{spaces_expanded}
 use Rattle.page_tree.specs.declared.names.Expanded.{Expanded}
@@ -18,9 +20,11 @@ pub loop-one-preserved : goal.loop-one-preserved
 loop-one-preserved c =
     let xs = c.args.expanded.now in
     let i = c.loop-one.one-index in
+    let pushed = ap (map valued) c.in_ok-push.ensures.items ∙ map-append valued _ (_ ∷ []) in
+    let others = ap (map (λ (a : Attr). space_of a.name.now)) c.in_ok-push.ensures.items ∙ map-append (λ (a : Attr). space_of a.name.now) _ (_ ∷ []) in
     record {
       values = more-made (λ (e : Expanded). (expansion e).valued) (λ es. map (λ (y : Expansion). y.valued) (map expansion es)) xs i c.one-item.result _ _ _
-          (λ x ys. refl) c.loop-one-test.true c.one-item.is c.in_ok-collect.ensures.values c.loop-one.invariant.values;
-      spaces = more-made (λ (e : Expanded). space_of e.name) spaces_expanded xs i c.one-item.result _ _ _
-          (λ x ys. refl) c.loop-one-test.true c.one-item.is c.in_ok-collect.ensures.spaces c.loop-one.invariant.spaces;
+          (λ x ys. refl) c.loop-one-test.true c.one-item.is pushed c.loop-one.invariant.values;
+      spaces = more-made (λ (e : Expanded). space_of e.name.now) spaces_expanded xs i c.one-item.result _ _ _
+          (λ x ys. refl) c.loop-one-test.true c.one-item.is others c.loop-one.invariant.spaces;
     }

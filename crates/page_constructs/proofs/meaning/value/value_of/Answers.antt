@@ -1,12 +1,8 @@
-use Rattle.std.proofs.Common.{◌≡◌, ◌++◌, [], Option, Some, None, option_map, List, ℕ, refl, sym, ap, ◌∙◌}
+use Rattle.std.proofs.Common.{[], Some, sym, ap, ◌∙◌}
 use Rattle.page_constructs.specs.Values.{value_of}
 use Rattle.page_constructs.proofs.Parting.{is-empty}
-use Rattle.page_constructs.proofs.ValueLaws.{after-end}
+use Rattle.page_constructs.proofs.ValueLaws.{after-end, with-none}
 use Rattle.page_constructs.proofs.meaning.value.value_of.Goals as goal
-
-with-none : (o : Option (List ℕ)) → option_map (λ more. [] ++ more) o ≡ o
-with-none None = refl
-with-none (Some x) = refl
 
 pub returns-then-is_empty : goal.returns-then-is_empty
 returns-then-is_empty c =

@@ -10,5 +10,5 @@ returns-clause-frame c = c.in_ok-element.ensures.frame (scope_in (state_of c.arg
 
 pub returns-clause-own_spaces : goal.returns-clause-own_spaces
 returns-clause-own_spaces c = λ from.
-    let around = spaces_bound c.args.scope in
+    let around = spaces_bound c.args.own.scope in
     c.in_ok-element.ensures.spaces (subst (λ es. AreFrom around (spaces_expanded es)) (sym c.as_slice.ensures.value) from)

@@ -1,4 +1,5 @@
-use Rattle.std.proofs.Common.{ap, flat_map, subst}
+use Rattle.std.proofs.Common.{ap, flat_map, subst, sym}
+use Rattle.ix_base.specs.Spaces.{spaces_bound}
 use Rattle.page_tree.specs.Spaces.{HasNumber, HaveNumbers}
 use Rattle.page_tree.specs.Stacks.{spaces_open}
 use Rattle.page_tree.specs.declared.tree.Building.{Building}
@@ -34,5 +35,6 @@ returns-clause-becomes c =
 pub returns-clause-spaces : goal.returns-clause-spaces
 returns-clause-spaces c = λ on.
     let numbers = c.element_scope.new.self.spaces.numbers in
-    c.in_ok-scope.ensures.spaces (subst (λ os. HaveNumbers numbers (flat_map spaces_open os)) (ap (λ (x : Building). x.elements.items) c.element_scope.ensures.same)
-    (all-left (HasNumber numbers) (flat_map spaces_open c.element_scope.new.self.elements.items) _ on.spaces))
+    subst (λ s. HaveNumbers numbers (spaces_bound s)) (sym c.element_name-own.ensures.scope)
+    (c.in_ok-scope.ensures.spaces (subst (λ os. HaveNumbers numbers (flat_map spaces_open os)) (ap (λ (x : Building). x.elements.items) c.element_scope.ensures.same)
+    (all-left (HasNumber numbers) (flat_map spaces_open c.element_scope.new.self.elements.items) _ on.spaces)))

@@ -9,7 +9,7 @@ unfolding broken_by moved
 returns c =
     let judged = c.judge.ensures.becomes in
     let on = c.in_ok-open.ensures in (
-      c.in_ok-scope.ensures.rule,
+      c.in_ok-own.ensures.rule,
       record {
         state = on.state ∙ ap (λ s. opening s (tag_of c.args.tag.now)) judged.state;
         on_page = λ h. on.on_page (judged.on_page h);

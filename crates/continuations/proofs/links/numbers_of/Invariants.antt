@@ -1,7 +1,0 @@
-use Rattle.id_table.specs.Tables.{all_located}
-use Rattle.continuations.specs.Numbers.{AreNumbers}
-use Rattle.continuations.proofs.links.numbers_of.Given as goal
-
--- the elements before here are entered
-abbrev pub invariant-loop-number : goal.invariant-loop-number
-invariant-loop-number l = AreNumbers l.numbers (all_located l.spots) l.number
