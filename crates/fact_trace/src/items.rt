@@ -114,11 +114,11 @@ fn push_number(
 }
 
 /// Adds the spans of an item that isn't nil.
-fn push_item(
+fn push_item<'a>(
     alloc: Global,
     pages: &[Page<'_>],
-    chains: &Chains<'_>,
-    spot: &Spot<'_>,
+    chains: &Chains<'a>,
+    spot: &Spot<'a>,
     spans: &mut List<Span>,
 ) -> Result<(), NoMemory>
     requires pages { ArePagesFrom 0 pages.now }
@@ -136,11 +136,11 @@ fn push_item(
 }
 
 /// The spans of an item.
-fn spans_of(
+fn spans_of<'a>(
     alloc: Global,
     pages: &[Page<'_>],
-    chains: &Chains<'_>,
-    spot: &Spot<'_>,
+    chains: &Chains<'a>,
+    spot: &Spot<'a>,
 ) -> Result<List<Span>, NoMemory>
     requires pages { ArePagesFrom 0 pages.now }
     requires chains { AreChainsOf chains.now (elements (sources_of pages.now)) }
@@ -164,11 +164,11 @@ fn page_name(alloc: Global, pages: &[Page<'_>], page: u32) -> Result<Text, NoMem
 }
 
 /// An item with its spans.
-fn traced_of(
+fn traced_of<'a>(
     alloc: Global,
     pages: &[Page<'_>],
-    chains: &Chains<'_>,
-    spot: &Spot<'_>,
+    chains: &Chains<'a>,
+    spot: &Spot<'a>,
 ) -> Result<Traced, NoMemory>
     requires pages { ArePagesFrom 0 pages.now }
     requires chains { AreChainsOf chains.now (elements (sources_of pages.now)) }
@@ -187,11 +187,11 @@ fn traced_of(
 }
 
 /// The items among some elements, each with its spans.
-pub(crate) fn traced_items(
+pub(crate) fn traced_items<'a>(
     alloc: Global,
     pages: &[Page<'_>],
-    chains: &Chains<'_>,
-    spots: &[&Spot<'_>],
+    chains: &Chains<'a>,
+    spots: &[&'a Spot<'a>],
 ) -> Result<Vec<Traced>, NoMemory>
     requires pages { ArePagesFrom 0 pages.now }
     requires chains { AreChainsOf chains.now (elements (sources_of pages.now)) }
