@@ -19,6 +19,9 @@ use Rattle.page_session.specs.declared.reading.Sums.{Sums}
 tags-append : (xs ys : List ℕ) → tags_in (xs ++ ys) ≡ tags_in xs + tags_in ys
 tags-append xs ys = sum_by-append (λ b. cond (b == 60) 1 0) xs ys
 
+pub tags-split : (n : ℕ) (xs : List ℕ) → tags_in xs ≡ tags_in (take n xs) + tags_in (drop n xs)
+tags-split n xs = ap tags_in (sym (take-append-drop n xs)) ∙ tags-append (take n xs) (drop n xs)
+
 -- what is told of a page, once a piece of it was read
 told_on : (page left left' : Option (List ℕ)) (front buf : List ℕ) (n : ℕ)
     → IfSome left (λ rest. ReadsFrom rest buf n) → left' ≡ option_map (drop n) left

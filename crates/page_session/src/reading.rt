@@ -45,18 +45,35 @@ pub fn buffer(alloc: Global) -> Result<Vec<u8>, NoMemory>
     zeros(alloc, PIECE)
 }
 
+/// So many bytes are counted together, by a number of one byte, so that a compiler can let several be counted in one step.
+const BLOCK: usize = 192;
+
+/// How many bytes of a block are `<`.
+fn tags_of_block(block: &[u8]) -> u8
+    requires { length block.now < 256 }
+    ensures value { result ≡ tags_in block.now }
+    ensures most { result ≤ length block.now }
+{
+    let mut count = 0;
+    for byte in block {
+        count += u8::from(*byte == b'<');
+    }
+    count
+}
+
 /// How many bytes of a piece are `<`.
 pub fn count_tags(piece: &[u8]) -> u64
     ensures value { result ≡ tags_in piece.now }
     ensures most { result ≤ length piece.now }
 {
     let mut count = 0;
-    for byte in piece {
-        if *byte == b'<' {
-            count += 1;
-        }
+    let mut rest = piece;
+    'parts: while rest.len() > BLOCK {
+        let (block, behind) = rest.split_at(BLOCK);
+        count += u64::from(tags_of_block(block));
+        rest = behind;
     }
-    count
+    count + u64::from(tags_of_block(rest))
 }
 
 /// Reads a piece, has it taken and adds to the sums. It answers whether there was any.

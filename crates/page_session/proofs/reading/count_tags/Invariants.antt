@@ -1,6 +1,9 @@
-use Rattle.std.proofs.Common.{◌≡◌, ◌≤◌, ◌+◌, drop}
+use Rattle.std.proofs.Common.{◌≡◌, ◌≤◌, ◌+◌, length}
 use Rattle.targets.specs.Breaches.{tags_in}
 use Rattle.page_session.proofs.reading.count_tags.Given as goal
 
-abbrev pub invariant-loop-byte : goal.invariant-loop-byte
-invariant-loop-byte l = (l.count + tags_in (drop l.byte-index l.piece) ≡ tags_in l.piece) × (l.count ≤ l.byte-index)
+abbrev pub invariant-parts : goal.invariant-parts
+invariant-parts l = (l.count + tags_in l.rest ≡ tags_in l.piece) × (l.count + length l.rest ≤ length l.piece)
+
+abbrev pub decreases-parts : goal.decreases-parts
+decreases-parts l = length l.rest
