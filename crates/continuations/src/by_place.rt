@@ -28,13 +28,22 @@ const MIXER: u64 = 0x9E37_79B9_7F4A_7C15;
 /// that were added in the order of their numbers, they are kept in this order, and found where a hint says, or else by halving.
 ///
 /// Contracts see them with their places.
-#[derive(Drop)]
 pub(crate) struct ByPlace<'a> {
     front: Vec<(Key, Slice<'a>)>,
     /// Numbers of those in order, where they are looked for first. None of them is relied on.
     hints: Vec<u32>,
     /// All chains from the first on that came out of order.
     rest: Slices<'a>,
+}
+
+impl Drop for ByPlace<'_> {
+    fn drop(self) {
+        let ByPlace {
+            front: _,
+            hints: _,
+            rest: _,
+        } = self;
+    }
 }
 
 impl<'a> Model for ByPlace<'a> {

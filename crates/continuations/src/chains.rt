@@ -22,9 +22,14 @@ use std::marker::Model;
 /// The chains of a set, each found by the place of its first element.
 ///
 /// Contracts see them with their places, in the order in which they were made.
-#[derive(Drop)]
 pub struct Chains<'a> {
     chains: ByPlace<'a>,
+}
+
+impl Drop for Chains<'_> {
+    fn drop(self) {
+        let Chains { chains: _ } = self;
+    }
 }
 
 impl<'a> Model for Chains<'a> {

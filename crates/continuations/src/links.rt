@@ -20,7 +20,6 @@ use std::alloc::Global;
 
 /// The elements of chains, numbered: so many continuations, and behind them the elements with which chains begin. For
 /// each the number of the continuation at which it goes on.
-#[derive(Drop)]
 pub(crate) struct Links<'a> {
     /// The allocator with which they were made.
     pub alloc: Global,
@@ -31,6 +30,19 @@ pub(crate) struct Links<'a> {
     pub lacks: bool,
     /// Whether two elements go on at one continuation.
     pub joins: bool,
+}
+
+impl Drop for Links<'_> {
+    fn drop(self) {
+        let Links {
+            alloc: _,
+            spots: _,
+            continuations: _,
+            nexts: _,
+            lacks: _,
+            joins: _,
+        } = self;
+    }
 }
 
 /// Whether an element that goes on at an id has found no number there.

@@ -67,10 +67,18 @@ fn unmet(alloc: Global, count: usize) -> Result<Vec<Option<Visit>>, NoMemory>
 }
 
 /// The visits of walks, and where each walk met what had been met.
-#[derive(Drop)]
 pub(crate) struct Walked {
     pub visits: Vec<Option<Visit>>,
     pub meets: Vec<Option<usize>>,
+}
+
+impl Drop for Walked {
+    fn drop(self) {
+        let Walked {
+            visits: _,
+            meets: _,
+        } = self;
+    }
 }
 
 /// Walks from each number behind the first so many. All walks together take no more steps than there are numbers.

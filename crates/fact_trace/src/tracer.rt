@@ -28,13 +28,24 @@ use std::marker::Model;
 /// Tells where the text of each fact stands.
 ///
 /// Contracts see the pages with their trees, and whether memory was wanting. Once it was, each call answers so.
-#[derive(Drop)]
 pub struct Tracer<'a> {
     alloc: Global,
     arena: &'a Bump,
     pages: Vec<Page<'a>>,
     index: Index<'a>,
     is_spent: bool,
+}
+
+impl Drop for Tracer<'_> {
+    fn drop(self) {
+        let Tracer {
+            alloc: _,
+            arena: _,
+            pages: _,
+            index: _,
+            is_spent: _,
+        } = self;
+    }
 }
 
 impl<'a> Model for Tracer<'a> {

@@ -194,9 +194,14 @@ fn links_of<'a>(
 /// The relations of a set, found by target.
 ///
 /// Contracts see the arcs with the targets of the facts from which they go.
-#[derive(Drop)]
 pub struct Relations<'a> {
     groups: GroupTable<'a>,
+}
+
+impl Drop for Relations<'_> {
+    fn drop(self) {
+        let Relations { groups: _ } = self;
+    }
 }
 
 impl<'a> Model for Relations<'a> {

@@ -30,13 +30,23 @@ use std::marker::Model;
 /// them have.
 ///
 /// Contracts see the elements, the choices, and whether memory was wanting. Once it was, the index has no elements, and takes none.
-#[derive(Drop)]
 pub struct Index<'a> {
     alloc: Global,
     kept: Kept<'a>,
     /// What is shown of an id that no element has.
     none: Vec<Entry<'a>>,
     is_spent: bool,
+}
+
+impl Drop for Index<'_> {
+    fn drop(self) {
+        let Index {
+            alloc: _,
+            kept: _,
+            none: _,
+            is_spent: _,
+        } = self;
+    }
 }
 
 impl<'a> Model for Index<'a> {

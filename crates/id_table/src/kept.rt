@@ -8,10 +8,18 @@ use std::alloc::Global;
 use text_map::TextMap;
 
 /// The tables, and what was chosen for ids.
-#[derive(Drop)]
 pub struct Kept<'a> {
     pub tables: Tables<'a>,
     pub choices: Choices<'a>,
+}
+
+impl Drop for Kept<'_> {
+    fn drop(self) {
+        let Kept {
+            tables: _,
+            choices: _,
+        } = self;
+    }
 }
 
 impl<'a> Kept<'a> {

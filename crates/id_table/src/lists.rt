@@ -11,7 +11,6 @@ use std::alloc::Global;
 
 /// Elements by what they are, each list in order, so that whoever speaks of facts alone, say, doesn't look at all elements. An element
 /// may be in two of them.
-#[derive(Drop)]
 pub struct Lists<'a> {
     /// Items and tuples.
     pub facts: Vec<&'a Spot<'a>>,
@@ -19,6 +18,16 @@ pub struct Lists<'a> {
     pub of_chains: Vec<&'a Spot<'a>>,
     /// All that are neither.
     pub others: Vec<&'a Spot<'a>>,
+}
+
+impl Drop for Lists<'_> {
+    fn drop(self) {
+        let Lists {
+            facts: _,
+            of_chains: _,
+            others: _,
+        } = self;
+    }
 }
 
 /// Adds an element to a list, where it is one for it.

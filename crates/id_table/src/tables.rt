@@ -18,7 +18,6 @@ use std::alloc::Global;
 use text_map::TextMap;
 
 /// Elements in order, for each id and tuple id those that have it, and lists of them by what they are.
-#[derive(Drop)]
 pub struct Tables<'a> {
     pub spots: Vec<&'a Spot<'a>>,
     pub ids: Entries<'a>,
@@ -26,6 +25,18 @@ pub struct Tables<'a> {
     pub lists: Lists<'a>,
     /// Whether an id or a tuple id was met again.
     pub repeats: bool,
+}
+
+impl Drop for Tables<'_> {
+    fn drop(self) {
+        let Tables {
+            spots: _,
+            ids: _,
+            tuples: _,
+            lists: _,
+            repeats: _,
+        } = self;
+    }
 }
 
 impl<'a> Tables<'a> {

@@ -29,7 +29,7 @@ use Rattle.instance_lines.specs.Arrangement.{arranged, arranged_link, by_line, w
 use Rattle.instance_lines.specs.Canonical.{Spaces, arcrole_markup, canon_lines, children, content_spaces, context_markup, context_names}
 use Rattle.instance_lines.specs.Canonical.{fact_markups, fact_names, first_line, last_line, line, line_cmp, linkbase_markup, lines_with}
 use Rattle.instance_lines.specs.Canonical.{link_markup, role_markup, root_line, schema_markup, unit_markup, unit_names}
-use Rattle.instance_lines.specs.Elements.{fact_markup}
+use Rattle.instance_lines.specs.Elements.{fact_line, fact_markup, lines_of_facts, ordered_lines}
 use Rattle.instance_lines.specs.Prefixes.{is_known, spaces_of, with_space}
 use Rattle.instance_lines.specs.Tables.{own_spaces}
 use Rattle.instance_lines.proofs.MarkupLaws.{fact_markups-are}
@@ -213,6 +213,20 @@ facts_again spaces fs =
     ∙ sorted-map f line_cmp (sorted (by_line f) fs)
     ∙ ap (map f) (sorted-sorted (on_total f (on_total line nat_list_cmp_total)) fs)
     ∙ sym (ap (sorted line_cmp) (fact_markups-are spaces fs) ∙ sorted-map f line_cmp fs)
+
+-- the lines of facts that are in the order of these
+lines_again : (spaces : Spaces) (fs : List Fact) → ordered_lines spaces (sorted (by_line (fact_markup spaces)) fs) ≡ ordered_lines spaces fs
+lines_again spaces fs =
+    let key = fact_line spaces in
+    let R : Fact → Fact → Ordering = on key text_cmp in
+    sorted-map key text_cmp (sorted R fs) ∙ ap (map key) (sorted-sorted (on_total key nat_list_cmp_total) fs) ∙ sym (sorted-map key text_cmp fs)
+
+-- the lines of the facts of an arranged content
+pub fact_lines-arranged : (c : Content) → lines_of_facts (arranged c) ≡ ordered_lines (content_spaces c (facts_of c.facts)) c.facts
+unfolding arranged
+fact_lines-arranged c =
+    let spaces = content_spaces c (facts_of c.facts) in
+    ap (λ (s : Spaces). ordered_lines s (arranged c).facts) (spaces-arranged c) ∙ lines_again spaces c.facts
 
 links_again : (ls : List NoteLink)
     → sorted (on (λ (l : NoteLink). l.role) text_cmp) (map arranged_link (sorted (on (λ (l : NoteLink). l.role) text_cmp) ls))

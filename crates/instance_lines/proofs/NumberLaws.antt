@@ -41,6 +41,16 @@ key_at-is key xs k x h is = ap (λ o. option_map_or key o []) (slice_get-get_or 
 pub numbers-moved : {X : Type 0} (key : X → List ℕ) (xs : List X) → IsPermutation (range_with_len 0 (length xs)) (numbers_by key xs)
 numbers-moved key xs = sorted_moves (on (key_at key xs) text_cmp) (range_with_len 0 (length xs))
 
+-- what a key makes of the things of all numbers
+keys-numbered : {X : Type 0} (key : X → List ℕ) (xs : List X) → map (key_at key xs) (range_with_len 0 (length xs)) ≡ map key xs
+keys-numbered {X} key xs =
+    let on_option : Option X → List ℕ = λ o. option_map_or key o [] in
+    sym (map-map (slice_get xs) on_option (range_with_len 0 (length xs))) ∙ ap (map on_option) (all-numbered xs) ∙ map-map Some on_option xs
+
+-- what a key makes of things in the order of their numbers
+pub keys-by_numbers : {X : Type 0} (key : X → List ℕ) (xs : List X) → map (key_at key xs) (numbers_by key xs) ≡ sorted text_cmp (map key xs)
+keys-by_numbers key xs = sym (sorted-map (key_at key xs) text_cmp (range_with_len 0 (length xs))) ∙ ap (sorted text_cmp) (keys-numbered key xs)
+
 -- things in the order of their numbers are sorted
 pub sorted-by_numbers : {X : Type 0} (key : X → List ℕ) (xs ys : List X) (numbers : List ℕ) → numbers ≡ numbers_by key xs
     → map Some ys ≡ map (slice_get xs) numbers → ys ≡ sorted (on key text_cmp) xs

@@ -1,5 +1,5 @@
 -- The places of the numbers of an order.
-use Rattle.std.proofs.Common.{◌≡◌, ◌∙◌, ◌+◌, ◌<◌, ℕ, List, length, get_or, set, refl, sym, ap, subst, ⊎_elim, false, arith}
+use Rattle.std.proofs.Common.{◌≡◌, ◌∙◌, ◌+◌, ◌<◌, ℕ, List, length, get_or, set, sym, ap, subst, ⊎_elim, arith}
 use Rattle.std.specs.List.{All, Contains, IsDistinct, range_with_len}
 use Rattle.std.specs.List.Sorted.{IsPermutation}
 use Rattle.std.proofs.Math.Dec.{eqb}

@@ -60,15 +60,24 @@ pub map-map : {X Y Z : Type 0} (f : X → Y) (g : Y → Z) (xs : List X) → map
 map-map f g [] = refl
 map-map f g (x ∷ xs) = ap (λ l. g (f x) ∷ l) (map-map f g xs)
 
+-- parts of things with keys that are made of others, by the keys
+parts_by_keys : {X Y Z : Type 0} (part : Keyed Y → Z) (keyed : X → Keyed Y) (xs : List X) (ks : List (Keyed Y)) → ks ≡ map keyed xs
+    → map part (sorted by_key ks) ≡ map (λ x. part (keyed x)) (sorted (on (λ x. (keyed x).key) text_cmp) xs)
+parts_by_keys {X} {Y} part keyed xs ks e =
+    ap (λ (l : List (Keyed Y)). map part (sorted by_key l)) e ∙ ap (map part) (sorted-map keyed by_key xs)
+    ∙ map-map keyed part (sorted (on (λ (x : X). (keyed x).key) text_cmp) xs)
+
 -- things made of others, by the keys of these
 pub made_by_keys : {X Y : Type 0} (key : X → List ℕ) (made : X → Y) (xs : List X) (ks : List (Keyed Y))
     → ks ≡ map {B = Keyed Y} (λ x. record { key = key x; item = made x }) xs
     → map (λ (k : Keyed Y). k.item) (sorted by_key ks) ≡ map made (sorted (on key text_cmp) xs)
-made_by_keys {X} {Y} key made xs ks e =
-    let keyed : X → Keyed Y = λ x. record { key = key x; item = made x } in
-    ap (λ (l : List (Keyed Y)). map (λ (k : Keyed Y). k.item) (sorted by_key l)) e
-    ∙ ap (map (λ (k : Keyed Y). k.item)) (sorted-map keyed by_key xs)
-    ∙ map-map keyed (λ (k : Keyed Y). k.item) (sorted (on key text_cmp) xs)
+made_by_keys {X} {Y} key made xs ks e = parts_by_keys (λ (k : Keyed Y). k.item) (λ (x : X). record { key = key x; item = made x }) xs ks e
+
+-- the keys of things, in order
+pub keys_of : {X : Type 0} (key : X → List ℕ) (xs : List X) (ks : List (Keyed X))
+    → ks ≡ map {B = Keyed X} (λ x. record { key = key x; item = x }) xs
+    → map (λ (k : Keyed X). k.key) (sorted by_key ks) ≡ map key (sorted (on key text_cmp) xs)
+keys_of {X} key xs ks e = parts_by_keys (λ (k : Keyed X). k.key) (λ (x : X). record { key = key x; item = x }) xs ks e
 
 -- things by their keys
 pub by_keys_of : {X : Type 0} (key : X → List ℕ) (xs : List X) (ks : List (Keyed X))

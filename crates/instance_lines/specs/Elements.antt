@@ -1,6 +1,7 @@
 -- Parts of elements that the code writes by themselves.
-use Rattle.std.specs.Prelude.{ℕ, List, [], ◌∷◌, Option, Some, None, codes}
-use Rattle.ix_base.specs.Facts.{before, none}
+use Rattle.std.specs.Prelude.{ℕ, List, [], ◌∷◌, map, Option, Some, None, codes}
+use Rattle.ix_base.specs.Facts.{before, facts_of, none}
+use Rattle.ix_base.specs.SortedLists.{sorted, text_cmp}
 use Rattle.ix_base.specs.WrittenMarkup.{Attribute, Markup, nothing, node, leaf, written}
 use Rattle.ix_base.specs.declared.content.Accuracy.{Accuracy}
 use Rattle.ix_base.specs.declared.content.Accuracy.TheVariants as accuracy
@@ -9,9 +10,10 @@ use Rattle.ix_base.specs.declared.content.Footnote.{Footnote}
 use Rattle.ix_base.specs.declared.content.RoleRef.{RoleRef}
 use Rattle.ix_base.specs.declared.content.Value.{Value}
 use Rattle.ix_base.specs.declared.content.Value.TheVariants as value
+use Rattle.ix_base.specs.declared.content.Content.{Content}
 use Rattle.ix_base.specs.declared.content.Context.{Context}
 use Rattle.ix_base.specs.declared.content.Fact.{Fact}
-use Rattle.instance_lines.specs.Canonical.{Spaces, arc_markup, around, attr, dim_markup, facts_markup, href_attr, type_attr, footnote_markup, line, locator_markup, period_markup, text_element}
+use Rattle.instance_lines.specs.Canonical.{Spaces, arc_markup, around, attr, content_spaces, dim_markup, facts_markup, href_attr, type_attr, footnote_markup, line, locator_markup, period_markup, text_element}
 
 -- what stands in a context
 abbrev pub context_parts : Spaces → Context → Markup
@@ -28,6 +30,14 @@ fact_markup spaces f = facts_markup spaces (before f none)
 
 abbrev pub fact_line : Spaces → Fact → List ℕ
 fact_line spaces f = line (fact_markup spaces f)
+
+-- the lines of facts, in order
+abbrev pub ordered_lines : Spaces → List Fact → List (List ℕ)
+ordered_lines spaces fs = sorted text_cmp (map (fact_line spaces) fs)
+
+-- those of the facts of a content
+abbrev pub lines_of_facts : Content → List (List ℕ)
+lines_of_facts c = ordered_lines (content_spaces c (facts_of c.facts)) c.facts
 
 -- how exact a number is, as the value of one attribute or of another
 

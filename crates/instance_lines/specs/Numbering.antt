@@ -1,5 +1,5 @@
 -- Things by their numbers.
-use Rattle.std.specs.Prelude.{ℕ, List, [], Option, length, slice_get}
+use Rattle.std.specs.Prelude.{ℕ, List, [], length, slice_get}
 use Rattle.std.specs.List.{range_with_len}
 use Rattle.std.specs.Option.{option_map_or}
 use Rattle.std.specs.Ordering.{on}

@@ -6,7 +6,7 @@ ghost use Rattle.ix_base.specs.Once.{in_order};
 ghost use Rattle.ix_base.specs.SortedLists.{sorted, text_cmp};
 ghost use Rattle.instance_lines.specs.Arrangement.{arranged_link, by_line};
 ghost use Rattle.instance_lines.specs.Canonical.{arcrole_markup, content_spaces, linkbase_markup, role_markup, schema_markup};
-ghost use Rattle.instance_lines.specs.Elements.{fact_line, fact_markup};
+ghost use Rattle.instance_lines.specs.Elements.{fact_line, fact_markup, ordered_lines};
 ghost use Rattle.instance_lines.specs.Numbering.{numbers_by};
 
 use crate::arranged_note::links_in_order;
@@ -15,7 +15,7 @@ use crate::names::spaces_in;
 use crate::prefix::Prefixes;
 use crate::reference::{linkbase_line, role_line, schema_line};
 use crate::reorder::put_in_order;
-use crate::sort::{Keyed, by_keys, copies_of, once_by_keys, views_of};
+use crate::sort::{Keyed, by_keys, copies_of, once_by_keys, views_of, with_keys};
 use ix_base::{Content, Context, Fact, Linkbase, List, NoMemory, RoleRef, Text, Unit};
 use std::alloc::Global;
 use std::mem;
@@ -101,34 +101,37 @@ fn units_in_order(alloc: Global, units: List<Unit>) -> Result<List<Unit>, NoMemo
     Ok(List::of(units))
 }
 
-/// The numbers of facts in the order of their lines. Those with one line keep the order that they have.
+/// The lines of facts in order, and the numbers of the facts in the order of these. Those with one line keep the order that
+/// they have.
 fn numbers_by_line(
     alloc: Global,
     prefixes: &Prefixes<'_>,
     facts: &[Fact],
-) -> Result<Vec<usize>, NoMemory>
-    ensures { IfOk result (λ v. v.items ≡ numbers_by (fact_line prefixes.now) facts.now) }
+) -> Result<(Vec<Text>, Vec<usize>), NoMemory>
+    ensures lines { IfOk result (λ p. p.0.items ≡ ordered_lines prefixes.now facts.now) }
+    ensures numbers { IfOk result (λ p. p.1.items ≡ numbers_by (fact_line prefixes.now) facts.now) }
 {
     let mut keyed = Vec::with_capacity(alloc, facts.len())?;
     for number in 0..facts.len() {
         let key = line_of(alloc, prefixes, &facts[number])?;
         keyed.push(Keyed { key, item: number })?;
     }
-    by_keys(alloc, keyed)
+    with_keys(alloc, keyed)
 }
 
-/// Facts by their lines. Those with one line keep the order that they have.
+/// Facts by their lines, and the lines. Those with one line keep the order that they have.
 fn facts_by_line(
     alloc: Global,
     prefixes: &Prefixes<'_>,
     facts: List<Fact>,
-) -> Result<List<Fact>, NoMemory>
-    ensures { IfOk result (λ l. l ≡ sorted (by_line (fact_markup prefixes.now)) facts) }
+) -> Result<(List<Fact>, List<Text>), NoMemory>
+    ensures facts { IfOk result (λ p. p.0 ≡ sorted (by_line (fact_markup prefixes.now)) facts) }
+    ensures lines { IfOk result (λ p. p.1 ≡ ordered_lines prefixes.now facts) }
 {
     let mut facts = facts.into_vec();
-    let numbers = numbers_by_line(alloc, prefixes, facts.as_slice())?;
+    let (lines, numbers) = numbers_by_line(alloc, prefixes, facts.as_slice())?;
     put_in_order(alloc, &mut facts, numbers)?;
-    Ok(List::of(facts))
+    Ok((List::of(facts), List::of(lines)))
 }
 
 /// Copies of the namespaces of a content that need prefixes of their own, in order, each once.
@@ -139,9 +142,14 @@ pub fn owned_spaces(alloc: Global, content: &Content) -> Result<Vec<Text>, NoMem
     copies_of(alloc, spaces.as_slice())
 }
 
-/// Facts by their lines, in an instance that has these further namespaces.
-fn facts_in_order(alloc: Global, spaces: &[Text], facts: List<Fact>) -> Result<List<Fact>, NoMemory>
-    ensures { IfOk result (λ l. l ≡ sorted (by_line (fact_markup spaces.now)) facts) }
+/// Facts by their lines, and the lines, in an instance that has these further namespaces.
+fn facts_in_order(
+    alloc: Global,
+    spaces: &[Text],
+    facts: List<Fact>,
+) -> Result<(List<Fact>, List<Text>), NoMemory>
+    ensures facts { IfOk result (λ p. p.0 ≡ sorted (by_line (fact_markup spaces.now)) facts) }
+    ensures lines { IfOk result (λ p. p.1 ≡ ordered_lines spaces.now facts) }
 {
     let views = views_of(alloc, spaces)?;
     let prefixes = Prefixes::of(alloc, views)?;
@@ -168,13 +176,15 @@ pub fn put_references_in_order(alloc: Global, content: &mut Content) -> Result<(
     Ok(())
 }
 
-/// Puts the contexts, units, facts and footnote links of a content in order, in an instance that has these further namespaces.
+/// Puts the contexts, units, facts and footnote links of a content in order, in an instance that has these further namespaces,
+/// and gives the lines of the facts.
 pub fn put_rest_in_order(
     alloc: Global,
     spaces: &[Text],
     content: &mut Content,
-) -> Result<(), NoMemory>
-    ensures { OnOk result (content.new ≡ record content.old {
+) -> Result<List<Text>, NoMemory>
+    ensures lines { IfOk result (λ l. l ≡ ordered_lines spaces.now content.old.facts) }
+    ensures content { OnOk result (content.new ≡ record content.old {
       contexts = sorted (on (λ x. x.id) text_cmp) content.old.contexts;
       units = sorted (on (λ u. u.id) text_cmp) content.old.units;
       facts = sorted (by_line (fact_markup spaces.now)) content.old.facts;
@@ -186,8 +196,9 @@ pub fn put_rest_in_order(
     let units = mem::replace(&mut content.units, List::new(alloc));
     content.units = units_in_order(alloc, units)?;
     let facts = mem::replace(&mut content.facts, List::new(alloc));
-    content.facts = facts_in_order(alloc, spaces, facts)?;
+    let (facts, lines) = facts_in_order(alloc, spaces, facts)?;
+    content.facts = facts;
     let notes = mem::replace(&mut content.notes, List::new(alloc));
     content.notes = links_in_order(alloc, notes)?;
-    Ok(())
+    Ok(lines)
 }

@@ -2,10 +2,9 @@
 ghost use Rattle.std.specs.Prelude.{◌≡◌, map, option_map, IfOk, OnOk};
 ghost use Rattle.ix_base.specs.Facts.{facts_of};
 ghost use Rattle.ix_base.specs.PlainContents.{said_of};
-ghost use Rattle.ix_base.specs.SortedLists.{sorted, text_cmp};
 ghost use Rattle.ix_base.specs.WrittenMarkup.{written, nothing};
 ghost use Rattle.instance_lines.specs.Canonical.{fact_markups, facts_markup, item_markup, line};
-ghost use Rattle.instance_lines.specs.Elements.{decimals, fact_line, fact_markup, nil_text, precision, value_element};
+ghost use Rattle.instance_lines.specs.Elements.{decimals, fact_line, fact_markup, nil_text, ordered_lines, precision, value_element};
 ghost use Rattle.instance_lines.specs.Gains.{Gains};
 ghost use Rattle.instance_lines.specs.Holdings.{said_spaces};
 ghost use Rattle.instance_lines.specs.SpelledNames.{spelled};
@@ -201,7 +200,7 @@ pub fn fact_lines(
     prefixes: &Prefixes<'_>,
     facts: &[Fact],
 ) -> Result<Vec<Text>, NoMemory>
-    ensures { IfOk result (λ v. v.items ≡ sorted text_cmp (map (fact_line prefixes.now) facts.now)) }
+    ensures { IfOk result (λ v. v.items ≡ ordered_lines prefixes.now facts.now) }
 {
     let mut lines = lines_of(alloc, prefixes, facts)?;
     sort_texts(&mut lines);

@@ -5,9 +5,10 @@ ghost use Rattle.std.specs.Prelude.{◌≡◌, ◌+◌, ◌^◌, ◌<◌, IsTrue
 ghost use Rattle.std.specs.List.{concat};
 ghost use Rattle.ix_base.specs.Outside.{HasCause, last_grown, GainsFront};
 ghost use Rattle.instance_lines.specs.Arrangement.{arranged};
+ghost use Rattle.instance_lines.specs.Elements.{lines_of_facts};
 ghost use Rattle.instance_lines.specs.Writable.{IsWritable};
 
-use ix_base::{Content, Failed, NoMemory, TargetSink, Text};
+use ix_base::{Content, Failed, List, NoMemory, TargetSink, Text};
 use std::alloc::Global;
 
 mod arranged_note;
@@ -27,7 +28,7 @@ mod spelled;
 mod unit;
 
 pub use fact::fact_lines_in;
-pub use lines::all_lines;
+pub use lines::{all_lines, all_lines_with};
 pub use names::names_in;
 pub use note::arc_of;
 pub use reference::{linkbase_line, role_line, schema_line};
@@ -39,11 +40,24 @@ pub fn arrange(alloc: Global, content: Content) -> Result<Content, NoMemory>
     requires { IsWritable content }
     ensures { IfOk result (λ c. c ≡ arranged content) }
 {
+    let (content, _) = arrange_with_lines(alloc, content)?;
+    Ok(content)
+}
+
+/// The same content in that order, and the lines of its facts, which are made to put the facts in order.
+pub fn arrange_with_lines(
+    alloc: Global,
+    content: Content,
+) -> Result<(Content, List<Text>), NoMemory>
+    requires { IsWritable content }
+    ensures content { IfOk result (λ p. p.0 ≡ arranged content) }
+    ensures lines { IfOk result (λ p. p.1 ≡ lines_of_facts p.0) }
+{
     let spaces = arrangement::owned_spaces(alloc, &content)?;
     let mut content = content;
     arrangement::put_references_in_order(alloc, &mut content)?;
-    arrangement::put_rest_in_order(alloc, spaces.as_slice(), &mut content)?;
-    Ok(content)
+    let lines = arrangement::put_rest_in_order(alloc, spaces.as_slice(), &mut content)?;
+    Ok((content, lines))
 }
 
 /// Puts lines into the target begun last, one piece for each.

@@ -5,7 +5,7 @@ ghost use Rattle.ix_base.specs.Facts.{facts_of};
 ghost use Rattle.ix_base.specs.Once.{in_order};
 ghost use Rattle.ix_base.specs.SortedLists.{sorted, text_cmp};
 ghost use Rattle.instance_lines.specs.Canonical.{arcrole_markup, canon_lines, content_spaces, context_markup, first_line, last_line, line, line_cmp, link_markup, linkbase_markup, role_markup, root_line, schema_markup, unit_markup};
-ghost use Rattle.instance_lines.specs.Elements.{fact_line};
+ghost use Rattle.instance_lines.specs.Elements.{lines_of_facts, ordered_lines};
 ghost use Rattle.instance_lines.specs.Gains.{Gains};
 ghost use Rattle.instance_lines.specs.Writable.{IsTimely, IsWritable};
 
@@ -71,18 +71,20 @@ fn add_references(alloc: Global, content: &Content, lines: &mut Vec<Text>) -> Re
     Ok(())
 }
 
-/// Adds the lines of contexts, units, facts and footnote links.
+/// Adds the lines of contexts and units, these lines of the facts, and those of footnote links.
 fn add_facts(
     alloc: Global,
     prefixes: &Prefixes<'_>,
     content: &Content,
+    facts: Vec<Text>,
     lines: &mut Vec<Text>,
 ) -> Result<(), NoMemory>
-    requires { All (λ x. IsTimely x.period) content.now.contexts }
+    requires timely { All (λ x. IsTimely x.period) content.now.contexts }
+    requires facts { facts.items ≡ ordered_lines prefixes.now content.now.facts }
     ensures { OnOk result (Gains lines.old.items lines.new.items (λ more.
         map (λ x. line (context_markup prefixes.now x)) (sorted (on (λ x. x.id) text_cmp) content.now.contexts)
         ++ (map (λ x. line (unit_markup prefixes.now x)) (sorted (on (λ x. x.id) text_cmp) content.now.units)
-        ++ (sorted text_cmp (map (fact_line prefixes.now) content.now.facts)
+        ++ (ordered_lines prefixes.now content.now.facts
         ++ (map (λ x. line (link_markup x)) (sorted (on (λ l. l.role) text_cmp) content.now.notes)
         ++ more))))) }
 {
@@ -90,29 +92,30 @@ fn add_facts(
     add(contexts, lines)?;
     let units = unit_lines(alloc, prefixes, content.units.as_slice())?;
     add(units, lines)?;
-    let facts = fact_lines(alloc, prefixes, content.facts.as_slice())?;
     add(facts, lines)?;
     let notes = link_lines(alloc, content.notes.as_slice())?;
     add(notes, lines)?;
     Ok(())
 }
 
-/// Adds the lines of a content, in an instance with the prefixes that it needs.
-fn add_all(
+/// The lines of a content, in an instance with the prefixes that it needs, where those of its facts are these.
+fn lines_with(
     alloc: Global,
     prefixes: &Prefixes<'_>,
     content: &Content,
-    lines: &mut Vec<Text>,
-) -> Result<(), NoMemory>
+    facts: Vec<Text>,
+) -> Result<List<Text>, NoMemory>
     requires writable { IsWritable content.now }
     requires prefixes { prefixes.now ≡ content_spaces content.now (facts_of content.now.facts) }
-    ensures { OnOk result (lines.old.items ≡ [] → lines.new.items ≡ canon_lines content.now) }
+    requires facts { facts.items ≡ ordered_lines prefixes.now content.now.facts }
+    ensures { IfOk result (λ ls. ls ≡ canon_lines content.now) }
 {
-    add_head(alloc, prefixes, lines)?;
-    add_references(alloc, content, lines)?;
-    add_facts(alloc, prefixes, content, lines)?;
-    add_last(alloc, lines)?;
-    Ok(())
+    let mut lines = Vec::new(alloc);
+    add_head(alloc, prefixes, &mut lines)?;
+    add_references(alloc, content, &mut lines)?;
+    add_facts(alloc, prefixes, content, facts, &mut lines)?;
+    add_last(alloc, &mut lines)?;
+    Ok(List::of(lines))
 }
 
 /// The lines of a content.
@@ -122,7 +125,21 @@ pub fn all_lines(alloc: Global, content: &Content) -> Result<List<Text>, NoMemor
 {
     let spaces = spaces_in(alloc, content)?;
     let prefixes = Prefixes::of(alloc, spaces)?;
-    let mut lines = Vec::new(alloc);
-    add_all(alloc, &prefixes, content, &mut lines)?;
-    Ok(List::of(lines))
+    let facts = fact_lines(alloc, &prefixes, content.facts.as_slice())?;
+    lines_with(alloc, &prefixes, content, facts)
+}
+
+/// The lines of a content, where those of its facts are these. None of these is made again.
+pub fn all_lines_with(
+    alloc: Global,
+    content: &Content,
+    facts: List<Text>,
+) -> Result<List<Text>, NoMemory>
+    requires writable { IsWritable content.now }
+    requires facts { facts ≡ lines_of_facts content.now }
+    ensures { IfOk result (λ ls. ls ≡ canon_lines content.now) }
+{
+    let spaces = spaces_in(alloc, content)?;
+    let prefixes = Prefixes::of(alloc, spaces)?;
+    lines_with(alloc, &prefixes, content, facts.into_vec())
 }

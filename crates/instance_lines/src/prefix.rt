@@ -25,10 +25,18 @@ const ROOT: &str = "<xbrli:xbrl xmlns:iso4217=\"http://www.xbrl.org/2003/iso4217
 
 /// The prefixes of an instance: those that every instance has, and `n1`, `n2` and so on for its own namespaces. Contracts
 /// see it as its own namespaces, in order.
-#[derive(Drop)]
 pub struct Prefixes<'a> {
     spaces: Vec<&'a str>,
     table: BTreeMap<&'a str, Text>,
+}
+
+impl Drop for Prefixes<'_> {
+    fn drop(self) {
+        let Prefixes {
+            spaces: _,
+            table: _,
+        } = self;
+    }
 }
 
 impl<'a> Model for Prefixes<'a> {

@@ -59,6 +59,33 @@ fn items_of<T: Drop>(alloc: Global, keyed: Vec<Keyed<T>>) -> Result<Vec<T>, NoMe
     Ok(items)
 }
 
+/// The keys, and the things without them.
+fn parts_of<T: Drop>(alloc: Global, keyed: Vec<Keyed<T>>) -> Result<(Vec<Text>, Vec<T>), NoMemory>
+    ensures keys { IfOk result (λ p. p.0.items ≡ map (λ k. k.key) keyed.items) }
+    ensures items { IfOk result (λ p. p.1.items ≡ map (λ k. k.item) keyed.items) }
+{
+    let mut keys = Vec::with_capacity(alloc, keyed.len())?;
+    let mut items = Vec::with_capacity(alloc, keyed.len())?;
+    for one in keyed {
+        let Keyed { key, item } = one;
+        keys.push(key)?;
+        items.push(item)?;
+    }
+    Ok((keys, items))
+}
+
+/// The keys in order, and the things in the order of these. Those with one key keep the order that they have.
+pub fn with_keys<T: Drop>(
+    alloc: Global,
+    mut keyed: Vec<Keyed<T>>,
+) -> Result<(Vec<Text>, Vec<T>), NoMemory>
+    ensures keys { IfOk result (λ p. p.0.items ≡ map (λ k. k.key) (sorted by_key keyed.items)) }
+    ensures items { IfOk result (λ p. p.1.items ≡ map (λ k. k.item) (sorted by_key keyed.items)) }
+{
+    sort_keyed(&mut keyed)?;
+    parts_of(alloc, keyed)
+}
+
 /// The things in the order of their keys. Those with one key keep the order that they have.
 pub fn by_keys<T: Drop>(alloc: Global, mut keyed: Vec<Keyed<T>>) -> Result<Vec<T>, NoMemory>
     ensures { IfOk result (λ v. v.items ≡ map (λ k. k.item) (sorted by_key keyed.items)) }

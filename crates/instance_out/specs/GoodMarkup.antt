@@ -1,6 +1,6 @@
 -- What the parts of a content keep so that their markup is fine (XML 1.0, section 2.2; Namespaces in XML 1.0, sections 2 to 4):
 -- names, allowed characters, depth, and namespaces that prefixes may be bound to.
-use Rattle.std.specs.Prelude.{ℕ, zero, suc, Bool, true, false, ◌&&◌, not, List, [], map, Option, Some, None, bytes_eq}
+use Rattle.std.specs.Prelude.{ℕ, zero, suc, Bool, true, false, ◌&&◌, not, List, [], Option, Some, None, bytes_eq}
 use Rattle.std.specs.List.{list_all}
 use Rattle.ix_base.specs.declared.content.Accuracy.{Accuracy}
 use Rattle.ix_base.specs.declared.content.Accuracy.TheVariants as accuracy

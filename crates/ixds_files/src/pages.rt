@@ -25,7 +25,6 @@ pub trait Opener {
 }
 
 /// Pages that are files, each under its name as a path. It tells nothing of content.
-#[derive(Drop)]
 pub struct FilePages<O: Opener + Drop> {
     opener: O,
     file: Option<O::File>,
@@ -34,6 +33,19 @@ pub struct FilePages<O: Opener + Drop> {
     faults: u64,
     cause: Option<Cause>,
     ghost kept: { asked_len ≤ LONGEST_NAME },
+}
+
+impl<O: Opener + Drop> Drop for FilePages<O> {
+    fn drop(self) {
+        let FilePages {
+            opener: _,
+            file: _,
+            asked: _,
+            asked_len: _,
+            faults: _,
+            cause: _,
+        } = self;
+    }
 }
 
 impl<O: Opener + Drop> FilePages<O> {

@@ -15,7 +15,6 @@ use std::alloc::Global;
 /// Targets that are files: `DIR/instance.xbrl` the default one, and `DIR/instance-T.xbrl` the target T. The directory
 /// must be there. A target is written in a part of its own beside its place, and takes its place when it is finished: an
 /// instance that stands there is whole, before and after. It tells nothing of content.
-#[derive(Drop)]
 pub struct FileTargets<F: Folder + Drop> {
     alloc: Global,
     folder: F,
@@ -24,6 +23,20 @@ pub struct FileTargets<F: Folder + Drop> {
     asked_len: usize,
     faults: u64,
     cause: Option<Cause>,
+}
+
+impl<F: Folder + Drop> Drop for FileTargets<F> {
+    fn drop(self) {
+        let FileTargets {
+            alloc: _,
+            folder: _,
+            part: _,
+            asked: _,
+            asked_len: _,
+            faults: _,
+            cause: _,
+        } = self;
+    }
 }
 
 impl<F: Folder + Drop> FileTargets<F> {

@@ -1,9 +1,15 @@
 -- What is ready of targets.
-use Rattle.std.proofs.Common.{◌≡◌, ◌⊎◌, ◌∙◌, ap, sym, refl, ℕ, ◌+◌, ◌<◌, ◌≤◌, ◌==◌, cond, Bool, true, false, List, [], ◌∷◌, ◌++◌, length, drop, get_or, map, Option, Some, None, Result, Ok, Err, IfOk, inl, inr, option_map, arith}
+use Rattle.std.proofs.Common.{◌≡◌, ◌⊎◌, ◌∙◌, ap, sym, refl, ℕ, ◌+◌, ◌<◌, ◌≤◌, ◌==◌, cond, subst, Bool, true, false, List, [], ◌∷◌, ◌++◌, All, length, drop, get_or, map, Option, Some, None, Result, Ok, Err, IfOk, inl, inr, option_map, arith}
 use Rattle.std.specs.Borrow.{Bor}
 use Rattle.std.specs.List.{concat}
 use Rattle.std.proofs.lemmas.Bool.{ne_eqb}
+use Rattle.std.proofs.lemmas.Iterator.Adapters.{YieldsList-from_vec}
+use Rattle.std.proofs.lemmas.Iterator.Consumers.{YieldsList-turn}
 use Rattle.std.proofs.lemmas.List.{drop_all}
+use Rattle.std.proofs.lemmas.List.Elements.{All-get_or}
+use Rattle.std.specs.declared.vec.IntoIter.{IntoIter}
+use Rattle.std.specs.Iterator.{Yields}
+use Rattle.std.specs.Vec.Iter.{into_iter_items, into_iter_steps}
 use Rattle.ix_base.specs.Forms.{is_empty}
 use Rattle.ix_base.specs.Outside.{Begun}
 use Rattle.ix_base.specs.declared.NoMemory.{NoMemory}
@@ -48,6 +54,13 @@ empty_is (x ∷ xs) = ne_eqb (length (x ∷ xs)) 0 (λ e. let z : length (x ∷ 
 pub ready_is : (xs : List DueTarget) (ts : List Target) → map ready_lines xs ≡ map instance_lines ts → (dir : Option (List ℕ)) → ready_under dir xs ≡ targets_under dir ts
 ready_is xs ts e None = refl
 ready_is xs ts e (Some dir) = ready-under dir xs ∙ ap (map (under dir)) e ∙ sym (whole-under dir ts)
+
+-- what holds of each item of a `Vec` holds of one that a loop takes
+pub one_moved : {A Z : Type 0} {r : Option A} (P : A → Type 0) (s t u : IntoIter A Z) (xs ys : List A) (x : A) → into_iter_items s ≡ xs
+    → Yields into_iter_steps s ys t → r ≡ Some x → into_iter_steps t r u → All P xs → P x
+one_moved {r = r} P s t u xs ys x items taken some next all =
+    let turn = YieldsList-turn (YieldsList-from_vec (into_iter_items s) refl s.rest.ok.0) ys t taken r u x some next in
+    subst P (sym turn.1) (All-get_or P (into_iter_items s) (length ys) x turn.0 (subst (All P) (sym items) all))
 
 -- the targets from this one on: it is the default target, or that stands behind it
 pub default_here : (ts : List DueTarget) (n : ℕ) (t : DueTarget) → n < length ts → t ≡ get_or ts n t → (length t.name == 0) ≡ true

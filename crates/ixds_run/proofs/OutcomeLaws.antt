@@ -27,6 +27,7 @@ use Rattle.target_contents.specs.TargetFacts.{AreFacts, members_read, one_less}
 use Rattle.target_contents.specs.declared.outcome.Outcome.{Outcome}
 use Rattle.target_contents.specs.declared.outcome.Outcome.TheVariants.{Broken, Whole}
 use Rattle.target_contents.specs.declared.outcome.Target.{Target}
+use Rattle.target_contents.proofs.TargetLaws.{same-target}
 use Rattle.page_verdicts.proofs.JudgeLaws.{no_faults}
 use Rattle.command_words.specs.Commands.{dir_of, number_of, pages_of}
 use Rattle.sample_page.specs.Sample.{sample_base}
@@ -142,7 +143,7 @@ module _
         let other : IsContent bases es t.name u.content = subst (λ (n : List ℕ). IsContent bases es n u.content) (sym name) (All-head P u us k) in
         let content = one_content bases es t.name t.content u.content (All-head P t ts h) other in
         let rest = same_targets bases es ts us names (All-tail P t ts h) (All-tail P u us k) in
-        λ i. record { name = name i; content = content i } ∷ rest i
+        λ i. same-target t u name content i ∷ rest i
 
     same_whole : (dir : Option (List ℕ)) (number : Option ℕ) (s : PageSet) (o p : Outcome) → ComesToTargets s o → ComesToTargets s p → due_at dir number o ≡ due_at dir number p
     same_whole dir number s (Broken r) p h k = absurd h

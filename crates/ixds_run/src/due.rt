@@ -3,31 +3,50 @@ ghost use Rattle.std.specs.Prelude.{◌≡◌, ◌<◌, [], List, ℕ, Option, A
 ghost use Rattle.instance_lines.specs.Writable.{IsWritable};
 ghost use Rattle.ixds_run.specs.DueOutcomes.{instance_lines, default_len, due_of, text_of};
 ghost use Rattle.ixds_run.specs.DueTables.{ready_lines, outcome_of, status_of};
+ghost use Rattle.page_verdicts.specs.Texts.{summary_of};
 ghost use Rattle.page_verdicts.specs.Verdicts.{AreWritable};
 ghost use Rattle.page_verdicts.specs.declared.verdict.Verdict.TheVariants.{Extracted, Printed, Reported};
+ghost use Rattle.target_contents.specs.declared.outcome.Target.{Target as TargetOf};
 
 use crate::Status;
 use crate::report::lines_of;
 use crate::summary::summary;
-use instance_out::{Prepared, prepare};
-use ix_base::{NoMemory, Report, Text};
+use instance_out::{Prepared, prepare_with_lines};
+use ix_base::{List, NoMemory, Report, Text};
 use page_verdicts::{Verdict, sample_text};
 use std::alloc::Global;
 use targets::Target;
 
 /// A target that is ready to be written.
-#[derive(Drop)]
 pub struct DueTarget {
     pub name: Text,
     pub prepared: Prepared,
 }
 
+impl Drop for DueTarget {
+    fn drop(self) {
+        let DueTarget {
+            name: _,
+            prepared: _,
+        } = self;
+    }
+}
+
 /// What is due: the targets, and then the text.
-#[derive(Drop)]
 pub struct Due {
     pub is_broken: bool,
     pub targets: Vec<DueTarget>,
     pub text: Text,
+}
+
+impl Drop for Due {
+    fn drop(self) {
+        let Due {
+            is_broken: _,
+            targets: _,
+            text: _,
+        } = self;
+    }
 }
 
 impl Due {
@@ -43,16 +62,25 @@ impl Due {
     }
 }
 
-/// Targets, ready to be written.
-fn prepared(alloc: Global, targets: &[Target]) -> Result<Vec<DueTarget>, NoMemory>
-    requires { All (λ t. IsWritable t.content) targets.now }
-    ensures { IfOk result (λ v. map ready_lines v.items ≡ map instance_lines targets.now) }
+/// A target, ready to be written, with the lines of its facts that it keeps.
+fn due_target(alloc: Global, target: Target) -> Result<DueTarget, NoMemory>
+    requires { IsWritable target.content }
+    ensures { IfOk result (λ due. ready_lines due ≡ instance_lines target) }
+{
+    let (name, content, lines) = target.into_parts();
+    let prepared = prepare_with_lines(alloc, &content, lines)?;
+    Ok(DueTarget { name, prepared })
+}
+
+/// Targets, ready to be written. What each holds is given up before the next is made ready.
+fn prepared(alloc: Global, targets: List<Target>) -> Result<Vec<DueTarget>, NoMemory>
+    requires { All (λ t. IsWritable t.content) targets }
+    ensures { IfOk result (λ v. map ready_lines v.items ≡ map instance_lines targets) }
 {
     let mut ready = Vec::new(alloc);
-    for target in targets {
-        let prepared = prepare(alloc, &target.content)?;
-        let name = Text::of(alloc, target.name.as_str())?;
-        ready.push(DueTarget { name, prepared })?;
+    for target in targets.into_vec() {
+        let due = due_target(alloc, target)?;
+        ready.push(due)?;
     }
     Ok(ready)
 }
@@ -69,17 +97,16 @@ fn default_len(targets: &[DueTarget]) -> u64
     0
 }
 
-/// What is told of targets, with the number of a sample.
+/// What is told of targets that have this summary and are ready, with the number of a sample.
 fn text_of(
     alloc: Global,
-    targets: &[Target],
+    summary: Text,
     ready: &[DueTarget],
     number: Option<u32>,
 ) -> Result<Text, NoMemory>
-    requires { map ready_lines ready.now ≡ map instance_lines targets.now }
-    ensures { IfOk result (λ t. t ≡ text_of number targets.now) }
+    ensures { (ts : List TargetOf) → summary ≡ summary_of ts → map ready_lines ready.now ≡ map instance_lines ts
+        → IfOk result (λ t. t ≡ text_of number ts) }
 {
-    let summary = summary(alloc, targets)?;
     match number {
         None => Ok(summary),
         Some(number) => {
@@ -90,13 +117,18 @@ fn text_of(
 }
 
 /// What is due of targets.
-fn due_of_targets(alloc: Global, targets: &[Target], number: Option<u32>) -> Result<Due, NoMemory>
-    requires { All (λ t. IsWritable t.content) targets.now }
-    ensures due { IfOk result (λ due. (dir : Option (List ℕ)) → outcome_of dir due ≡ due_of dir number (Extracted targets.now)) }
+fn due_of_targets(
+    alloc: Global,
+    targets: List<Target>,
+    number: Option<u32>,
+) -> Result<Due, NoMemory>
+    requires { All (λ t. IsWritable t.content) targets }
+    ensures due { IfOk result (λ due. (dir : Option (List ℕ)) → outcome_of dir due ≡ due_of dir number (Extracted targets)) }
     ensures whole { IfOk result (λ due. due.is_broken ≡ false) }
 {
+    let told = summary(alloc, targets.as_slice())?;
     let ready = prepared(alloc, targets)?;
-    let text = text_of(alloc, targets, ready.as_slice(), number)?;
+    let text = text_of(alloc, told, ready.as_slice(), number)?;
     Ok(Due {
         is_broken: false,
         targets: ready,
@@ -137,7 +169,7 @@ pub fn ready(alloc: Global, verdict: Verdict, number: Option<u32>) -> Result<Due
 {
     match verdict {
         Verdict::Reported(report) => due_of_report(alloc, &report),
-        Verdict::Extracted(targets) => due_of_targets(alloc, targets.as_slice(), number),
+        Verdict::Extracted(targets) => due_of_targets(alloc, targets, number),
         Verdict::Printed(text) => Ok(due_of_text(alloc, text)),
     }
 }

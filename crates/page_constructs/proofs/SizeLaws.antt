@@ -1,10 +1,10 @@
 -- How the code that finds a construct's end meets its definition.
-use Rattle.std.proofs.Common.{◌≡◌, ◌≢◌, ℕ, suc, ◌+◌, ◌<◌, ◌≤◌, ◌==◌, Bool, true, false, ◌&&◌, ◌||◌, if◌then◌else◌, List, [], ◌∷◌, ◌++◌, zero, length, take, drop, Option, Some, None, option_map, is_none, refl, sym, ap, ◌∙◌, subst, arith, rules, bytes_eq, get_or, drop-cons, add-one, append_assoc, append-nil, length-append, length-drop, codes, ⊎_elim}
+use Rattle.std.proofs.Common.{◌≡◌, ◌≢◌, ℕ, suc, ◌+◌, ◌<◌, ◌≤◌, ◌==◌, Bool, true, false, ◌&&◌, ◌||◌, if◌then◌else◌, List, [], ◌∷◌, ◌++◌, zero, length, take, drop, Option, Some, None, option_map, is_none, refl, sym, ap, ◌∙◌, subst, arith, rules, bytes_eq, get_or, drop-cons, add-one, append_assoc, append-nil, length-append, length-drop, codes, ⊎_elim, inl, inr}
 use Rattle.std.proofs.lemmas.Bool.{and_parts, cases_lt, not-true}
 use Rattle.std.proofs.lemmas.List.{get_or_append_left, drop-append-le}
 use Rattle.std.proofs.Math.ListN.{drop_of_length-le}
 use Rattle.std.specs.List.{list_all}
-use Rattle.page_constructs.specs.Stops.{is_text}
+use Rattle.page_constructs.specs.Stops.{is_text, is_plain, flipped, flips, double}
 use Rattle.page_constructs.specs.Constructs.{starts, starts_white, after, after_tag, text_size, kind_of, with_front, size_by, size}
 use Rattle.page_constructs.specs.Searches.{seek, skipped, further, GoesOn, IsSought}
 use Rattle.page_constructs.specs.declared.kind.Kind.{Kind}
@@ -12,7 +12,7 @@ use Rattle.page_constructs.specs.declared.kind.Kind.TheVariants.{Declaration, In
 use Rattle.page_constructs.specs.declared.size.Sought.{Sought}
 use Rattle.std.proofs.lemmas.Bool.Decides.{Decides-eqb}
 use Rattle.page_constructs.proofs.CutLaws.{starts-append, after-length}
-use Rattle.page_constructs.proofs.SpanLaws.{one_number}
+use Rattle.page_constructs.proofs.SpanLaws.{one_number, same_or, or_left, or_right}
 
 pub starts_bytes : (p t : List ℕ) → starts p t ≡ bytes_eq (take (length p) t) p
 starts_bytes [] t = refl
@@ -53,6 +53,33 @@ past-text (suc n) t i h a =
     let rest = past-text n t (i + 1) (omega arith) parts.1 in
     let place : i + 1 + n ≡ i + suc n = omega arith in
     λ more. on more ∙ rest more ∙ ap (λ k. further k (text_size (drop k (t ++ more)))) place
+
+-- a byte of a tag that isn't `>` or `'`
+plain-byte : (inside : Bool) (b : ℕ) → (b == 62 || b == 39) ≡ false → (cs : List ℕ) → after_tag (double inside) (b ∷ cs) ≡ option_map suc (after_tag (double (flipped inside b)) cs)
+plain-byte true b e cs = elim (b == 34) as (λ x. option_map suc (if x then after_tag None cs else after_tag (Some 34) cs) ≡ option_map suc (after_tag (double (if x then false else true)) cs)) [ true ↦ refl | false ↦ refl ]
+plain-byte false b e cs = elim (same_or b 34) as (λ x. after_tag None (b ∷ cs) ≡ option_map suc (after_tag (double (flipped false b)) cs)) [
+  | inl same ↦ subst (λ x. after_tag None (x ∷ cs) ≡ option_map suc (after_tag (double (flipped false x)) cs)) (sym same) refl
+  | inr n ↦ rw (or_left (b == 62) (b == 39) e, n, or_right (b == 62) (b == 39) e) refl
+]
+
+-- a tag goes on through such bytes
+pub past-tag : (n : ℕ) (t : List ℕ) (i : ℕ) (inside : Bool) → i + n ≤ length t → list_all is_plain (take n (drop i t)) ≡ true
+    → GoesOn (after_tag (double inside)) i (after_tag (double (flips inside (take n (drop i t))))) (i + n) t
+past-tag zero t i inside h a = λ more. let same : i ≡ i + 0 = omega arith in ap (λ k. further k (after_tag (double inside) (drop k (t ++ more)))) same
+past-tag (suc n) t i inside h a =
+    let b = get_or t i 0 in
+    let left = drop (i + 1) t in
+    let next = flipped inside b in
+    let d : drop i t ≡ b ∷ left = drop-next t i (omega arith) in
+    let both : (is_plain b && list_all is_plain (take n left)) ≡ true = rw d at a in
+    let parts = and_parts (is_plain b) (list_all is_plain (take n left)) both in
+    let other = not-true (b == 62 || b == 39) parts.0 in
+    let on = past-byte (after_tag (double inside)) (after_tag (double next)) t i (omega arith) (λ cs. plain-byte inside b other cs) in
+    let rest = past-tag n t (i + 1) next (omega arith) parts.1 in
+    let place : i + 1 + n ≡ i + suc n = omega arith in
+    let whole : flips inside (take (suc n) (drop i t)) ≡ flips next (take n left) = ap (λ x. flips inside (take (suc n) x)) d in
+    λ more. on more ∙ rest more ∙ ap (λ k. further k (after_tag (double (flips next (take n left))) (drop k (t ++ more)))) place
+    ∙ ap (λ q. further (i + suc n) (after_tag (double q) (drop (i + suc n) (t ++ more)))) (sym whole)
 
 -- it ends at a byte
 pub at-byte : (f : List ℕ → Option ℕ) (t : List ℕ) (i k : ℕ) → i < length t → ((cs : List ℕ) → f (get_or t i 0 ∷ cs) ≡ Some k) → further i (f (drop i t)) ≡ Some (i + k)

@@ -142,7 +142,7 @@ pub name-none : (name : List ℕ) → is_qname name ≡ true → NoneStops ends_
 unfolding is_name_byte Rattle.ix_base.specs.NcName.is_name_char Rattle.ix_base.specs.NcName.is_name_start
 name-none name h = none-all ends_name is_qname_byte (λ c k. rw (name-not-white c k, name-not 61 c refl k) refl) name (qname-bytes name h)
 
-tag-name-none : (name : List ℕ) → is_qname name ≡ true → NoneStops ends_tag_name name
+pub tag-name-none : (name : List ℕ) → is_qname name ≡ true → NoneStops ends_tag_name name
 unfolding is_name_byte Rattle.ix_base.specs.NcName.is_name_char Rattle.ix_base.specs.NcName.is_name_start
 tag-name-none name h = none-all ends_tag_name is_qname_byte (λ c k. rw (name-not-white c k, name-not 47 c refl k) refl) name (qname-bytes name h)
 

@@ -3,14 +3,16 @@ use Rattle.std.proofs.Common.{◌≡◌, ◌≢◌, ℕ, suc, zero, ◌+◌, ◌
 use Rattle.std.proofs.lemmas.Bool.{lt-ltb}
 use Rattle.std.proofs.lemmas.Bool.Decides.{nat_tests}
 use Rattle.ix_base.specs.Scope.{is_qname}
-use Rattle.page_constructs.specs.Meanings.{◌>>=◌, is_dark, behind_white, is_white_text, equalled, slash, attribute_at, attributes_in, before, from, ends_name, ends_tag_name, tag, start_tag, behind_front, part_at}
+use Rattle.page_constructs.specs.Meanings.{◌>>=◌, is_dark, behind_white, is_white_text, equalled, slash, attribute_at, attributes_in, before, from, ends_name, ends_tag_name, tag, start_tag, end_tag, behind_front, part_at}
 use Rattle.page_constructs.specs.Forms.{has}
-use Rattle.page_constructs.specs.Tokens.{Attribute}
+use Rattle.page_constructs.specs.Tokens.{Attribute, close}
+use Rattle.ix_base.specs.NcName.{is_white}
 use Rattle.page_constructs.proofs.Parting.{from-short}
 use Rattle.page_constructs.specs.Constructs.{starts}
 use Rattle.page_constructs.proofs.BoolLaws.{and_left}
-use Rattle.page_constructs.proofs.SpanLaws.{Stops, before-span, from-span, either, one_number, starts-front}
-use Rattle.page_constructs.proofs.TagForms.{equal-out, name-none}
+use Rattle.page_constructs.proofs.SpanLaws.{Stops, before-span, from-span, either, none-all, one_number, starts-front}
+use Rattle.page_constructs.proofs.NameBytes.{is_qname_byte, qname-bytes, name-not-white}
+use Rattle.page_constructs.proofs.TagForms.{equal-out, name-none, tag-name-none, behind-is}
 
 -- what is behind a quoted value
 pub equalled-short : (text : List ℕ) (p : List ℕ × List ℕ) → Some p ≡ equalled text → length p.1 ≤ length text
@@ -36,6 +38,31 @@ name-known name text rest q b e =
       equal-stops : (rest : List ℕ) → starts (61 ∷ []) rest ≡ true → Stops ends_name rest
       equal-stops [] e = absurd (cc)
       equal-stops (c ∷ rest) e = let same : c ≡ 61 = one_number c 61 (and_left (c == 61) true e) in rw same refl
+
+-- what no tag's name stands in front of
+none-before : (rest : List ℕ) → before ends_tag_name rest ≡ [] → Stops ends_tag_name rest
+none-before [] e = tt
+none-before (c ∷ rest) e = elim (either (ends_tag_name c)) as (λ x. Stops ends_tag_name (c ∷ rest)) [
+  | inl y ↦ y
+  | inr n ↦ let z : c ∷ before ends_tag_name rest ≡ [] = rw n at e in absurd (cc)
+]
+
+-- a qualified name at the front of a tag, and what may follow it
+pub tag-name-known : (name text rest : List ℕ) → is_qname name ≡ true → Some rest ≡ behind_front name text → before ends_tag_name rest ≡ []
+    → (name ≡ before ends_tag_name text) × (rest ≡ from ends_tag_name text)
+tag-name-known name text rest q b e =
+    let splits = behind-is name text rest (sym b) in
+    let free = tag-name-none name q in
+    let ends = none-before rest e in
+    (sym (ap (before ends_tag_name) splits ∙ before-span ends_tag_name name rest free ends), sym (ap (from ends_tag_name) splits ∙ from-span ends_tag_name name rest free ends))
+
+-- a qualified name alone in an end tag
+pub closed_name : (name : List ℕ) → is_qname name ≡ true → Some (close name) ≡ end_tag name
+closed_name name q =
+    let free = none-all is_white is_qname_byte (λ c k. name-not-white c k) name (qname-bytes name q) in
+    let front : before is_white name ≡ name = ap (before is_white) (sym (append-nil name)) ∙ before-span is_white name [] free tt in
+    let back : from is_white name ≡ [] = ap (from is_white) (sym (append-nil name)) ∙ from-span is_white name [] free tt in
+    rw (front, q, back) refl
 
 -- no attribute
 module _ (text name rest : List ℕ) (b : before ends_name text ≡ name) (f : from ends_name text ≡ rest) (n : is_qname name ≡ true) where

@@ -1,5 +1,5 @@
 -- What ends a span of a text.
-use Rattle.std.specs.Prelude.{ℕ, ◌==◌, Bool, false, ◌||◌, not, List, [], ◌∷◌}
+use Rattle.std.specs.Prelude.{ℕ, ◌==◌, Bool, true, false, ◌||◌, not, List, [], ◌∷◌, Option, Some, None, if◌then◌else◌}
 use Rattle.ix_base.specs.NcName.{is_white}
 use Rattle.page_constructs.specs.Meanings.{is_dark, ends_name, ends_tag_name}
 use Rattle.page_constructs.specs.declared.meaning.span.Stop.{Stop}
@@ -16,6 +16,23 @@ begins_special (c ∷ cs) = is_special c
 -- a byte that doesn't end a text between tags
 abbrev pub is_text : ℕ → Bool
 is_text c = not (c == 60 || c == 38)
+
+-- a byte of a tag that isn't `>` or `'`
+abbrev pub is_plain : ℕ → Bool
+is_plain c = not (c == 62 || c == 39)
+
+-- whether a `"` is open behind a byte, and behind some bytes
+abbrev pub flipped : Bool → ℕ → Bool
+flipped inside c = if c == 34 then not inside else inside
+
+abbrev pub flips : Bool → List ℕ → Bool
+flips inside [] = inside
+flips inside (c ∷ cs) = flips (flipped inside c) cs
+
+-- the quote that is open
+abbrev pub double : Bool → Option ℕ
+double true = Some 34
+double false = None
 
 -- what ends a value in double quotes whose bytes mean themselves
 abbrev pub is_odd : ℕ → Bool

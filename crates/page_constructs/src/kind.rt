@@ -108,6 +108,7 @@ fn instructed_kind(first: bool, text: &[u8]) -> Kind
 }
 
 /// What the first construct is. `first` says whether it is the page's first.
+#[inline(always)]
 #[tactic(auto, unfolding(crate::specs::Constructs::kind_of))]
 pub fn kind_of(first: bool, text: &[u8]) -> Kind
     ensures { result ≡ kind_of_spec first text.now }

@@ -1,6 +1,7 @@
 //! What tags are read into.
-ghost use Rattle.std.specs.Prelude.{◌≡◌, ◌<◌, [], IfSome, length};
-ghost use Rattle.page_constructs.specs.Meanings.{before, from, ends_name};
+ghost use Rattle.std.specs.Prelude.{◌≡◌, ◌<◌, [], true, IfSome, length};
+ghost use Rattle.ix_base.specs.Scope.{is_qname as is_qname_of};
+ghost use Rattle.page_constructs.specs.Meanings.{before, from, ends_name, ends_tag_name};
 
 use crate::kind::starts;
 use crate::meaning::behind_front;
@@ -13,11 +14,23 @@ use std::alloc::Global;
 const MOST_NAMES: usize = 16;
 
 /// Names that were read, which later ones may be. Most come again in the order in which they came, tag after tag: so one is looked for
-/// behind the one that was found last, and then from the first on.
-#[derive(Drop)]
+/// behind the one that was found last, and then from the first on. The name of a tag is often that of the tag before it, and is compared
+/// with that one first.
 pub struct Names<'a> {
     known: Vec<Written<'a>>,
     next: usize,
+    /// The place of the last tag's name.
+    tag: usize,
+}
+
+impl Drop for Names<'_> {
+    fn drop(self) {
+        let Names {
+            known: _,
+            next: _,
+            tag: _,
+        } = self;
+    }
 }
 
 impl<'a> Names<'a> {
@@ -28,6 +41,7 @@ impl<'a> Names<'a> {
         Names {
             known: Vec::new(alloc),
             next: 0,
+            tag: 0,
         }
     }
 
@@ -56,6 +70,47 @@ impl<'a> Names<'a> {
         }
         self.next += 1;
         Some((known, rest))
+    }
+
+    /// The name of a tag at the front, and what is behind it, where that is the name at a place.
+    fn tag_at<'t>(&mut self, place: usize, text: &'t str) -> Option<(Written<'a>, &'t str)>
+        ensures name { IfSome result (λ p. p.0.name.now ≡ before ends_tag_name text.now) }
+        ensures rest { IfSome result (λ p. p.1.now ≡ from ends_tag_name text.now) }
+    {
+        let known = *self.known.get(place)?;
+        let rest = behind_front(known.name, text)?;
+        if !may_follow(rest.as_bytes()) {
+            return None;
+        }
+        self.tag = place;
+        self.next = place + 1;
+        Some((known, rest))
+    }
+
+    /// The same, where that is the name of the last tag, or the one which came behind the name that was found last.
+    pub(crate) fn expected_tag<'t>(&mut self, text: &'t str) -> Option<(Written<'a>, &'t str)>
+        ensures name { IfSome result (λ p. p.0.name.now ≡ before ends_tag_name text.now) }
+        ensures rest { IfSome result (λ p. p.1.now ≡ from ends_tag_name text.now) }
+    {
+        if let Some(same) = self.tag_at(self.tag, text) {
+            return Some(same);
+        }
+        self.tag_at(self.next, text)
+    }
+
+    /// Whether a text is the name of the last tag.
+    pub(crate) fn is_last_tag(&self, text: &str) -> bool
+        ensures { result ≡ true → is_qname_of text.now ≡ true }
+    {
+        match self.known.get(self.tag) {
+            Some(known) => known.name == text,
+            None => false,
+        }
+    }
+
+    /// The name that was found or remembered last is that of a tag.
+    pub(crate) fn note_tag(&mut self) {
+        self.tag = self.next.saturating_sub(1);
     }
 
     /// The same name, where it is remembered.
@@ -88,11 +143,26 @@ impl<'a> Names<'a> {
     }
 }
 
+/// Whether a tag's name may end in front of this: most do before a space or the end.
+fn may_follow(rest: &[u8]) -> bool
+    ensures { result ≡ true → before ends_tag_name rest.now ≡ [] }
+{
+    match rest.first() {
+        Some(byte) => *byte == b' ',
+        None => true,
+    }
+}
+
 /// What a tag is read into, and each later one again: the list of its attributes, and names that were read.
-#[derive(Drop)]
 pub struct TagRoom<'a> {
     pub(crate) attrs: Vec<Attribute<'a>>,
     pub(crate) names: Names<'a>,
+}
+
+impl Drop for TagRoom<'_> {
+    fn drop(self) {
+        let TagRoom { attrs: _, names: _ } = self;
+    }
 }
 
 impl<'a> TagRoom<'a> {

@@ -3,9 +3,11 @@ ghost use Rattle.std.specs.Prelude.{◌≡◌, ◌∷◌, [], ◌==◌, ◌||◌
 ghost use Rattle.page_constructs.specs.Constructs.{after as after_of, after_tag as after_tag_of, kind_of as kind_of_spec, size as size_of, size_by as size_by_spec, is_run as is_run_of, whole_size as whole_size_of};
 ghost use Rattle.page_constructs.specs.Searches.{seek as seek_of, skipped, further, found, GoesOn, IsSought};
 
+mod parts;
 mod run;
 
 use crate::kind::{Kind, behind_first, kind_of, starts};
+use parts::behind_parts;
 use run::{reference_size, text_size};
 
 /// How far the end of a construct was looked for: behind so many of its bytes, where this quote is open. At 0 it wasn't
@@ -121,7 +123,7 @@ fn next_outside(text: &[u8], from: usize) -> usize
     at
 }
 
-/// The place of the first such byte, from a place on, or the text's end. Most bytes of a tag are passed here.
+/// The place of the first such byte, from a place on, or the text's end.
 fn next_turn(text: &[u8], from: usize, quote: Option<u8>) -> usize
     ensures on { from ≤ result }
     ensures goes { GoesOn (after_tag_of quote) from (after_tag_of quote) result text.now }
@@ -132,6 +134,16 @@ fn next_turn(text: &[u8], from: usize, quote: Option<u8>) -> usize
     }
 }
 
+/// How far a tag goes on, from a place on: most of it, where it is long.
+fn behind_most(text: &[u8], from: Sought) -> Sought
+    ensures { GoesOn (after_tag_of from.quote) from.at (after_tag_of result.quote) result.at text.now }
+{
+    match from.quote {
+        Some(_) => from,
+        None => behind_parts(text, from.at),
+    }
+}
+
 /// Where the first `>` outside quotes ends, from a place on.
 fn after_tag(text: &[u8], from: Sought) -> End
     ensures value { found result ≡ further from.at (after_tag_of from.quote (drop from.at text.now)) }
@@ -139,8 +151,9 @@ fn after_tag(text: &[u8], from: Sought) -> End
     ensures goes { (s : _) → result ≡ End.Beyond s
         → GoesOn (after_tag_of from.quote) from.at (after_tag_of s.quote) s.at text.now }
 {
-    let mut at = from.at;
-    let mut quote = from.quote;
+    let near = behind_most(text, from);
+    let mut at = near.at;
+    let mut quote = near.quote;
     'bytes: while at < text.len() {
         if ends_tag(quote, text[at]) {
             return End::At(at + 1);
@@ -222,6 +235,7 @@ fn is_run(text: &[u8]) -> bool
 
 /// Where the first construct of a page's rest ends. `ended` says that the page's characters end well, and `sought` how far
 /// the end was looked for before.
+#[inline(always)]
 pub fn whole_size(ended: bool, first: bool, text: &[u8], sought: Sought) -> End
     requires { IsSought first text.now sought }
     ensures value { found result ≡ whole_size_of ended first text.now }

@@ -29,12 +29,22 @@ use std::alloc::Global;
 use text_map::TextMap;
 
 /// The links of the elements so far: the ids and the tuple ids that were met, and how many links are pending and doubled.
-#[derive(Drop)]
 pub struct Links<'a> {
     ids: Names<'a>,
     tuple_ids: Names<'a>,
     pending: u64,
     doubled: u64,
+}
+
+impl Drop for Links<'_> {
+    fn drop(self) {
+        let Links {
+            ids: _,
+            tuple_ids: _,
+            pending: _,
+            doubled: _,
+        } = self;
+    }
 }
 
 impl<'a> Links<'a> {

@@ -19,10 +19,15 @@ pub enum Held<'a> {
 }
 
 /// A page that is kept.
-#[derive(Drop)]
 pub struct Kept<'a> {
     pub name: Text,
     pub held: Held<'a>,
+}
+
+impl Drop for Kept<'_> {
+    fn drop(self) {
+        let Kept { name: _, held: _ } = self;
+    }
 }
 
 /// The index of the page of this name, or the number of pages.

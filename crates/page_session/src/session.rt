@@ -15,7 +15,6 @@ use targets::Outcome;
 
 /// A session over pages that change one at a time. Of each page that is there it keeps its tree or its break, in the arena. Trees of
 /// pages that were replaced or taken away stay there until the arena ends, and so what is put is limited.
-#[derive(Drop)]
 pub struct Session<'a> {
     alloc: Global,
     arena: &'a Bump,
@@ -25,6 +24,18 @@ pub struct Session<'a> {
     ghost few: { vec_len kept ≤ MOST_PAGES },
     ghost within: { may_hold sums.bytes sums.tags ≡ true },
     ghost tags: { sums.tags ≤ sums.bytes },
+}
+
+impl Drop for Session<'_> {
+    fn drop(self) {
+        let Session {
+            alloc: _,
+            arena: _,
+            base: _,
+            kept: _,
+            sums: _,
+        } = self;
+    }
 }
 
 impl<'a> Session<'a> {

@@ -29,8 +29,8 @@ expanded_in scope name =
     if bytes_eq name (codes "xmlns") || bytes_eq (prefix_of name) (codes "xmlns") then None
     else Some (attribute_name scope name, prefix_in scope name)
 
-abbrev pub named_prefix : Name × PrefixState → Named × PrefixState
-named_prefix p = (named p.0, p.1)
+abbrev pub kept_prefix : Bor Name × PrefixState → Named × PrefixState
+kept_prefix p = (named p.0.now, p.1)
 
 -- what an attribute stands for that is no declaration
 abbrev pub expansion_of : List Bound → Attribute → Option Expansion

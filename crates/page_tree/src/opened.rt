@@ -20,6 +20,7 @@ pub(crate) struct Open<'a> {
 }
 
 /// The pending text becomes a child.
+#[inline(never)]
 fn flush_text<'a>(
     arena: &'a Bump,
     text: &mut String,
@@ -59,7 +60,8 @@ fn push_element<'a>(children: &mut Vec<Node<'a>>, element: &'a Element<'a>) -> R
 impl<'a> Open<'a> {
     ghost use Rattle.page_tree.specs.Stacks.{frame, pages_open, spaces_open};
 
-    /// The pending text becomes a child.
+    /// The pending text becomes a child. Behind most tags there is none.
+    #[inline(always)]
     pub(crate) fn flush(&mut self, arena: &'a Bump, text: &mut String) -> Result<(), NoMemory>
         ensures frame { OnOk result (frame self.new
             ≡ record (frame self.old) { done = flush (frame self.old).done (string_bytes text.old) }) }
@@ -67,6 +69,9 @@ impl<'a> Open<'a> {
         ensures pages { OnOk result (pages_open self.new ≡ pages_open self.old) }
         ensures spaces { OnOk result (spaces_open self.new ≡ spaces_open self.old) }
     {
+        if text.is_empty() {
+            return Ok(());
+        }
         flush_text(arena, text, &mut self.children)
     }
 

@@ -44,7 +44,6 @@ fn first_offset(start: u64, len: usize, next: u64) -> u64
 }
 
 /// A text of the page that isn't built in yet.
-#[derive(Drop)]
 pub(crate) struct Pending {
     pub text: String,
     pub places: Places,
@@ -56,6 +55,17 @@ pub(crate) struct Pending {
     ghost fits: { places.base + length (string_bytes text) < 2 ^ 64 + places.even },
     ghost unsettled: { size is_first (take places.even (string_bytes text)) ≡ None },
     ghost searched: { IsSought is_first (string_bytes text) sought },
+}
+
+impl Drop for Pending {
+    fn drop(self) {
+        let Pending {
+            text: _,
+            places: _,
+            is_first: _,
+            sought: _,
+        } = self;
+    }
 }
 
 impl Pending {

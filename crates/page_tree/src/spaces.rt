@@ -10,11 +10,19 @@ use text_map::TextMap;
 
 /// The namespaces that were declared on a page so far, with their numbers. The number of none is 0, and that of xml 1, without being
 /// listed.
-#[derive(Drop)]
 pub(crate) struct Spaces<'a> {
     pub numbers: TextMap<'a, usize>,
     next: usize,
     ghost apart: { AreApart numbers next },
+}
+
+impl Drop for Spaces<'_> {
+    fn drop(self) {
+        let Spaces {
+            numbers: _,
+            next: _,
+        } = self;
+    }
 }
 
 impl<'a> Spaces<'a> {

@@ -21,6 +21,7 @@ use page_constructs::Tag;
 use std::alloc::Global;
 
 /// The pending text becomes a child of the innermost open element.
+#[inline(always)]
 pub(crate) fn flush_innermost<'a>(
     arena: &'a Bump,
     elements: &mut Vec<Open<'a>>,

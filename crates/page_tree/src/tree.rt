@@ -12,7 +12,8 @@ ghost use Rattle.page_tree.specs.Stacks.{frame, frames_of, pages_open, spaces_op
 ghost use Rattle.page_tree.specs.Tags.{head_of, scope_of as scope_under_tag};
 ghost use Rattle.page_constructs.specs.Model.{tag_of};
 
-use crate::names::{ElementName, Expanded, element_name, expand, judge_names};
+use crate::judging::judge_names;
+use crate::names::{ElementName, Expanded, element_name, expand};
 use crate::opened::Open;
 use crate::refusal::Refusal;
 use crate::scope::scope_of;
@@ -28,7 +29,6 @@ use std::alloc::Global;
 
 /// What is built of the constructs so far: the open elements, the innermost last, the text since the last tag, the root
 /// once it is whole, and whether a doctype was there.
-#[derive(Drop)]
 pub(crate) struct Building<'a> {
     pub elements: Vec<Open<'a>>,
     pub text: String,
@@ -41,6 +41,21 @@ pub(crate) struct Building<'a> {
     pub shared: Shared<'a>,
     /// Lists of children that ended elements are done with, and the next ones use.
     pub spare: Vec<Vec<Node<'a>>>,
+}
+
+impl Drop for Building<'_> {
+    fn drop(self) {
+        let Building {
+            elements: _,
+            text: _,
+            root: _,
+            doctyped: _,
+            spaces: _,
+            expanded: _,
+            shared: _,
+            spare: _,
+        } = self;
+    }
 }
 
 impl<'a> Building<'a> {
@@ -249,6 +264,7 @@ impl<'a> Building<'a> {
     }
 
     /// The name of a tag's element and its scope. The lowest rule that the tag breaks is an error. Its attributes are expanded.
+    #[inline(always)]
     pub(crate) fn judge(
         &mut self,
         setting: &Setting<'a>,

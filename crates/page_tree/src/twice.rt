@@ -15,12 +15,27 @@ use std::collections::BTreeSet;
 /// How many attributes are compared each with each. More are put in order.
 const FEW: usize = 8;
 
+/// Whether two texts of one length are one. It is no part of a loop over names, most of which differ in their lengths.
+#[inline(never)]
+fn are_equal(a: &str, b: &str) -> bool
+    ensures { result ≡ bytes_eq a.now b.now }
+{
+    a == b
+}
+
+/// Whether two names are one. The lengths come first.
+fn is_one(a: &str, b: &str) -> bool
+    ensures { result ≡ bytes_eq a.now b.now }
+{
+    a.len() == b.len() && are_equal(a, b)
+}
+
 /// Whether an attribute of this written name is among some.
 fn is_among(name: &str, attrs: &[Attribute<'_>]) -> bool
     ensures { result ≡ list_any (bytes_eq name.now) (map (λ a. a.name.name.now) attrs.now) }
 {
     for attr in attrs {
-        if name == attr.name.name {
+        if is_one(name, attr.name.name) {
             return true;
         }
     }
@@ -42,6 +57,7 @@ fn repeats_among_few(attrs: &[Attribute<'_>]) -> bool
 }
 
 /// Whether two of many attributes have one written name.
+#[inline(never)]
 fn repeats_among_many(alloc: Global, attrs: &[Attribute<'_>]) -> Result<bool, NoMemory>
     ensures { IfOk result (λ r. r ≡ repeats_by bytes_eq (map (λ a. a.name.name.now) attrs.now)) }
 {

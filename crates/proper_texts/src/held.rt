@@ -22,7 +22,6 @@ struct InFacts<'a> {
 }
 
 /// What a content holds, each as often as it stands.
-#[derive(Drop)]
 pub struct Held<'a> {
     pub items: Vec<&'a Item>,
     /// The ids of items and tuples.
@@ -32,6 +31,19 @@ pub struct Held<'a> {
     pub names: Vec<&'a OwnName>,
     pub notes: Vec<&'a Footnote>,
     pub arcs: Vec<&'a Arc>,
+}
+
+impl Drop for Held<'_> {
+    fn drop(self) {
+        let Held {
+            items: _,
+            ids: _,
+            fact_names: _,
+            names: _,
+            notes: _,
+            arcs: _,
+        } = self;
+    }
 }
 
 /// Adds an id, if there is one.

@@ -48,14 +48,18 @@ impl Calls {
 }
 
 /// How the text of a page ends.
-#[derive(Drop)]
 pub struct End {
     pub page: String,
     pub text: Vec<u8>,
 }
 
+impl Drop for End {
+    fn drop(self) {
+        let End { page: _, text: _ } = self;
+    }
+}
+
 /// What is due of a row, as far as the row says it.
-#[derive(Drop)]
 pub struct Due {
     pub command: Option<String>,
     pub ends: Vec<End>,
@@ -63,6 +67,19 @@ pub struct Due {
     pub text: Option<Vec<u8>>,
     pub calls: Option<Calls>,
     pub target: Option<Target>,
+}
+
+impl Drop for Due {
+    fn drop(self) {
+        let Due {
+            command: _,
+            ends: _,
+            status: _,
+            text: _,
+            calls: _,
+            target: _,
+        } = self;
+    }
 }
 
 impl Due {

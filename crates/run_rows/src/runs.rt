@@ -19,12 +19,22 @@ const MOST: usize = 4;
 const ROOM: usize = 4_000;
 
 /// What there is after a run.
-#[derive(Drop)]
 struct Ended {
     status: Status,
     sink: MemTargets,
     out: MemText,
     calls: Calls,
+}
+
+impl Drop for Ended {
+    fn drop(self) {
+        let Ended {
+            status: _,
+            sink: _,
+            out: _,
+            calls: _,
+        } = self;
+    }
 }
 
 /// How a command differs from the one that is due, where it does.

@@ -18,9 +18,14 @@ enum Origin {
 }
 
 /// A base, with the URL that it is, where it is one. Contracts see it as its text.
-#[derive(Drop)]
 pub struct ParsedBase {
     origin: Origin,
+}
+
+impl Drop for ParsedBase {
+    fn drop(self) {
+        let ParsedBase { origin: _ } = self;
+    }
 }
 
 impl Model for ParsedBase {

@@ -9,10 +9,15 @@ use std::{fmt, fs};
 const DEFAULT: &str = "(default)";
 
 /// A target that is due, and the whole of its instance.
-#[derive(Drop)]
 pub struct Target {
     pub name: String,
     pub bytes: Vec<u8>,
+}
+
+impl Drop for Target {
+    fn drop(self) {
+        let Target { name: _, bytes: _ } = self;
+    }
 }
 
 impl Target {
@@ -27,11 +32,20 @@ impl Target {
 }
 
 /// What is due after a run: its exit status, what `out` takes, and the targets that are written, in order.
-#[derive(Drop)]
 pub struct Due {
     pub status: u8,
     pub text: String,
     pub targets: Vec<Target>,
+}
+
+impl Drop for Due {
+    fn drop(self) {
+        let Due {
+            status: _,
+            text: _,
+            targets: _,
+        } = self;
+    }
 }
 
 /// The path of the instance of a target, by the name that a text tells.

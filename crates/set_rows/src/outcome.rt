@@ -17,11 +17,20 @@ pub const STEPS: [usize; 3] = [1, 7, 65_536];
 const SPARE_ROOM: usize = 65_536;
 
 /// What there is after a run.
-#[derive(Drop)]
 pub struct Outcome {
     pub status: Status,
     pub sink: MemTargets,
     pub out: MemText,
+}
+
+impl Drop for Outcome {
+    fn drop(self) {
+        let Outcome {
+            status: _,
+            sink: _,
+            out: _,
+        } = self;
+    }
 }
 
 /// Pages as a source in memory takes them.

@@ -10,11 +10,20 @@ use std::alloc::Global;
 const MOST: usize = 20_000;
 
 /// Bytes that were allocated one by one, how many allocations were made, and whether one more was refused.
-#[derive(Drop)]
 struct Allocations {
     bytes: Vec<Vec<u8>>,
     count: usize,
     is_refused: bool,
+}
+
+impl Drop for Allocations {
+    fn drop(self) {
+        let Allocations {
+            bytes: _,
+            count: _,
+            is_refused: _,
+        } = self;
+    }
 }
 
 /// Allocates a list of so many bytes, and then each of them, until an allocation is refused.

@@ -7,14 +7,18 @@ use std::alloc::Global;
 use std::rt::Files;
 
 /// A page of a row.
-#[derive(Drop)]
 pub struct Page {
     pub name: String,
     pub bytes: Vec<u8>,
 }
 
+impl Drop for Page {
+    fn drop(self) {
+        let Page { name: _, bytes: _ } = self;
+    }
+}
+
 /// A row: the words of a command and its pages, and what is due.
-#[derive(Drop)]
 pub struct Row {
     pub words: Vec<Text>,
     /// The same words with the pages in other orders.
@@ -23,6 +27,18 @@ pub struct Row {
     pub due: Due,
     /// For calls of the sink that fail, the number of the call and what then stands.
     pub faults: Vec<String>,
+}
+
+impl Drop for Row {
+    fn drop(self) {
+        let Row {
+            words: _,
+            orders: _,
+            pages: _,
+            due: _,
+            faults: _,
+        } = self;
+    }
 }
 
 /// Whether a word names a page.

@@ -13,5 +13,6 @@ pub mod MemberLaws
 mod NoteLaws
 mod RedirectLaws
 pub mod SaidLaws
+pub mod TargetLaws
 mod TimelyLaws
 pub mod ValueLaws

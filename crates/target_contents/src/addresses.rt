@@ -156,10 +156,18 @@ fn has_two<'a>(roles: &Roles<'a>, kind: Kind, spot: &Spot<'a>) -> bool
 }
 
 /// What is seen of the roles and of the arcroles of a set.
-#[derive(Drop)]
 pub(crate) struct SeenRoles<'a> {
     pub(crate) roles: Roles<'a>,
     pub(crate) arcroles: Roles<'a>,
+}
+
+impl Drop for SeenRoles<'_> {
+    fn drop(self) {
+        let SeenRoles {
+            roles: _,
+            arcroles: _,
+        } = self;
+    }
 }
 
 fn seen_roles_of<'a>(

@@ -8,6 +8,7 @@ ghost use Rattle.ix_base.specs.Facts.{facts_of};
 ghost use Rattle.ix_base.specs.Membership.{deepest};
 ghost use Rattle.ix_base.specs.declared.limits.TheConstants.{DEEPEST_TUPLE};
 ghost use Rattle.id_table.specs.Tables.{all_located};
+ghost use Rattle.instance_lines.specs.Elements.{lines_of_facts};
 ghost use Rattle.instance_lines.specs.Writable.{IsWritable, depth};
 ghost use Rattle.tuples.specs.Model.{owner_in};
 ghost use Rattle.target_contents.specs.Contents as contents;
@@ -26,7 +27,7 @@ use crate::parts::{Ref, contexts_of, ids_named, units_of};
 use crate::references::{addresses_at, linkbases_at};
 use fact_view::target_of;
 use id_table::Index;
-use instance_lines::arrange;
+use instance_lines::arrange_with_lines;
 use ix_base::limits::DEEPEST_TUPLE;
 use ix_base::{
     Content, Context, Fact, Kind, Linkbase, List, NoMemory, Spot, Text, Unit, each_once, kind_of,
@@ -166,17 +167,18 @@ fn gathered<'a>(
     })
 }
 
-/// The content of a target.
+/// The content of a target, and the lines of its facts.
 fn content_of<'a>(
     alloc: Global,
     valued: &ValuedSet<'_, '_, 'a>,
     target: &str,
-) -> Result<Content, NoMemory>
-    ensures content { IfOk result (IsContent (base_in valued.now.bases) valued.now.elements target.now) }
-    ensures written { IfOk result IsWritable }
+) -> Result<(Content, List<Text>), NoMemory>
+    ensures content { IfOk result (λ p. IsContent (base_in valued.now.bases) valued.now.elements target.now p.0) }
+    ensures written { IfOk result (λ p. IsWritable p.0) }
+    ensures lines { IfOk result (λ p. p.1 ≡ lines_of_facts p.0) }
 {
     let content = gathered(alloc, valued, target)?;
-    arrange(alloc, content)
+    arrange_with_lines(alloc, content)
 }
 
 /// The targets that elements have, as often as they do.
@@ -212,10 +214,9 @@ fn target_named<'a>(
     ensures content { IfOk result (λ t. IsContent (base_in valued.now.bases) valued.now.elements t.name t.content) }
     ensures written { IfOk result (λ t. IsWritable t.content) }
 {
-    Ok(Target {
-        name: Text::of(alloc, name)?,
-        content: content_of(alloc, valued, name)?,
-    })
+    let own = Text::of(alloc, name)?;
+    let (content, lines) = content_of(alloc, valued, name)?;
+    Ok(Target::of(own, content, lines))
 }
 
 /// The targets of these names.

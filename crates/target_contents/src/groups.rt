@@ -72,11 +72,20 @@ pub(crate) fn at<'a>(
 }
 
 /// The facts and the references of a set, by their targets.
-#[derive(Drop)]
 pub(crate) struct Groups<'a> {
     pub facts: Holders<'a>,
     pub schemas: Holders<'a>,
     pub linkbases: Holders<'a>,
+}
+
+impl Drop for Groups<'_> {
+    fn drop(self) {
+        let Groups {
+            facts: _,
+            schemas: _,
+            linkbases: _,
+        } = self;
+    }
 }
 
 /// The references to schemas and to linkbases, by their targets.

@@ -36,10 +36,15 @@ impl<'l, 's, 'a> LinkedSet<'l, 's, 'a> {
 }
 
 /// A set whose links and values break no rule, with its facts and references by their targets. Contracts see the same of it.
-#[derive(Drop)]
 pub(crate) struct ValuedSet<'l, 's, 'a> {
     pub(crate) set: LinkedSet<'l, 's, 'a>,
     pub(crate) groups: Groups<'a>,
+}
+
+impl Drop for ValuedSet<'_, '_, '_> {
+    fn drop(self) {
+        let ValuedSet { set: _, groups: _ } = self;
+    }
 }
 
 impl<'l, 's, 'a> Model for ValuedSet<'l, 's, 'a> {

@@ -29,7 +29,6 @@ use std::alloc::Global;
 use tuples::{Members, membership};
 
 /// A set with what was made of its links.
-#[derive(Drop)]
 pub struct Linked<'s, 'a> {
     pub(crate) index: &'s Index<'a>,
     pub(crate) bases: &'s Bases,
@@ -37,6 +36,19 @@ pub struct Linked<'s, 'a> {
     pub(crate) members: Members<'a>,
     pub(crate) relations: Relations<'a>,
     pub(crate) seen_roles: SeenRoles<'a>,
+}
+
+impl Drop for Linked<'_, '_> {
+    fn drop(self) {
+        let Linked {
+            index: _,
+            bases: _,
+            chains: _,
+            members: _,
+            relations: _,
+            seen_roles: _,
+        } = self;
+    }
 }
 
 /// Adds the items whose context isn't there, and the numbers whose unit isn't there.

@@ -1,28 +1,36 @@
 -- Tables by class: what is to be said of a text after a change to the table of its class.
-use Rattle.std.proofs.Common.{◌≡◌, ◌∙◌, ◌+◌, ◌<◌, ◌≤◌, ◌∷◌, [], ◌||◌, ⊎_elim, ap, refl, sym, subst, ℕ, List, Bool, true, false, cond, ltb, length, get_or, set, bytes_eq, arith, is_some, None}
+use Rattle.std.proofs.Common.{◌≡◌, ◌∙◌, ◌+◌, ◌-◌, ◌<◌, ◌≤◌, ◌∷◌, [], ◌||◌, ⊎_elim, ap, refl, sym, subst, ℕ, List, Bool, true, false, cond, ltb, length, get_or, set, bytes_eq, arith, is_some, None}
 use Rattle.std.proofs.lemmas.Bool.{cases_eq, ltb-true}
 use Rattle.std.proofs.lemmas.List.{get_or-set_other, get_or-set_same, length-set, nil_from_length}
 use Rattle.std.proofs.lemmas.List.Elements.{All-set}
+use Rattle.std.proofs.lemmas.Nat.{and_le_r}
 use Rattle.std.proofs.lemmas.Option.{slice_get-get_or}
 use Rattle.std.proofs.lemmas.Slice.Eq.{bytes_eq-Decides}
-use Rattle.std.specs.Borrow.{Bor}
 use Rattle.std.specs.List.{All}
 use Rattle.std.specs.Map.{lookup}
 use Rattle.std.specs.Option.{option_map_or}
 use Rattle.indexmap.specs.IndexMap.{IndexMap}
 use Rattle.text_map.specs.declared.class.TheConstants.{FULL}
-use Rattle.text_map.specs.Tables.{AreSmall, at, class_of, has_room, in_class, kept_at, size}
+use Rattle.text_map.specs.declared.key.Kept.{Kept}
+use Rattle.text_map.specs.Hashes.{class_of, hash_of}
+use Rattle.text_map.specs.Keys.{bytes}
+use Rattle.text_map.specs.Tables.{AreSmall, at, has_room, in_class, kept_at, size}
+
+-- there are classes of fewer numbers than there are classes
+pub class-within : (q : List ℕ) (n : ℕ) → 0 < n → class_of q n < n
+unfolding class_of
+class-within q n h = let l = and_le_r (hash_of q) (n - 1) in omega arith
 
 module _ {X Y : Type 0} (look : X → List ℕ → Y) (d : Y) where
   -- with tables, it is said of the table of its class
   pub in_class-at : (ts : List X) (x : X) (q : List ℕ) → 0 < length ts → in_class look d ts q ≡ look (get_or ts (class_of q (length ts)) x) q
   in_class-at ts x q h =
-      let l : class_of q (length ts) < length ts = omega arith in
+      let l = class-within q (length ts) h in
       ap (λ o. option_map_or (λ t. look t q) o d) (slice_get-get_or ts (class_of q (length ts)) x l)
 
   module _ (ts : List X) (x t : X) (id : List ℕ) (i : ℕ) (is : i ≡ class_of id (length ts)) (some : 0 < length ts) where
     within : i < length ts
-    within = subst (λ k. k < length ts) (sym is) (omega arith)
+    within = subst (λ k. k < length ts) (sym is) (class-within id (length ts) some)
 
     some-set : 0 < length (set ts i t)
     some-set = subst (λ k. 0 < k) (sym (length-set ts i t)) some
@@ -66,7 +74,7 @@ module _ {X Y : Type 0} (look : X → List ℕ → Y) (d : Y) where
   pub class-blank : (ts : List X) → All (λ t. (q : List ℕ) → look t q ≡ d) ts → (q : List ℕ) → in_class look d ts q ≡ d
   class-blank [] h q = refl
   class-blank (t ∷ ts) h q =
-      in_class-at (t ∷ ts) t q (omega arith) ∙ h (class_of q (length (t ∷ ts))) t (omega arith) q
+      in_class-at (t ∷ ts) t q (omega arith) ∙ h (class_of q (length (t ∷ ts))) t (class-within q (length (t ∷ ts)) (omega arith)) q
 
 -- How many texts a table has.
 
@@ -76,12 +84,12 @@ stays-small n m full true h e s = omega arith
 stays-small n m full false h e s = let l : m < full = ltb-true m full e in omega arith
 
 module _ {V S : Type 0} where
-  module _ (ts : List (IndexMap (Bor (List ℕ)) V S)) (r t : IndexMap (Bor (List ℕ)) V S) (id : List ℕ) (i : ℕ) (is : i ≡ class_of id (length ts))
+  module _ (ts : List (IndexMap Kept V S)) (r t : IndexMap Kept V S) (id : List ℕ) (i : ℕ) (is : i ≡ class_of id (length ts))
       (some : 0 < length ts) where
     in-range : i < length ts
-    in-range = subst (λ k. k < length ts) (sym is) (omega arith)
+    in-range = subst (λ k. k < length ts) (sym is) (class-within id (length ts) some)
 
-    of-table : {Y : Type 0} (look : IndexMap (Bor (List ℕ)) V S → List ℕ → Y) (d : Y) → in_class look d ts id ≡ look (get_or ts i r) id
+    of-table : {Y : Type 0} (look : IndexMap Kept V S → List ℕ → Y) (d : Y) → in_class look d ts id ≡ look (get_or ts i r) id
     of-table look d = in_class-at look d ts r id some ∙ ap (λ k. look (get_or ts k r) id) (sym is)
 
     pub class-found : kept_at ts id ≡ at (get_or ts i r) id
@@ -92,20 +100,20 @@ module _ {V S : Type 0} where
 
     pub class-small : size t ≤ cond (is_some (at (get_or ts i r) id)) (size (get_or ts i r)) (size (get_or ts i r) + 1) → (is_some (kept_at ts id) || has_room ts id) ≡ true → AreSmall ts → AreSmall (set ts i t)
     class-small h e s =
-        All-set (λ (y : IndexMap (Bor (List ℕ)) V S). size y ≤ FULL) ts i t
+        All-set (λ (y : IndexMap Kept V S). size y ≤ FULL) ts i t
         (stays-small (size t) (size (get_or ts i r)) FULL (is_some (at (get_or ts i r) id)) h
         (subst (λ b. (is_some (at (get_or ts i r) id) || b) ≡ true) (of-table (λ y p. ltb (size y) FULL) true)
         (subst (λ o. (is_some o || has_room ts id) ≡ true) (of-table at None) e)) (was-small s)) s
 
     pub class-smaller : size t ≤ size (get_or ts i r) → AreSmall ts → AreSmall (set ts i t)
-    class-smaller h s = All-set (λ (y : IndexMap (Bor (List ℕ)) V S). size y ≤ FULL) ts i t (let w = was-small s in omega arith) s
+    class-smaller h s = All-set (λ (y : IndexMap Kept V S). size y ≤ FULL) ts i t (let w = was-small s in omega arith) s
 
   -- Blank tables.
 
-  module _ (old new : List (IndexMap (Bor (List ℕ)) V S)) (none : length old ≡ 0) (blank : All (λ t. t.entries ≡ []) new) where
+  module _ (old new : List (IndexMap Kept V S)) (none : length old ≡ 0) (blank : All (λ t. t.entries ≡ []) new) where
     pub kept-made : (q : List ℕ) → kept_at new q ≡ kept_at old q
     kept-made q =
-        class-blank at None new (λ k d l p. ap (lookup (λ (x : Bor (List ℕ)). bytes_eq p x.now)) (blank k d l)) q
+        class-blank at None new (λ k d l p. ap (lookup (λ k. bytes_eq p (bytes k))) (blank k d l)) q
         ∙ sym (ap (λ ts. kept_at ts q) (nil_from_length old none))
 
     pub room-made : (q : List ℕ) → has_room new q ≡ has_room old q
@@ -113,5 +121,5 @@ module _ {V S : Type 0} where
         class-blank (λ t p. ltb (size t) FULL) true new (λ k d l p. ap (λ es. ltb (length es) FULL) (blank k d l)) q
         ∙ sym (ap (λ ts. has_room ts q) (nil_from_length old none))
 
-  pub small-made : (new : List (IndexMap (Bor (List ℕ)) V S)) → All (λ t. t.entries ≡ []) new → AreSmall new
+  pub small-made : (new : List (IndexMap Kept V S)) → All (λ t. t.entries ≡ []) new → AreSmall new
   small-made new blank = λ k d l. subst (λ es. length es ≤ FULL) (sym (blank k d l)) (omega arith)

@@ -1,3 +1,4 @@
 pub mod Classes
 pub mod Finding
+pub mod Keyed
 pub mod Placing

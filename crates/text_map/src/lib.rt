@@ -2,6 +2,7 @@
 #![tactic(auto)]
 
 mod class;
+mod key;
 mod map;
 mod table;
 mod tables;

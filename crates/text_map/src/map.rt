@@ -3,6 +3,7 @@ ghost use Rattle.std.specs.Prelude.{◌≡◌, ◌++◌, ◌∷◌, [], ℕ, Lis
 ghost use Rattle.std.specs.Option.{option_copied};
 ghost use Rattle.text_map.specs.Texts.{IsSet, get_in, items_in};
 
+use crate::key::Key;
 use crate::tables::Tables;
 use ix_base::NoMemory;
 use std::alloc::Global;
@@ -12,9 +13,14 @@ use std::marker::Model;
 ///
 /// Contracts see the texts with their values. A look-up compares its text with no more than some hundreds of others and a logarithm of
 /// their number, whatever the texts are. The first texts, and by far most of all others, are found by their hashes.
-#[derive(Drop)]
 pub struct TextMap<'a, V> {
     tables: Tables<'a, V>,
+}
+
+impl<'a, V: Drop> Drop for TextMap<'a, V> {
+    fn drop(self) {
+        let TextMap { tables: _ } = self;
+    }
 }
 
 impl<'a, V> Model for TextMap<'a, V> {
@@ -46,7 +52,8 @@ impl<'a, V> TextMap<'a, V> {
     pub fn get(&self, text: &str) -> Option<&V>
         ensures { option_copied result ≡ get_in self.now text.now }
     {
-        self.tables.get(text)
+        let key = Key::of(text);
+        self.tables.get(key)
     }
 
     /// Keeps a value for a text, in place of an older one. After a refusal nothing has changed.
@@ -68,7 +75,8 @@ impl<'a, V> TextMap<'a, V> {
         ensures ok { OnOk result (IsSet self.old self.new text.entry.now (Some value)) }
         ensures err { OnErr result ((q : List ℕ) → get_in self.new q ≡ get_in self.old q) }
     {
-        self.tables.put(text, value)
+        let key = Key::of(text);
+        self.tables.put(key, value)
     }
 
     /// Takes a text away, and gives what was kept for it. It takes no memory.
@@ -78,7 +86,8 @@ impl<'a, V> TextMap<'a, V> {
         ensures value { result ≡ get_in self.old text.now }
         ensures texts { IsSet self.old self.new text.now None }
     {
-        self.tables.take(text)
+        let key = Key::of(text);
+        self.tables.take(key)
     }
 }
 
@@ -91,6 +100,7 @@ impl<'a, T> TextMap<'a, Vec<T>> {
             ≡ (if bytes_eq q text.entry.now then items_in self.old q ++ item ∷ [] else items_in self.old q)) }
         ensures err { OnErr result ((q : List ℕ) → items_in self.new q ≡ items_in self.old q) }
     {
-        self.tables.push(text, item)
+        let key = Key::of(text);
+        self.tables.push(key, item)
     }
 }

@@ -4,22 +4,36 @@ ghost use Rattle.std.specs.Prelude.{◌≡◌, [], ℕ, List, IfOk, OnOk, OnErr,
 ghost use Rattle.std.specs.Option.{option_copied};
 ghost use Rattle.text_map.specs.Places.{IsBounded, found, free_place as spec_free_place, items_at_rest, items_found, place_of as spec_place_of, rest_at, texts_in};
 ghost use Rattle.text_map.specs.Tables.{added, at};
-ghost use Rattle.text_map.specs.declared.tables.Place.TheVariants.{Class};
+ghost use Rattle.text_map.specs.declared.tables.Place.TheVariants.{Class, First};
 
-use crate::class::{FULL, get_classed, has_room, push_classed, put_classed, take_classed};
+use crate::class::{get_classed, has_room, push_classed, put_classed, take_classed};
+use crate::key::Key;
 use crate::table::{Table, push, put, take};
 use indexmap::IndexMap;
 use ix_base::NoMemory;
 use std::alloc::Global;
 use std::collections::BTreeMap;
 
+/// So many texts stand in the first table at most.
+pub(crate) const FEW: usize = 128;
+
 /// The tables in which texts stand.
-#[derive(Drop)]
 pub(crate) struct Tables<'a, V> {
     pub alloc: Global,
     pub first: Table<'a, V>,
     pub classes: Vec<Table<'a, V>>,
     pub rest: BTreeMap<&'a str, V>,
+}
+
+impl<'a, V: Drop> Drop for Tables<'a, V> {
+    fn drop(self) {
+        let Tables {
+            alloc: _,
+            first: _,
+            classes: _,
+            rest: _,
+        } = self;
+    }
 }
 
 /// Where a text stands, or where one may go.
@@ -90,102 +104,114 @@ impl<'a, V> Tables<'a, V> {
     }
 
     /// What is kept for a text.
-    pub fn get(&self, text: &str) -> Option<&V>
-        ensures { option_copied result ≡ found self.now text.now }
+    pub fn get(&self, key: Key<'_>) -> Option<&V>
+        ensures { option_copied result ≡ found self.now key.entry.text.now }
     {
-        if let Some(value) = self.first.get(text) {
+        if let Some(value) = get_classed(self.classes.as_slice(), key) {
             return Some(value);
         }
-        if let Some(value) = get_classed(self.classes.as_slice(), text) {
+        if let Some(value) = self.first.get(key) {
             return Some(value);
         }
-        self.rest.get(text)
+        self.rest.get(key.text)
     }
 
     /// Where there is room for a text that stands nowhere.
-    fn free_place(&self, text: &str) -> Place
-        ensures { result ≡ spec_free_place self.now text.now }
+    fn free_place(&self, key: Key<'_>) -> Place
+        ensures { result ≡ spec_free_place self.now key.entry.text.now }
     {
-        if self.first.len() < FULL {
+        if self.first.len() < FEW {
             Place::First
-        } else if has_room(self.classes.as_slice(), text) {
+        } else if has_room(self.classes.as_slice(), key) {
             Place::Class
         } else {
             Place::Rest
         }
     }
 
-    /// Whether a text that isn't among the first ones stands in its class, or may go there and nowhere else. So it is with most.
-    fn is_of_class(&self, text: &str) -> bool
-        ensures { result ≡ true → at self.now.first text.now ≡ None → spec_place_of self.now text.now ≡ Class }
+    /// Whether any text stands among the first ones, or may go there and nowhere else. So it is with few texts.
+    fn is_of_first(&self) -> bool
+        ensures { result ≡ true → (q : List ℕ) → spec_place_of self.now q ≡ First }
     {
-        self.first.len() >= FULL && self.rest.is_empty() && has_room(self.classes.as_slice(), text)
+        self.classes.is_empty() && self.rest.is_empty() && self.first.len() < FEW
+    }
+
+    /// Whether a text that isn't among the first ones stands in its class, or may go there and nowhere else. So it is with most.
+    fn is_of_class(&self, key: Key<'_>) -> bool
+        ensures { result ≡ true → at self.now.first key.entry.text.now ≡ None
+            → spec_place_of self.now key.entry.text.now ≡ Class }
+    {
+        self.first.len() >= FEW && self.rest.is_empty() && has_room(self.classes.as_slice(), key)
     }
 
     /// Where a text stands, or else where there is room for it.
-    fn place_of(&self, text: &str) -> Place
-        ensures { result ≡ spec_place_of self.now text.now }
+    fn place_of(&self, key: Key<'_>) -> Place
+        ensures { result ≡ spec_place_of self.now key.entry.text.now }
     {
-        if self.first.contains_key(text) {
+        if self.is_of_first() {
             return Place::First;
         }
-        if self.is_of_class(text) {
+        if self.is_of_class(key) && !self.first.contains_key(key) {
             return Place::Class;
         }
-        if get_classed(self.classes.as_slice(), text).is_some() {
+        if get_classed(self.classes.as_slice(), key).is_some() {
             return Place::Class;
         }
-        if self.rest.contains_key(text) {
+        if self.first.contains_key(key) {
+            return Place::First;
+        }
+        if self.rest.contains_key(key.text) {
             return Place::Rest;
         }
-        self.free_place(text)
+        self.free_place(key)
     }
 
     /// Sets the value of a text, and gives the older one.
-    pub fn put(&mut self, text: &'a str, value: V) -> Result<Option<V>, NoMemory>
+    pub fn put(&mut self, key: Key<'a>, value: V) -> Result<Option<V>, NoMemory>
     where
         V: Drop,
-        ensures older { IfOk result (λ o. o ≡ found self.old text.entry.now) }
-        ensures ok { OnOk result ((q : List ℕ) → found self.new q ≡ (if bytes_eq q text.entry.now then Some value else found self.old q)) }
+        ensures older { IfOk result (λ o. o ≡ found self.old key.entry.text.now) }
+        ensures ok { OnOk result ((q : List ℕ) → found self.new q
+            ≡ (if bytes_eq q key.entry.text.now then Some value else found self.old q)) }
         ensures err { OnErr result ((q : List ℕ) → found self.new q ≡ found self.old q) }
         ensures bounded { IsBounded self.old → IsBounded self.new }
     {
-        match self.place_of(text) {
-            Place::First => put(&mut self.first, text, value),
-            Place::Class => put_classed(self.alloc, &mut self.classes, text, value),
-            Place::Rest => put_in_order(&mut self.rest, text, value),
+        match self.place_of(key) {
+            Place::First => put(&mut self.first, key, value),
+            Place::Class => put_classed(self.alloc, &mut self.classes, key, value),
+            Place::Rest => put_in_order(&mut self.rest, key.text, value),
         }
     }
 
     /// Takes a text away, wherever it stands, and gives its value.
-    pub fn take(&mut self, text: &str) -> Option<V>
+    pub fn take(&mut self, key: Key<'_>) -> Option<V>
     where
         V: Drop,
-        ensures value { result ≡ found self.old text.now }
-        ensures texts { (q : List ℕ) → found self.new q ≡ (if bytes_eq q text.now then None else found self.old q) }
+        ensures value { result ≡ found self.old key.entry.text.now }
+        ensures texts { (q : List ℕ) → found self.new q ≡ (if bytes_eq q key.entry.text.now then None else found self.old q) }
         ensures bounded { IsBounded self.old → IsBounded self.new }
     {
-        let first = take(&mut self.first, text);
-        let classed = take_classed(&mut self.classes, text);
-        let rest = take_in_order(&mut self.rest, text);
-        first.or(classed.or(rest))
+        let classed = take_classed(&mut self.classes, key);
+        let first = take(&mut self.first, key);
+        let rest = take_in_order(&mut self.rest, key.text);
+        classed.or(first.or(rest))
     }
 }
 
 impl<'a, T> Tables<'a, Vec<T>> {
     /// Adds an item at the end of those of a text.
-    pub fn push(&mut self, text: &'a str, item: T) -> Result<(), NoMemory>
+    pub fn push(&mut self, key: Key<'a>, item: T) -> Result<(), NoMemory>
     where
         T: Drop,
         ensures ok { OnOk result ((q : List ℕ) → items_found self.new q
-            ≡ (if bytes_eq q text.entry.now then added item (items_found self.old q) else items_found self.old q)) }
+            ≡ (if bytes_eq q key.entry.text.now then added item (items_found self.old q) else items_found self.old q)) }
         ensures err { OnErr result ((q : List ℕ) → items_found self.new q ≡ items_found self.old q) }
         ensures bounded { IsBounded self.old → IsBounded self.new }
     {
-        match self.place_of(text) {
-            Place::First => push(self.alloc, &mut self.first, text, item),
-            Place::Class => push_classed(self.alloc, &mut self.classes, text, item),
-            Place::Rest => push_in_order(self.alloc, &mut self.rest, text, item),
+        match self.place_of(key) {
+            Place::First => push(self.alloc, &mut self.first, key, item),
+            Place::Class => push_classed(self.alloc, &mut self.classes, key, item),
+            Place::Rest => push_in_order(self.alloc, &mut self.rest, key.text, item),
         }
     }
 }

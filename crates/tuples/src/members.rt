@@ -23,10 +23,18 @@ use std::marker::Model;
 /// The members of the tuples of a set, and the owners of its facts.
 ///
 /// Contracts see the members with the places of their tuples, and the tuples with their tuple ids.
-#[derive(Drop)]
 pub struct Members<'a> {
     slices: Slices<'a>,
     tuples: Holders<'a>,
+}
+
+impl Drop for Members<'_> {
+    fn drop(self) {
+        let Members {
+            slices: _,
+            tuples: _,
+        } = self;
+    }
 }
 
 impl<'a> Model for Members<'a> {

@@ -1,5 +1,8 @@
+use Rattle.std.proofs.Common.{◌∙◌}
+use Rattle.std.proofs.lemmas.Result.{IfOk-weaker}
 use Rattle.instance_out.proofs.BackLaws.{lines-read_back}
 use Rattle.instance_out.proofs.prepare.Goals as goal
 
-pub returns-in-Some-clause-read_back : goal.returns-in-Some-clause-read_back
-returns-in-Some-clause-read_back c proper = lines-read_back c.args.content.now c.in_ok-lines.lines proper c.in_ok-lines.ensures
+pub returns-clause-read_back : goal.returns-clause-read_back
+returns-clause-read_back c proper =
+    IfOk-weaker c.counted.result _ _ (λ p e. lines-read_back c.args.content.now p proper (e ∙ c.in_ok-lines.ensures)) c.counted.ensures

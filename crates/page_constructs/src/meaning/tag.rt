@@ -2,7 +2,7 @@
 ghost use Rattle.std.specs.Prelude.{◌≡◌, ◌≤◌, ◌<◌, ℕ, true, false, length, option_map, IfOk, IfSome, MatchOption};
 ghost use Rattle.std.specs.Str.{IsUtf8};
 ghost use Rattle.ix_base.specs.Scope.{is_qname as is_qname_of};
-ghost use Rattle.page_constructs.specs.Meanings.{before, from, ends_name, attribute_at as attribute_at_of, attributes_in as attributes_in_of, start_tag as start_tag_of, end_tag as end_tag_of};
+ghost use Rattle.page_constructs.specs.Meanings.{before, from, ends_name, ends_tag_name, attribute_at as attribute_at_of, attributes_in as attributes_in_of, start_tag as start_tag_of, end_tag as end_tag_of};
 ghost use Rattle.page_constructs.specs.ReadAttributes.{attribute_and_more, attributes_and_end};
 ghost use Rattle.page_constructs.specs.Model.{token_of};
 
@@ -51,6 +51,29 @@ fn name_at<'a, 't>(
     let (front, rest) = split(text, Stop::Name);
     match kept_name(arena, names, front)? {
         Some(name) => Ok(Some((name, rest))),
+        None => Ok(None),
+    }
+}
+
+/// The name of a tag at the front, where it is a qualified name, kept in the arena, and what is behind it.
+fn tag_name_at<'a, 't>(
+    arena: &'a Bump,
+    names: &mut Names<'a>,
+    text: &'t str,
+) -> Result<Option<(Written<'a>, &'t str)>, NoMemory>
+    ensures { IfOk result (λ r. MatchOption r (is_qname_of (before ends_tag_name text.now) ≡ false)
+        (λ p. (is_qname_of (before ends_tag_name text.now) ≡ true) × (p.0.name.now ≡ before ends_tag_name text.now)
+        × (p.1.now ≡ from ends_tag_name text.now))) }
+{
+    if let Some(expected) = names.expected_tag(text) {
+        return Ok(Some(expected));
+    }
+    let (front, rest) = split(text, Stop::TagName);
+    match kept_name(arena, names, front)? {
+        Some(name) => {
+            names.note_tag();
+            Ok(Some((name, rest)))
+        }
         None => Ok(None),
     }
 }
@@ -126,8 +149,7 @@ pub(crate) fn start_tag<'a, 't>(
 ) -> Result<Option<Token<'a, 't>>, NoMemory>
     ensures { IfOk result (λ r. option_map token_of r ≡ start_tag_of offset inner.now) }
 {
-    let (front, rest) = split(inner, Stop::TagName);
-    let Some(name) = kept_name(arena, &mut room.names, front)? else {
+    let Some((name, rest)) = tag_name_at(arena, &mut room.names, inner)? else {
         return Ok(None);
     };
     match attributes_in(alloc, arena, &mut room.attrs, &mut room.names, rest)? {
@@ -147,12 +169,29 @@ pub(crate) fn start_tag<'a, 't>(
     }
 }
 
-/// What stands in an end tag. Its name is looked through only where it isn't remembered.
+/// Whether a name is a qualified name. It is looked through only where it isn't remembered.
+fn is_tag_name(names: &mut Names<'_>, name: &str) -> bool
+    ensures { result ≡ is_qname_of name.now }
+{
+    match names.find(name) {
+        Some(_) => {
+            names.note_tag();
+            true
+        }
+        None => is_qname(name),
+    }
+}
+
+/// What stands in an end tag: most often the name of the last tag.
+#[tactic(auto, using(crate::proofs::TagReading::closed_name))]
 pub(crate) fn end_tag<'a, 't>(names: &mut Names<'_>, inner: &'t str) -> Option<Token<'a, 't>>
     ensures { option_map token_of result ≡ end_tag_of inner.now }
 {
+    if names.is_last_tag(inner) {
+        return Some(Token::EndTag(inner));
+    }
     let (name, rest) = split(inner, Stop::White);
-    let is_name = names.find(name).is_some() || is_qname(name);
+    let is_name = is_tag_name(names, name);
     if is_name && is_white_text(rest) {
         Some(Token::EndTag(name))
     } else {

@@ -10,10 +10,9 @@ returns c more =
       c.in_ok-add.ensures,
       c.in_ok-contexts.ensures,
       c.in_ok-units.ensures,
-      c.in_ok-facts.ensures,
+      c.requires.facts,
       c.in_ok-notes.ensures,
       c.as_slice.ensures,
       c.as_slice-2.ensures,
       c.as_slice-3.ensures,
-      c.as_slice-4.ensures,
     ) refl

@@ -1,4 +1,4 @@
-use Rattle.std.proofs.Common.{◌≡◌, ◌∙◌, ◌++◌, ap, arith, drop, length, map, subst, sym, Some}
+use Rattle.std.proofs.Common.{◌≡◌, ◌∙◌, ap, arith, drop, length, map, subst, sym, Some}
 use Rattle.std.specs.List.{range_with_len}
 use Rattle.std.specs.List.Sorted.{IsPermutation}
 use Rattle.instance_lines.proofs.Exchanging.{from-places, take-written}

@@ -6,4 +6,4 @@ use Rattle.target_contents.proofs.contents.content_of.Goals as goal
 
 pub returns-clause-written : goal.returns-clause-written
 returns-clause-written c =
-    IfOk-weaker c.arrange.result _ _ (λ x h. subst IsWritable (sym h) (writable-arranged c.in_ok-content.content c.in_ok-content.ensures.writable)) c.arrange.ensures
+    IfOk-weaker c.arrange_with_lines.result _ _ (λ p h. subst IsWritable (sym h) (writable-arranged c.in_ok-content.content c.in_ok-content.ensures.writable)) c.arrange_with_lines.ensures.content

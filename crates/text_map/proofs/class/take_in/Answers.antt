@@ -5,16 +5,16 @@ use Rattle.text_map.proofs.class.take_in.Goals as goal
 
 pub returns-clause-texts : goal.returns-clause-texts
 returns-clause-texts g c =
-    class-changed at None c.args.tables.now c.index-tables-class.result c.take.new.table c.args.text.now c.class_of-class.result c.class_of-class.ensures.value
+    class-changed at None c.args.tables.now c.index-tables-class.result c.take.new.table c.args.key.text.now c.class-class.result c.class-class.ensures.value
     c.requires (λ _. None) c.take.ensures.texts
 
 pub returns-clause-small : goal.returns-clause-small
 returns-clause-small g c =
-    class-smaller c.args.tables.now c.index-tables-class.result c.take.new.table c.args.text.now c.class_of-class.result c.class_of-class.ensures.value
+    class-smaller c.args.tables.now c.index-tables-class.result c.take.new.table c.args.key.text.now c.class-class.result c.class-class.ensures.value
     c.requires c.take.ensures.size
 
 pub returns-clause-value : goal.returns-clause-value
 returns-clause-value g c =
     c.take.ensures.value
-    ∙ sym (class-found c.args.tables.now c.index-tables-class.result c.take.new.table c.args.text.now c.class_of-class.result c.class_of-class.ensures.value
+    ∙ sym (class-found c.args.tables.now c.index-tables-class.result c.take.new.table c.args.key.text.now c.class-class.result c.class-class.ensures.value
     c.requires)

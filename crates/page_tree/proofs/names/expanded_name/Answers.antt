@@ -1,5 +1,0 @@
-use Rattle.ix_base.specs.Spaces.{spaces_bound}
-use Rattle.page_tree.proofs.names.expanded_name.Goals as goal
-
-pub returns-in_default-clause-space : goal.returns-in_default-clause-space
-returns-in_default-clause-space c = c.unbound.ensures.space (spaces_bound c.args.scope)
