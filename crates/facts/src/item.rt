@@ -34,14 +34,11 @@ use scopes::{Bases, name_at};
 use std::alloc::Global;
 use value_forms::{escapes, is_nil};
 
-/// How many bytes a value has room for at first.
-const VALUE: usize = 32;
-
 /// The plain text of a chain.
 fn plain_of(alloc: Global, chain: &[&Spot<'_>]) -> Result<Text, NoMemory>
     ensures { IfOk result (λ t. t ≡ plain_along (map (λ s. located s.now) chain.now)) }
 {
-    let mut text = Text::with_room(alloc, VALUE)?;
+    let mut text = Text::of(alloc, "")?;
     plain(chain, &mut text)?;
     Ok(text)
 }

@@ -17,5 +17,6 @@ pub mod Placing
 pub mod PrefixLaws
 pub mod RootLaws
 pub mod Sorting
+pub mod SpaceLaws
 pub mod Steps
 pub mod WritableLaws

@@ -1,5 +1,5 @@
 -- Prefixes of namespaces.
-use Rattle.std.proofs.Common.{◌≡◌, ◌∙◌, ap, sym, refl, ℕ, Bool, true, false, cond, List, [], ◌∷◌, ◌++◌, Option, Some, None, bytes_eq, codes}
+use Rattle.std.proofs.Common.{◌≡◌, ◌∙◌, ap, sym, refl, ℕ, Bool, true, false, cond, List, [], ◌∷◌, ◌++◌, Option, Some, None, is_some, unwrap_or, bytes_eq, append_assoc, codes}
 use Rattle.std.proofs.lemmas.Slice.Eq.{bytes_eq-Decides}
 use Rattle.std.specs.declared.cmp.Ordering.{Ordering}
 use Rattle.std.specs.declared.cmp.Ordering.TheVariants.{Less, Equal, Greater}
@@ -10,7 +10,8 @@ use Rattle.ix_base.specs.Once.{put, in_order}
 use Rattle.ix_base.specs.SortedLists.{text_cmp}
 use Rattle.ix_base.specs.declared.content.OwnName.{OwnName}
 use Rattle.ix_base.specs.Trees.{Bound}
-use Rattle.instance_lines.specs.Prefixes.{fixed, prefix_in, is_known, with_space, spaces_of, xml}
+use Rattle.instance_lines.specs.Prefixes.{fixed, prefix_in, is_known, qualified, with_space, spaces_of, xml}
+use Rattle.instance_lines.specs.SpelledNames.{start_in}
 use Rattle.instance_lines.specs.Tables.{own_spaces}
 
 -- the prefixes that are always bound, and their namespaces
@@ -26,24 +27,44 @@ pub bound_are : xml ∷ fixed
 unfolding fixed xml iso4217_namespace link_namespace xbrldi_namespace xbrli_namespace xlink_namespace xml_namespace xsi_namespace
 bound_are = refl
 
-prefix_in-by : (t : Bool) (p : List ℕ) (o more : Option (List ℕ)) (r : Option (List ℕ)) → cond t (Some p) o ≡ r → (o ≡ r → more ≡ r) → cond t (Some p) more ≡ r
-prefix_in-by true p o more r e f = e
-prefix_in-by false p o more r e f = f e
+start_in-by : (t : Bool) (p : List ℕ) (o more : Option (List ℕ)) (r : Option (List ℕ)) → cond t (Some p) o ≡ r → (o ≡ r → more ≡ r) → cond t (Some p) more ≡ r
+start_in-by true p o more r e f = e
+start_in-by false p o more r e f = f e
 
--- a prefix that is found stays the first
-pub prefix_in-found : (bs cs : List Bound) (space p : List ℕ) → prefix_in bs space ≡ Some p → prefix_in (bs ++ cs) space ≡ Some p
-prefix_in-found [] cs space p e = absurd (cc)
-prefix_in-found (b ∷ bs) cs space p e = prefix_in-by (bytes_eq space b.ns) b.prefix (prefix_in bs space) (prefix_in (bs ++ cs) space) (Some p) e (prefix_in-found bs cs space p)
+-- a start that is found stays the first
+pub start_in-found : (bs cs : List Bound) (space s : List ℕ) → start_in bs space ≡ Some s → start_in (bs ++ cs) space ≡ Some s
+start_in-found [] cs space s e = absurd (cc)
+start_in-found (b ∷ bs) cs space s e = start_in-by (bytes_eq space b.ns) (b.prefix ++ 58 ∷ []) (start_in bs space) (start_in (bs ++ cs) space) (Some s) e (start_in-found bs cs space s)
 
 -- and where there is none, the others are looked through
-pub prefix_in-missed : (bs cs : List Bound) (space : List ℕ) → prefix_in bs space ≡ None → prefix_in (bs ++ cs) space ≡ prefix_in cs space
-prefix_in-missed [] cs space e = refl
-prefix_in-missed (b ∷ bs) cs space e = later (bytes_eq space b.ns) e (prefix_in-missed bs cs space)
+pub start_in-missed : (bs cs : List Bound) (space : List ℕ) → start_in bs space ≡ None → start_in (bs ++ cs) space ≡ start_in cs space
+start_in-missed [] cs space e = refl
+start_in-missed (b ∷ bs) cs space e = later (bytes_eq space b.ns) e (start_in-missed bs cs space)
   where
-    later : (t : Bool) → cond t (Some b.prefix) (prefix_in bs space) ≡ None → (prefix_in bs space ≡ None → prefix_in (bs ++ cs) space ≡ prefix_in cs space)
-        → cond t (Some b.prefix) (prefix_in (bs ++ cs) space) ≡ prefix_in cs space
+    later : (t : Bool) → cond t (Some (b.prefix ++ 58 ∷ [])) (start_in bs space) ≡ None → (start_in bs space ≡ None → start_in (bs ++ cs) space ≡ start_in cs space)
+        → cond t (Some (b.prefix ++ 58 ∷ [])) (start_in (bs ++ cs) space) ≡ start_in cs space
     later true e f = absurd (cc)
     later false e f = f e
+
+-- a name behind its prefix and the colon
+pub started : (bs : List Bound) (space local : List ℕ) → unwrap_or (start_in bs space) [] ++ local ≡ qualified (prefix_in bs space) local
+started [] space local = refl
+started (b ∷ bs) space local = by (bytes_eq space b.ns) (started bs space local)
+  where
+    by : (t : Bool) → unwrap_or (start_in bs space) [] ++ local ≡ qualified (prefix_in bs space) local
+        → unwrap_or (cond t (Some (b.prefix ++ 58 ∷ [])) (start_in bs space)) [] ++ local ≡ qualified (cond t (Some b.prefix) (prefix_in bs space)) local
+    by true e = append_assoc b.prefix (58 ∷ []) local
+    by false e = e
+
+-- what has a prefix has a start
+pub has_start : (bs : List Bound) (space : List ℕ) → is_some (start_in bs space) ≡ is_some (prefix_in bs space)
+has_start [] space = refl
+has_start (b ∷ bs) space = by (bytes_eq space b.ns) (has_start bs space)
+  where
+    by : (t : Bool) → is_some (start_in bs space) ≡ is_some (prefix_in bs space)
+        → is_some (cond t (Some (b.prefix ++ 58 ∷ [])) (start_in bs space)) ≡ is_some (cond t (Some b.prefix) (prefix_in bs space))
+    by true e = refl
+    by false e = e
 
 pub bytes_eq-sym : (xs ys : List ℕ) → bytes_eq xs ys ≡ bytes_eq ys xs
 bytes_eq-sym xs ys = by (bytes_eq xs ys) (bytes_eq ys xs) refl refl

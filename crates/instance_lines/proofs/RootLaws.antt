@@ -6,7 +6,7 @@ use Rattle.instance_lines.specs.declared.prefix.TheConstants.{ROOT}
 use Rattle.instance_lines.specs.Canonical.{root_line}
 use Rattle.instance_lines.specs.Prefixes.{declaration, fixed, numbered, numeral}
 
-attrs_text-append : (list : List Attribute) (xs ys : List ℕ) → attrs_text list (xs ++ ys) ≡ attrs_text list xs ++ ys
+pub attrs_text-append : (list : List Attribute) (xs ys : List ℕ) → attrs_text list (xs ++ ys) ≡ attrs_text list xs ++ ys
 attrs_text-append [] xs ys = ap (λ l. l) (λ i. xs ++ ys)
 attrs_text-append (a ∷ list) xs ys = rw (attrs_text-append list xs ys) (simp append_assoc)
 

@@ -1,15 +1,11 @@
 -- Parts of elements that the code writes by themselves.
-use Rattle.std.specs.Prelude.{ℕ, List, [], ◌∷◌, map, Option, Some, None, codes}
+use Rattle.std.specs.Prelude.{ℕ, List, [], ◌∷◌, map, codes}
 use Rattle.ix_base.specs.Facts.{before, facts_of, none}
 use Rattle.ix_base.specs.SortedLists.{sorted, text_cmp}
-use Rattle.ix_base.specs.WrittenMarkup.{Attribute, Markup, nothing, node, leaf, written}
-use Rattle.ix_base.specs.declared.content.Accuracy.{Accuracy}
-use Rattle.ix_base.specs.declared.content.Accuracy.TheVariants as accuracy
+use Rattle.ix_base.specs.WrittenMarkup.{Markup, nothing, node, leaf, written}
 use Rattle.ix_base.specs.declared.content.Arc.{Arc}
 use Rattle.ix_base.specs.declared.content.Footnote.{Footnote}
 use Rattle.ix_base.specs.declared.content.RoleRef.{RoleRef}
-use Rattle.ix_base.specs.declared.content.Value.{Value}
-use Rattle.ix_base.specs.declared.content.Value.TheVariants as value
 use Rattle.ix_base.specs.declared.content.Content.{Content}
 use Rattle.ix_base.specs.declared.content.Context.{Context}
 use Rattle.ix_base.specs.declared.content.Fact.{Fact}
@@ -38,31 +34,6 @@ ordered_lines spaces fs = sorted text_cmp (map (fact_line spaces) fs)
 -- those of the facts of a content
 abbrev pub lines_of_facts : Content → List (List ℕ)
 lines_of_facts c = ordered_lines (content_spaces c (facts_of c.facts)) c.facts
-
--- how exact a number is, as the value of one attribute or of another
-
-abbrev pub decimals : Option Accuracy → Option (List ℕ)
-decimals None = None
-decimals (Some (accuracy.Decimals n)) = Some n
-decimals (Some (accuracy.Precision n)) = None
-
-abbrev pub precision : Option Accuracy → Option (List ℕ)
-precision None = None
-precision (Some (accuracy.Decimals n)) = None
-precision (Some (accuracy.Precision n)) = Some n
-
--- what the attribute of a value says that is nil
-abbrev pub nil_text : Value → Option (List ℕ)
-nil_text value.Nil = Some (codes "true")
-nil_text (value.Plain text) = None
-nil_text (value.Fraction above below) = None
-
--- a value in an element of this name with all these attributes
-abbrev pub value_element : List ℕ → List Attribute → Value → Markup
-value_element name attrs value.Nil = leaf name attrs nothing
-value_element name attrs (value.Plain text) = text_element name attrs text nothing
-value_element name attrs (value.Fraction above below) =
-    node name attrs (text_element (codes "xbrli:numerator") [] above (text_element (codes "xbrli:denominator") [] below nothing)) nothing
 
 -- the texts of what stands in a footnote link
 

@@ -11,11 +11,11 @@ ghost use Rattle.instance_lines.specs.Numbering.{numbers_by};
 
 use crate::arranged_note::links_in_order;
 use crate::fact::line_of;
-use crate::names::spaces_in;
 use crate::prefix::Prefixes;
 use crate::reference::{linkbase_line, role_line, schema_line};
 use crate::reorder::put_in_order;
 use crate::sort::{Keyed, by_keys, copies_of, once_by_keys, views_of, with_keys};
+use crate::spaces::spaces_in;
 use ix_base::{Content, Context, Fact, Linkbase, List, NoMemory, RoleRef, Text, Unit};
 use std::alloc::Global;
 use std::mem;

@@ -1,78 +1,78 @@
 //! Writing facts.
-ghost use Rattle.std.specs.Prelude.{◌≡◌, map, option_map, IfOk, OnOk};
+ghost use Rattle.std.specs.Prelude.{◌≡◌, ℕ, List, map, IfOk, OnOk};
 ghost use Rattle.ix_base.specs.Facts.{facts_of};
 ghost use Rattle.ix_base.specs.PlainContents.{said_of};
-ghost use Rattle.ix_base.specs.WrittenMarkup.{written, nothing};
-ghost use Rattle.instance_lines.specs.Canonical.{fact_markups, facts_markup, item_markup, line};
-ghost use Rattle.instance_lines.specs.Elements.{decimals, fact_line, fact_markup, nil_text, ordered_lines, precision, value_element};
-ghost use Rattle.instance_lines.specs.Gains.{Gains};
+ghost use Rattle.ix_base.specs.WrittenMarkup.{Attribute, written, nothing};
+ghost use Rattle.instance_lines.specs.Canonical.{accuracy_attrs, item_attrs, item_markup, value_markup};
+ghost use Rattle.instance_lines.specs.Canonical.{fact_markups, facts_markup, line};
+ghost use Rattle.instance_lines.specs.Elements.{fact_line, fact_markup, ordered_lines};
+ghost use Rattle.instance_lines.specs.Gains.{Gains, GainsAttributes, GainsOpened, GainsUnclosed};
 ghost use Rattle.instance_lines.specs.Holdings.{said_spaces};
 ghost use Rattle.instance_lines.specs.SpelledNames.{spelled};
-ghost use Rattle.instance_lines.specs.Tags.{attrs_of};
 
-use crate::markup::{Valued, push_element};
-use crate::names::spaces_in;
+use crate::markup::{Valued, push_element, push_further, push_plain, push_text};
 use crate::prefix::Prefixes;
 use crate::sort::sort_texts;
-use crate::spelled::{
-    Spelled, push_named_close, push_named_element, push_named_leaf, push_named_start,
-};
-use ix_base::{Accuracy, Content, Fact, Item, NoMemory, Text, Tuple, Value, shown};
+use crate::spaces::spaces_in;
+use crate::spelled::{Spelled, push_name, push_named_close, push_named_leaf, push_named_start};
+use ix_base::{Accuracy, Content, Fact, Item, NoMemory, Text, Tuple, Value, push_ae, shown};
 use std::alloc::Global;
 
 /// How many bytes a line of a fact has room for at first.
 const LINE: usize = 64;
 
-/// The decimals of an item.
-fn decimals_of(item: &Item) -> Option<&str>
-    ensures { option_map (λ t. t.now) result ≡ decimals item.now.accuracy }
+/// Appends how exact an item is, behind the value of an attribute. Neither has its end quote yet.
+fn push_accuracy(item: &Item, out: &mut Text) -> Result<(), NoMemory>
+    ensures { OnOk result (GainsAttributes out.old out.new (accuracy_attrs item.now.accuracy)) }
 {
-    match &item.accuracy {
-        Some(Accuracy::Decimals(decimals)) => Some(decimals.as_str()),
-        _ => None,
+    let Some(accuracy) = &item.accuracy else {
+        return Ok(());
+    };
+    match accuracy {
+        Accuracy::Decimals(decimals) => {
+            push_further("\" decimals=\"", Some(decimals.as_str()), out)?;
+            Ok(())
+        }
+        Accuracy::Precision(precision) => {
+            push_further("\" precision=\"", Some(precision.as_str()), out)?;
+            Ok(())
+        }
     }
 }
 
-/// The precision of an item.
-fn precision_of(item: &Item) -> Option<&str>
-    ensures { option_map (λ t. t.now) result ≡ precision item.now.accuracy }
+/// Appends the start tag of an item, before the end quote of its last attribute.
+fn push_item_start(name: Spelled<'_, '_>, item: &Item, out: &mut Text) -> Result<(), NoMemory>
+    ensures { OnOk result (GainsOpened out.old out.new (spelled name.entry) (item_attrs item.now)) }
 {
-    match &item.accuracy {
-        Some(Accuracy::Precision(precision)) => Some(precision.as_str()),
-        _ => None,
-    }
+    push_plain("<", out)?;
+    push_name(name, out)?;
+    push_plain(" contextRef=\"", out)?;
+    push_ae(item.context.as_str(), out)?;
+    push_further("\" unitRef=\"", shown(&item.unit), out)?;
+    push_accuracy(item, out)?;
+    push_further("\" id=\"", shown(&item.id), out)?;
+    Ok(())
 }
 
-/// What the attribute of a nil value says.
-fn nil_of(value: &Value) -> Option<&'static str>
-    ensures { option_map (λ t. t.now) result ≡ nil_text value.now }
-{
-    match value {
-        Value::Nil => Some("true"),
-        _ => None,
-    }
-}
-
-/// Appends a value in an element of this name.
-fn push_value(
-    name: Spelled<'_, '_>,
-    attributes: &[Valued<'_>],
-    value: &Value,
-    out: &mut Text,
-) -> Result<(), NoMemory>
-    ensures { OnOk result (Gains out.old out.new (written (value_element (spelled name.entry) (attrs_of attributes.now) value.now))) }
+/// Appends a value and the end tag of its element, before its last `>`, behind a start tag that ends before the end quote of its
+/// last attribute.
+fn push_value(name: Spelled<'_, '_>, value: &Value, out: &mut Text) -> Result<(), NoMemory>
+    ensures { OnOk result ((before : List ℕ) (attrs : List Attribute) → GainsOpened before out.old (spelled name.entry) attrs
+        → GainsUnclosed before out.new (written (value_markup (spelled name.entry) attrs value.now nothing))) }
 {
     match value {
         Value::Nil => {
-            push_named_leaf(name, attributes, out)?;
+            push_plain("\" xsi:nil=\"true\"/", out)?;
             Ok(())
         }
         Value::Plain(text) => {
-            push_named_element(name, attributes, text.as_str(), out)?;
+            push_plain("\">", out)?;
+            push_text(text.as_str(), out)?;
+            push_named_close(name, out)?;
             Ok(())
         }
         Value::Fraction(above, below) => {
-            push_named_start(name, attributes, out)?;
+            push_plain("\">", out)?;
             push_element("xbrli:numerator", &[], above.as_str(), out)?;
             push_element("xbrli:denominator", &[], below.as_str(), out)?;
             push_named_close(name, out)?;
@@ -81,45 +81,20 @@ fn push_value(
     }
 }
 
-/// Appends an item.
+/// Appends an item, before its last `>`.
 fn push_item(prefixes: &Prefixes<'_>, item: &Item, out: &mut Text) -> Result<(), NoMemory>
-    ensures { OnOk result (Gains out.old out.new (written (item_markup prefixes.now item.now nothing))) }
+    ensures { OnOk result (GainsUnclosed out.old out.new (written (item_markup prefixes.now item.now nothing))) }
 {
     let name = prefixes.spelled(&item.name);
-    let attributes = [
-        Valued {
-            name: "contextRef",
-            value: Some(item.context.as_str()),
-        },
-        Valued {
-            name: "unitRef",
-            value: shown(&item.unit),
-        },
-        Valued {
-            name: "decimals",
-            value: decimals_of(item),
-        },
-        Valued {
-            name: "precision",
-            value: precision_of(item),
-        },
-        Valued {
-            name: "id",
-            value: shown(&item.id),
-        },
-        Valued {
-            name: "xsi:nil",
-            value: nil_of(&item.value),
-        },
-    ];
-    push_value(name, &attributes, &item.value, out)?;
+    push_item_start(name, item, out)?;
+    push_value(name, &item.value, out)?;
     Ok(())
 }
 
-/// Appends a tuple with its members.
+/// Appends a tuple with its members, before its last `>`.
 #[cycle(push)]
 fn push_tuple(prefixes: &Prefixes<'_>, tuple: &Tuple, out: &mut Text) -> Result<(), NoMemory>
-    ensures { OnOk result (Gains out.old out.new (written (fact_markup prefixes.now (Fact.Tuple tuple.now)))) }
+    ensures { OnOk result (GainsUnclosed out.old out.new (written (fact_markup prefixes.now (Fact.Tuple tuple.now)))) }
 {
     let name = prefixes.spelled(&tuple.name);
     let id = Valued {
@@ -140,10 +115,10 @@ fn push_tuple(prefixes: &Prefixes<'_>, tuple: &Tuple, out: &mut Text) -> Result<
     Ok(())
 }
 
-/// Appends a fact.
+/// Appends a fact, before its last `>`, so that the end of a line is appended with it.
 #[cycle(push)]
 fn push_fact(prefixes: &Prefixes<'_>, fact: &Fact, out: &mut Text) -> Result<(), NoMemory>
-    ensures { OnOk result (Gains out.old out.new (written (fact_markup prefixes.now fact.now))) }
+    ensures { OnOk result (GainsUnclosed out.old out.new (written (fact_markup prefixes.now fact.now))) }
 {
     match fact {
         Fact::Item(item) => {
@@ -164,6 +139,7 @@ fn push_facts(prefixes: &Prefixes<'_>, facts: &[Fact], out: &mut Text) -> Result
 {
     for fact in facts {
         push_fact(prefixes, fact, out)?;
+        push_plain(">", out)?;
     }
     Ok(())
 }
@@ -174,7 +150,7 @@ pub fn line_of(alloc: Global, prefixes: &Prefixes<'_>, fact: &Fact) -> Result<Te
 {
     let mut out = Text::with_room(alloc, LINE)?;
     push_fact(prefixes, fact, &mut out)?;
-    out.push("\n")?;
+    out.push(">\n")?;
     Ok(out)
 }
 

@@ -24,6 +24,7 @@ mod prefix;
 mod reference;
 mod reorder;
 mod sort;
+mod spaces;
 mod spelled;
 mod unit;
 

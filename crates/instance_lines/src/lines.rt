@@ -11,10 +11,10 @@ ghost use Rattle.instance_lines.specs.Writable.{IsTimely, IsWritable};
 
 use crate::context::context_lines;
 use crate::fact::fact_lines;
-use crate::names::spaces_in;
 use crate::note::link_lines;
 use crate::prefix::Prefixes;
 use crate::reference::{arcrole_lines, linkbase_lines, role_lines, schema_lines};
+use crate::spaces::spaces_in;
 use crate::unit::unit_lines;
 use ix_base::{Content, List, NoMemory, Text};
 use std::alloc::Global;

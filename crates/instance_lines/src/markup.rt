@@ -1,10 +1,10 @@
 //! Tags, texts and elements, appended to a line.
-ghost use Rattle.std.specs.Prelude.{◌≡◌, ◌++◌, ◌∷◌, OnOk};
+ghost use Rattle.std.specs.Prelude.{◌≡◌, ◌++◌, ◌∷◌, ℕ, List, OnOk};
 ghost use Rattle.ix_base.specs.Escapes.{te};
 ghost use Rattle.ix_base.specs.WrittenMarkup.{attrs_text, start_text, leaf_text, close_text, written, nothing};
 ghost use Rattle.instance_lines.specs.Canonical.{attr_if, text_element};
-ghost use Rattle.instance_lines.specs.Gains.{Gains};
-ghost use Rattle.instance_lines.specs.Tags.{attrs_of};
+ghost use Rattle.instance_lines.specs.Gains.{Gains, GainsAttributes};
+ghost use Rattle.instance_lines.specs.Tags.{attrs_of, between_values};
 ghost use Rattle.std.specs.Prelude.{option_map};
 
 use ix_base::{NoMemory, Text, push_ae, push_te};
@@ -45,6 +45,24 @@ pub fn push_attribute(attribute: Valued<'_>, out: &mut Text) -> Result<(), NoMem
     out.push("=\"")?;
     push_ae(value, out)?;
     out.push("\"")?;
+    Ok(())
+}
+
+/// Appends an attribute, if it has a value, behind the value of another one. Neither has its end quote yet, so that this one and
+/// what opens the next value are appended in one step.
+pub(crate) fn push_further(
+    opening: &str,
+    value: Option<&str>,
+    out: &mut Text,
+) -> Result<(), NoMemory>
+    ensures { OnOk result ((name : List ℕ) → opening.now ≡ between_values name
+        → GainsAttributes out.old out.new (attr_if name (option_map (λ v. v.now) value.entry))) }
+{
+    let Some(value) = value else {
+        return Ok(());
+    };
+    out.push(opening)?;
+    push_ae(value, out)?;
     Ok(())
 }
 

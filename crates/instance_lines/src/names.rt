@@ -2,14 +2,12 @@
 ghost use Rattle.std.specs.Prelude.{◌≡◌, ◌++◌, ◌∷◌, [], flat_map, IfOk, OnOk};
 ghost use Rattle.ix_base.specs.Facts.{before, facts_of, none};
 ghost use Rattle.ix_base.specs.PlainContents.{said_of};
-ghost use Rattle.instance_lines.specs.Canonical.{content_spaces, context_names, dim_names, fact_names, member_names, unit_names};
+ghost use Rattle.instance_lines.specs.Canonical.{context_names, dim_names, fact_names, member_names, unit_names};
 ghost use Rattle.instance_lines.specs.Gains.{Gains};
 ghost use Rattle.instance_lines.specs.Holdings.{all_names};
-ghost use Rattle.instance_lines.specs.Prefixes.{spaces_of};
-ghost use Rattle.instance_lines.specs.Tables.{own_spaces, values_of};
+ghost use Rattle.instance_lines.specs.Tables.{values_of};
 
-use crate::prefix::is_known;
-use ix_base::{Content, Context, Dim, Fact, Member, NoMemory, OwnName, Unit, each_once};
+use ix_base::{Content, Context, Dim, Fact, Member, NoMemory, OwnName, Unit};
 use std::alloc::Global;
 
 /// Adds the names of dimensions and of their members.
@@ -24,7 +22,7 @@ fn add_dims<'a>(dims: &'a [Dim], names: &mut Vec<&'a OwnName>) -> Result<(), NoM
 }
 
 /// The name of a member.
-fn member_name(member: &Member) -> &OwnName
+pub(crate) fn member_name(member: &Member) -> &OwnName
     ensures { result.now ∷ [] ≡ member_names member.now }
 {
     match member {
@@ -97,21 +95,6 @@ fn add_facts<'a>(facts: &'a [Fact], names: &mut Vec<&'a OwnName>) -> Result<(), 
     Ok(())
 }
 
-/// The namespaces of names that need prefixes of their own, as often as they stand.
-fn own_spaces_of<'a>(alloc: Global, names: &[&'a OwnName]) -> Result<Vec<&'a str>, NoMemory>
-    ensures { IfOk result (λ v. values_of v.items ≡ own_spaces (values_of names.now)) }
-{
-    let mut spaces = Vec::new(alloc);
-    for name in names {
-        let space = name.ns.as_str();
-        if is_known(space) {
-            continue;
-        }
-        spaces.push(space)?;
-    }
-    Ok(spaces)
-}
-
 /// The names in a content, as often as they stand: those in contexts, then those in units, then those of facts.
 pub fn names_in<'a>(alloc: Global, content: &'a Content) -> Result<Vec<&'a OwnName>, NoMemory>
     ensures { IfOk result (λ v. values_of v.items ≡ all_names (said_of content.now)) }
@@ -121,14 +104,4 @@ pub fn names_in<'a>(alloc: Global, content: &'a Content) -> Result<Vec<&'a OwnNa
     add_units(content.units.as_slice(), &mut names)?;
     add_facts(content.facts.as_slice(), &mut names)?;
     Ok(names)
-}
-
-/// The namespaces of a content that need prefixes of their own, in order, each once.
-pub fn spaces_in<'a>(alloc: Global, content: &'a Content) -> Result<Vec<&'a str>, NoMemory>
-    ensures { IfOk result (λ v. values_of v.items ≡ content_spaces content.now (facts_of content.now.facts)) }
-{
-    let names = names_in(alloc, content)?;
-    let mut spaces = own_spaces_of(alloc, names.as_slice())?;
-    each_once(&mut spaces);
-    Ok(spaces)
 }

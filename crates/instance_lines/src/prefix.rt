@@ -1,13 +1,13 @@
 //! Prefixes of namespaces.
-ghost use Rattle.std.specs.Prelude.{◌≡◌, ◌<◌, ◌∷◌, ◌++◌, [], ℕ, List, Some, option_map, IfOk, OnOk, if◌then◌else◌, bytes_eq};
+ghost use Rattle.std.specs.Prelude.{◌≡◌, ◌<◌, ◌∷◌, [], ℕ, List, Some, option_map, unwrap_or, IfOk, OnOk, if◌then◌else◌, bytes_eq};
 ghost use Rattle.std.specs.Ordering.{nat_cmp};
 ghost use Rattle.std.specs.Cmp.Lexicographic.{slice_cmp};
 ghost use Rattle.std.specs.BTreeMap.{get_by};
 ghost use Rattle.ix_base.specs.WrittenMarkup.{attrs_text};
 ghost use Rattle.instance_lines.specs.Canonical.{root_line};
 ghost use Rattle.instance_lines.specs.Gains.{Gains};
-ghost use Rattle.instance_lines.specs.Prefixes.{xml, fixed, declared_for, declaration, is_known as known, name_text, numeral, prefix_in};
-ghost use Rattle.instance_lines.specs.SpelledNames.{spelled as spelled_name};
+ghost use Rattle.instance_lines.specs.Prefixes.{xml, fixed, declared_for, declaration, is_known as known, name_text, numeral};
+ghost use Rattle.instance_lines.specs.SpelledNames.{spelled as spelled_name, start_in};
 ghost use Rattle.instance_lines.specs.Tables.{Agrees, values_of};
 
 use crate::markup::{Valued, push_attribute};
@@ -51,28 +51,29 @@ impl<'a> Model for Prefixes<'a> {
     ghost invariant = { λ p. Agrees p.table 1 p.spaces.items };
 }
 
-/// The prefix of a namespace that an instance always binds.
+/// The prefix of a namespace that an instance always binds, with its colon.
 #[tactic(auto, using(crate::proofs::PrefixLaws::bound_are))]
-fn known_prefix(space: &str) -> Option<&'static str>
-    ensures { option_map (λ p. p.now) result ≡ prefix_in (xml ∷ fixed) space.now }
+fn known_start(space: &str) -> Option<&'static str>
+    ensures { option_map (λ p. p.now) result ≡ start_in (xml ∷ fixed) space.now }
 {
     match space {
-        "http://www.w3.org/XML/1998/namespace" => Some("xml"),
-        "http://www.xbrl.org/2003/iso4217" => Some("iso4217"),
-        "http://www.xbrl.org/2003/linkbase" => Some("link"),
-        "http://xbrl.org/2006/xbrldi" => Some("xbrldi"),
-        "http://www.xbrl.org/2003/instance" => Some("xbrli"),
-        "http://www.w3.org/1999/xlink" => Some("xlink"),
-        "http://www.w3.org/2001/XMLSchema-instance" => Some("xsi"),
+        "http://www.w3.org/XML/1998/namespace" => Some("xml:"),
+        "http://www.xbrl.org/2003/iso4217" => Some("iso4217:"),
+        "http://www.xbrl.org/2003/linkbase" => Some("link:"),
+        "http://xbrl.org/2006/xbrldi" => Some("xbrldi:"),
+        "http://www.xbrl.org/2003/instance" => Some("xbrli:"),
+        "http://www.w3.org/1999/xlink" => Some("xlink:"),
+        "http://www.w3.org/2001/XMLSchema-instance" => Some("xsi:"),
         _ => None,
     }
 }
 
 /// Whether names in a namespace need no further prefix.
+#[tactic(auto, using(crate::proofs::PrefixLaws::has_start))]
 pub fn is_known(space: &str) -> bool
     ensures { result ≡ known space.now }
 {
-    space.is_empty() || known_prefix(space).is_some()
+    space.is_empty() || known_start(space).is_some()
 }
 
 /// The prefix of an instance's own namespace of this number.
@@ -101,14 +102,15 @@ fn put<'a>(
     }
 }
 
-/// The prefixes of these namespaces, the last first, so that the first of equal ones counts.
+/// The prefixes of these namespaces with their colons, the last first, so that the first of equal ones counts.
 fn table_of<'a>(alloc: Global, spaces: &[&'a str]) -> Result<BTreeMap<&'a str, Text>, NoMemory>
     ensures { IfOk result (λ t. Agrees t 1 spaces.now) }
 {
     let mut table = BTreeMap::new(alloc);
     let mut left = spaces.len();
     while left > 0 {
-        let prefix = own_prefix(alloc, left)?;
+        let mut prefix = own_prefix(alloc, left)?;
+        prefix.push(":")?;
         left -= 1;
         put(&mut table, spaces[left], prefix)?;
     }
@@ -166,16 +168,16 @@ impl<'a> Prefixes<'a> {
         root_of(alloc, self.spaces.as_slice())
     }
 
-    /// The prefix of a namespace, if it has one.
-    fn prefix(&self, space: &str) -> Option<&str>
-        ensures { option_map (λ p. p.now) result ≡ prefix_in (xml ∷ declared_for self.now) space.now }
+    /// What names in a namespace start with: its prefix and a colon, or nothing.
+    fn start(&self, space: &str) -> &str
+        ensures { result.now ≡ unwrap_or (start_in (xml ∷ declared_for self.now) space.now) [] }
     {
-        if let Some(prefix) = known_prefix(space) {
-            return Some(prefix);
+        if let Some(start) = known_start(space) {
+            return start;
         }
         match self.table.get(space) {
-            Some(prefix) => Some(prefix.as_str()),
-            None => None,
+            Some(start) => start.as_str(),
+            None => "",
         }
     }
 
@@ -184,7 +186,7 @@ impl<'a> Prefixes<'a> {
         ensures { spelled_name result ≡ name_text self.now name.now }
     {
         Spelled {
-            prefix: self.prefix(name.ns.as_str()),
+            start: self.start(name.ns.as_str()),
             local: name.local.as_str(),
         }
     }
@@ -193,14 +195,10 @@ impl<'a> Prefixes<'a> {
     pub fn name(&self, alloc: Global, name: &OwnName) -> Result<Text, NoMemory>
         ensures { IfOk result (λ t. t ≡ name_text self.now name.now) }
     {
-        let local = name.local.as_str();
-        let Some(prefix) = self.prefix(name.ns.as_str()) else {
-            return Text::of(alloc, local);
-        };
-        let room = prefix.len().saturating_add(local.len()).saturating_add(1);
+        let Spelled { start, local } = self.spelled(name);
+        let room = start.len().saturating_add(local.len());
         let mut out = Text::with_room(alloc, room)?;
-        out.push(prefix)?;
-        out.push(":")?;
+        out.push(start)?;
         out.push(local)?;
         Ok(out)
     }

@@ -19,8 +19,8 @@ fn places_in(alloc: Global, order: &[usize]) -> Result<Vec<usize>, NoMemory>
     Ok(places)
 }
 
-/// Exchanges things until at each place stands the thing whose number is given for it. What is given of numbers and of places is
-/// used up.
+/// Exchanges things until at each place stands the thing whose number is given for it. One that stands there already isn't
+/// moved. What is given of numbers and of places is used up.
 fn exchange<T>(things: &mut [T], order: &mut [usize], places: &mut [usize])
     requires inverse { AreInverse order.old places.old }
     requires len { length things.old ≡ length order.old }
@@ -28,6 +28,9 @@ fn exchange<T>(things: &mut [T], order: &mut [usize], places: &mut [usize])
 {
     for place in 0..things.len() {
         let from = order[place];
+        if from == place {
+            continue;
+        }
         let to = places[place];
         things.swap(place, from);
         order.swap(place, to);

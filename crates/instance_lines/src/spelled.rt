@@ -1,29 +1,25 @@
 //! Names of facts as they are written, and tags with them. Nothing is copied for a name: an instance has as many as facts.
 ghost use Rattle.std.specs.Prelude.{◌≡◌, ◌++◌, OnOk};
-ghost use Rattle.ix_base.specs.WrittenMarkup.{start_text, leaf_text, close_text, written, nothing};
-ghost use Rattle.instance_lines.specs.Canonical.{text_element};
-ghost use Rattle.instance_lines.specs.Gains.{Gains};
+ghost use Rattle.ix_base.specs.WrittenMarkup.{start_text, leaf_text, close_text};
+ghost use Rattle.instance_lines.specs.Gains.{Gains, GainsUnclosed};
 ghost use Rattle.instance_lines.specs.SpelledNames.{spelled};
 ghost use Rattle.instance_lines.specs.Tags.{attrs_of};
 
-use crate::markup::{Valued, push_attributes, push_plain, push_text};
+use crate::markup::{Valued, push_attributes, push_plain};
 use ix_base::{NoMemory, Text};
 
-/// A local name, behind the prefix of its namespace where it has one.
+/// A local name, behind the prefix of its namespace and a colon, or behind nothing.
 #[derive(Clone, Copy)]
 pub(crate) struct Spelled<'p, 'n> {
-    pub prefix: Option<&'p str>,
+    pub start: &'p str,
     pub local: &'n str,
 }
 
 /// Appends a name.
-fn push_name(name: Spelled<'_, '_>, out: &mut Text) -> Result<(), NoMemory>
+pub(crate) fn push_name(name: Spelled<'_, '_>, out: &mut Text) -> Result<(), NoMemory>
     ensures { OnOk result (Gains out.old out.new (λ more. spelled name.entry ++ more)) }
 {
-    if let Some(prefix) = name.prefix {
-        push_plain(prefix, out)?;
-        push_plain(":", out)?;
-    }
+    push_plain(name.start, out)?;
     push_plain(name.local, out)?;
     Ok(())
 }
@@ -43,43 +39,27 @@ pub(crate) fn push_named_start(
     Ok(())
 }
 
-/// Appends the one tag of an element of this name without content.
+/// Appends the one tag of an element of this name without content, before its last `>`.
 pub(crate) fn push_named_leaf(
     name: Spelled<'_, '_>,
     attributes: &[Valued<'_>],
     out: &mut Text,
 ) -> Result<(), NoMemory>
-    ensures { OnOk result (Gains out.old out.new (λ more. leaf_text (spelled name.entry) (attrs_of attributes.now) ++ more)) }
+    ensures { OnOk result (GainsUnclosed out.old out.new
+        (λ more. leaf_text (spelled name.entry) (attrs_of attributes.now) ++ more)) }
 {
     push_plain("<", out)?;
     push_name(name, out)?;
     push_attributes(attributes, out)?;
-    push_plain("/>", out)?;
+    push_plain("/", out)?;
     Ok(())
 }
 
-/// Appends the end tag of an element of this name.
+/// Appends the end tag of an element of this name, before its last `>`.
 pub(crate) fn push_named_close(name: Spelled<'_, '_>, out: &mut Text) -> Result<(), NoMemory>
-    ensures { OnOk result (Gains out.old out.new (λ more. close_text (spelled name.entry) ++ more)) }
+    ensures { OnOk result (GainsUnclosed out.old out.new (λ more. close_text (spelled name.entry) ++ more)) }
 {
     push_plain("</", out)?;
     push_name(name, out)?;
-    push_plain(">", out)?;
-    Ok(())
-}
-
-/// Appends an element of this name that holds a text, which may be empty.
-pub(crate) fn push_named_element(
-    name: Spelled<'_, '_>,
-    attributes: &[Valued<'_>],
-    text: &str,
-    out: &mut Text,
-) -> Result<(), NoMemory>
-    ensures { OnOk result (Gains out.old out.new
-        (written (text_element (spelled name.entry) (attrs_of attributes.now) text.now nothing))) }
-{
-    push_named_start(name, attributes, out)?;
-    push_text(text, out)?;
-    push_named_close(name, out)?;
     Ok(())
 }

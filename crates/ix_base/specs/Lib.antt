@@ -19,6 +19,7 @@ pub mod Facts
 pub mod FilledMarkup
 pub mod Forms
 pub mod Fronts
+pub mod HeldTexts
 pub mod Ids
 pub mod KindNames
 pub mod Kinds
@@ -26,6 +27,7 @@ pub mod Lines
 pub mod LinkRules
 pub mod LocatedElements
 pub mod Manners
+pub mod Marks
 pub mod Markup
 pub mod MemPages
 pub mod MemTargets

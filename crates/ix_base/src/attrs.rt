@@ -1,21 +1,25 @@
 //! The attributes of an element, and the two of them of which the elements below ask, too.
 ghost use Rattle.std.specs.Prelude.{◌≡◌, [], codes, map, option_map, slice_get};
 ghost use Rattle.ix_base.specs.Attributes.{valued, value_of, place_named, kept_place};
+ghost use Rattle.ix_base.specs.Marks.{marks_of};
 ghost use Rattle.ix_base.specs.Namespaces.{xml_namespace};
 
+use crate::marks::{marks_in, may_have};
 use crate::namespaces::XML;
 use crate::tree::Attr;
 
 /// The attributes of an element, in the order of its tag. It is kept where `xml:lang` and `xml:base` stand among them, so that an
 /// element tells these in one step, however many attributes it has. A place from 2^32 - 1 on is kept as that number, and looked for
-/// each time.
+/// each time. The marks of their local names are kept, too, so that most names that none of them has aren't looked for.
 #[derive(Clone, Copy)]
 pub struct Attrs<'a> {
-    pub written: &'a [Attr<'a>],
+    marks: u32,
     lang_at: u32,
     base_at: u32,
+    pub written: &'a [Attr<'a>],
     ghost lang: { lang_at ≡ kept_place (map valued written.now) xml_namespace (codes "lang") },
     ghost base: { base_at ≡ kept_place (map valued written.now) xml_namespace (codes "base") },
+    ghost marked: { marks ≡ marks_of (map valued written.now) },
 }
 
 /// The index of the first attribute of this name, or their number.
@@ -71,6 +75,18 @@ fn value_of_xml<'a>(attrs: &[Attr<'a>], local: &str, kept: u32) -> Option<&'a st
     value_at(attrs, place)
 }
 
+/// The value of the first attribute of this name.
+fn value_in<'a>(attrs: &[Attr<'a>], ns: &str, local: &str) -> Option<&'a str>
+    ensures { option_map (λ s. s.now) result ≡ value_of (map valued attrs.now) ns.now local.now }
+{
+    for attr in attrs {
+        if attr.name.local == local && attr.name.ns == ns {
+            return Some(attr.value);
+        }
+    }
+    None
+}
+
 impl<'a> Attrs<'a> {
     /// No attributes.
     pub const fn empty() -> Attrs<'a>
@@ -80,6 +96,7 @@ impl<'a> Attrs<'a> {
             written: &[],
             lang_at: 0,
             base_at: 0,
+            marks: 0,
         }
     }
 
@@ -91,6 +108,19 @@ impl<'a> Attrs<'a> {
             written,
             lang_at: kept_place_of(written, "lang"),
             base_at: kept_place_of(written, "base"),
+            marks: marks_in(written),
+        }
+    }
+
+    /// The value of the attribute of this name. Those of most names that none has are told by their marks.
+    #[tactic(auto, using(crate::proofs::MarkLaws::none_unmarked))]
+    pub(crate) fn value(self, ns: &str, local: &str) -> Option<&'a str>
+        ensures { option_map (λ s. s.now) result ≡ value_of (map valued self.entry.written.now) ns.now local.now }
+    {
+        if may_have(self.marks, local) {
+            value_in(self.written, ns, local)
+        } else {
+            None
         }
     }
 

@@ -6,6 +6,7 @@ pub mod DepthLaws
 pub mod FactsLaws
 mod FaultlessLaws
 pub mod FitLaws
+mod GatherLaws
 mod GroupLaws
 mod LinkLaws
 mod ListLaws

@@ -1,5 +1,6 @@
 pub mod Contents
 pub mod Faults
+pub mod Gathered
 pub mod Groups
 pub mod LinkedSets
 pub mod PageSet

@@ -13,6 +13,7 @@ ghost use Rattle.instance_lines.specs.Writable.{IsWritable, depth};
 ghost use Rattle.tuples.specs.Model.{owner_in};
 ghost use Rattle.target_contents.specs.Contents as contents;
 ghost use Rattle.target_contents.specs.Contents.{IsContent, IsGathered, target_names};
+ghost use Rattle.target_contents.specs.Gathered.{Gathers};
 ghost use Rattle.target_contents.specs.LinkedSets.{IsValued, SaysIn};
 ghost use Rattle.target_contents.specs.SetOutcomes.{AreAllTargets, AreTargets, CanBeWritten};
 ghost use Rattle.target_contents.specs.Visits.{values_of};
@@ -31,6 +32,7 @@ use instance_lines::arrange_with_lines;
 use ix_base::limits::DEEPEST_TUPLE;
 use ix_base::{
     Content, Context, Fact, Kind, Linkbase, List, NoMemory, Spot, Text, Unit, each_once, kind_of,
+    push_unlike,
 };
 use std::alloc::Global;
 use tuples::Members;
@@ -59,7 +61,7 @@ fn outer_of<'a>(
     ensures { IfOk result (λ v. all_located v.items
         ≡ filter (λ e. not (is_some (owner_in members.now e))) (all_located spots.now)) }
 {
-    let mut outer = Vec::new(alloc);
+    let mut outer = Vec::with_capacity(alloc, spots.len())?;
     for spot in spots {
         push_outer(members, *spot, &mut outer)?;
     }
@@ -181,16 +183,24 @@ fn content_of<'a>(
     arrange_with_lines(alloc, content)
 }
 
-/// The targets that elements have, as often as they do.
+/// Adds the target that an element has, if it has one and this isn't the last target.
+fn push_target<'a>(spot: &Spot<'a>, names: &mut Vec<&'a str>) -> Result<(), NoMemory>
+    ensures { OnOk result (Gathers (values_of names.old.items) (values_of names.new.items) (contents.targets_at (located spot.now))) }
+{
+    let kind = kind_of(spot);
+    if kind.is_fact() || kind == Kind::References {
+        push_unlike(names, target_of(spot.element))?;
+    }
+    Ok(())
+}
+
+/// The targets that elements have. Those that the element before has, too, aren't there again.
 fn each_target<'a>(alloc: Global, spots: &[&'a Spot<'a>]) -> Result<Vec<&'a str>, NoMemory>
-    ensures { IfOk result (λ v. values_of v.items ≡ flat_map contents.targets_at (all_located spots.now)) }
+    ensures { IfOk result (λ v. Gathers [] (values_of v.items) (flat_map contents.targets_at (all_located spots.now))) }
 {
     let mut names = Vec::new(alloc);
     for spot in spots {
-        let kind = kind_of(spot);
-        if kind.is_fact() || kind == Kind::References {
-            names.push(target_of(spot.element))?;
-        }
+        push_target(*spot, &mut names)?;
     }
     Ok(names)
 }

@@ -93,7 +93,7 @@ pub(crate) fn facts_at<'a>(
     requires facts { All (λ s. kinds.is_fact (located s.now) ≡ true) spots.now }
     ensures { IfOk result (λ l. AreFacts (SaysIn valued.now) valued.now.elements depth (all_located spots.now) (facts_of l)) }
 {
-    let mut facts = List::new(alloc);
+    let mut facts = Vec::with_capacity(alloc, spots.len())?;
     for spot in spots {
         if kind_of(spot) != Kind::Tuple {
             let item = item_fact(alloc, valued, spot)?;
@@ -104,5 +104,5 @@ pub(crate) fn facts_at<'a>(
         let tuple = tuple_fact(alloc, spot, members)?;
         facts.push(tuple)?;
     }
-    Ok(facts)
+    Ok(List::of(facts))
 }

@@ -8,11 +8,14 @@ ghost use Rattle.ix_base.specs.Once.{in_order};
 ghost use Rattle.ix_base.specs.SortedLists.{text_cmp};
 ghost use Rattle.id_table.specs.Model.{AreChosen};
 ghost use Rattle.id_table.specs.Tables.{all_located};
+ghost use Rattle.target_contents.specs.Gathered.{Gathers};
 ghost use Rattle.target_contents.specs.Groups.{ref_by};
 ghost use Rattle.target_contents.specs.Visits.{values_of};
 
 use id_table::Index;
-use ix_base::{Context, Kind, List, NoMemory, Spot, Unit, each_once, is_item, kind_of, token_at};
+use ix_base::{
+    Context, Kind, List, NoMemory, Spot, Unit, each_once, is_item, kind_of, push_unlike, token_at,
+};
 use std::alloc::Global;
 use xbrl_parts::{read_context, read_unit};
 
@@ -34,23 +37,23 @@ fn id_named<'a>(by: Ref, spot: &Spot<'a>) -> Option<&'a str>
     }
 }
 
-/// Adds the id that an element names, where it is an item.
+/// Adds the id that an element names, where it is an item and this isn't the last id.
 fn push_named<'a>(by: Ref, spot: &Spot<'a>, ids: &mut Vec<&'a str>) -> Result<(), NoMemory>
-    ensures { OnOk result (values_of ids.new.items
-        ≡ values_of ids.old.items ++ filter_map (ref_by by) (filter kinds.is_item (located spot.now ∷ []))) }
+    ensures { OnOk result (Gathers (values_of ids.old.items) (values_of ids.new.items)
+        (filter_map (ref_by by) (filter kinds.is_item (located spot.now ∷ [])))) }
 {
     if !is_item(spot) {
         return Ok(());
     }
     if let Some(id) = id_named(by, spot) {
-        ids.push(id)?;
+        push_unlike(ids, id)?;
     }
     Ok(())
 }
 
-/// The ids that the items among these elements name, as often as they do.
+/// The ids that the items among these elements name. Those that the item before names, too, aren't there again.
 fn each_named<'a>(alloc: Global, by: Ref, spots: &[&'a Spot<'a>]) -> Result<Vec<&'a str>, NoMemory>
-    ensures { IfOk result (λ v. values_of v.items ≡ filter_map (ref_by by) (filter kinds.is_item (all_located spots.now))) }
+    ensures { IfOk result (λ v. Gathers [] (values_of v.items) (filter_map (ref_by by) (filter kinds.is_item (all_located spots.now)))) }
 {
     let mut ids = Vec::new(alloc);
     for spot in spots {

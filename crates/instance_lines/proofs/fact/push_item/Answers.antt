@@ -1,8 +1,5 @@
-use Rattle.std.proofs.Common.{ap, ◌++◌}
-use Rattle.instance_lines.proofs.ItemLaws.{item-written}
+use Rattle.instance_lines.specs.Canonical.{item_attrs}
 use Rattle.instance_lines.proofs.fact.push_item.Goals as goal
 
 pub returns : goal.returns
-returns c more =
-    rw (c.in_ok-push_value.ensures, c.spelled-name.ensures, c.as_str.ensures, c.shown.ensures, c.decimals_of.ensures, c.precision_of.ensures, c.shown-2.ensures, c.nil_of.ensures)
-    (ap (λ l. c.args.out.now ++ l) (item-written c.args.prefixes.now c.args.item.now more))
+returns c = rw (← c.spelled-name.ensures) (c.in_ok-push_value.ensures c.args.out.now (item_attrs c.args.item.now) c.in_ok-push_item_start.ensures)

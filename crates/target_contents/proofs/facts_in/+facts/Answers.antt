@@ -12,7 +12,7 @@ use Rattle.ix_base.specs.Membership.{members}
 use Rattle.id_table.specs.Tables.{all_located}
 use Rattle.tuples.specs.Model.{AreMembersOf}
 use Rattle.target_contents.specs.LinkedSets.{BasedElements, SaysIn}
-use Rattle.target_contents.specs.TargetFacts.{IsFactOf}
+use Rattle.target_contents.specs.TargetFacts.{AreFacts, IsFactOf}
 use Rattle.target_contents.proofs.AmongLaws.{located-more, members-among, spot-at, spots-are, un-not}
 use Rattle.target_contents.proofs.FactsLaws.{Each, each-push, facts-each, read-less, tuple-fact}
 use Rattle.target_contents.proofs.facts_in.+facts.Goals as goal
@@ -27,9 +27,9 @@ facts_at-loop-spot-preserved-then-ne t c =
     let R = IsFactOf (SaysIn c.args.valued.now) c.args.valued.now.elements c.args.depth in
     let before = all_located (take c.loop-spot.spot-index c.args.spots.now) in
     let e = located c.spot-item.result.now in
-    subst (λ (es : List Located). Each R es c.push.new.self) (sym (located-more c.args.spots.now c.loop-spot.spot-index c.spot-item.result c.loop-spot-test.true c.spot-item.is))
-    (subst (λ (fs : List Fact). Each R (before ++ e ∷ []) fs) (sym c.in_ok-push.ensures.ok)
-    (each-push R before c.loop-spot.facts e c.in_ok-item.item c.loop-spot.invariant (c.in_ok-item.ensures c.args.depth)))
+    subst (λ (es : List Located). Each R es c.push.new.self.items) (sym (located-more c.args.spots.now c.loop-spot.spot-index c.spot-item.result c.loop-spot-test.true c.spot-item.is))
+    (subst (λ (fs : List Fact). Each R (before ++ e ∷ []) fs) (sym c.in_ok-push.ensures.items)
+    (each-push R before c.loop-spot.facts.items e c.in_ok-item.item c.loop-spot.invariant (c.in_ok-item.ensures c.args.depth)))
 
 pub facts_at-loop-spot-preserved : goal.facts_at-loop-spot-preserved
 facts_at-loop-spot-preserved t c =
@@ -37,18 +37,20 @@ facts_at-loop-spot-preserved t c =
     let before = all_located (take c.loop-spot.spot-index c.args.spots.now) in
     let e = located c.spot-item.result.now in
     let tuple : is_tuple e ≡ true = ap (λ k. same_kind k kind.Tuple) (sym c.kind_of.ensures) ∙ un-not _ _ c.ne.ensures c.if-ne.false in
-    subst (λ (es : List Located). Each R es c.push-in-loop-spot.new.self)
+    subst (λ (es : List Located). Each R es c.push-in-loop-spot.new.self.items)
     (sym (located-more c.args.spots.now c.loop-spot.spot-index c.spot-item.result c.loop-spot-test.true c.spot-item.is))
-    (subst (λ (fs : List Fact). Each R (before ++ e ∷ []) fs) (sym c.in_ok-push-2.ensures.ok)
-    (each-push R before c.loop-spot.facts e c.in_ok-tuple.tuple c.loop-spot.invariant
+    (subst (λ (fs : List Fact). Each R (before ++ e ∷ []) fs) (sym c.in_ok-push-2.ensures.items)
+    (each-push R before c.loop-spot.facts.items e c.in_ok-tuple.tuple c.loop-spot.invariant
     (tuple-fact (SaysIn c.args.valued.now) c.args.valued.now.elements c.args.depth e c.in_ok-tuple.tuple (facts_of c.in_ok-members.members) tuple
     c.in_ok-tuple.ensures c.in_ok-members.ensures)))
 
 pub facts_at-returns : goal.facts_at-returns
 facts_at-returns t c =
     let R = IsFactOf (SaysIn c.args.valued.now) c.args.valued.now.elements c.args.depth in
-    facts-each (SaysIn c.args.valued.now) c.args.valued.now.elements c.args.depth (all_located c.args.spots.now) c.loop-spot.facts
-    (subst (λ (es : List Located). Each R es c.loop-spot.facts) (ap all_located (take_all c.loop-spot.spot-index c.args.spots.now c.loop-spot-test.false)) c.loop-spot.invariant)
+    let facts = c.loop-spot.facts.items in
+    subst (λ (fs : List Fact). AreFacts (SaysIn c.args.valued.now) c.args.valued.now.elements c.args.depth (all_located c.args.spots.now) (facts_of fs)) (sym c.of.ensures)
+    (facts-each (SaysIn c.args.valued.now) c.args.valued.now.elements c.args.depth (all_located c.args.spots.now) facts
+    (subst (λ (es : List Located). Each R es facts) (ap all_located (take_all c.loop-spot.spot-index c.args.spots.now c.loop-spot-test.false)) c.loop-spot.invariant))
 
 pub members_in-facts_at-requires : goal.members_in-facts_at-requires
 members_in-facts_at-requires t c =

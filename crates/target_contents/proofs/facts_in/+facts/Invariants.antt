@@ -14,4 +14,4 @@ decreases-members_in l = l.depth + l.depth
 
 -- the facts before here are made
 abbrev pub invariant-facts_at-loop-spot : goal.invariant-facts_at-loop-spot
-invariant-facts_at-loop-spot l = Each (IsFactOf (SaysIn l.valued) l.valued.elements l.depth) (all_located (take l.spot-index l.spots)) l.facts
+invariant-facts_at-loop-spot l = Each (IsFactOf (SaysIn l.valued) l.valued.elements l.depth) (all_located (take l.spot-index l.spots)) l.facts.items

@@ -1,0 +1,8 @@
+use Rattle.std.proofs.Common.{refl, ◌∷◌, []}
+use Rattle.instance_lines.proofs.SpaceLaws.{step-spaces}
+use Rattle.instance_lines.proofs.spaces.add_all.Goals as goal
+
+pub loop-name-preserved : goal.loop-name-preserved
+loop-name-preserved c more =
+    step-spaces (λ ns. ns) (λ n. n ∷ []) c.args.names.now c.loop-name.name-index c.name-item.result _ _ _ more
+    c.loop-name-test.true c.name-item.is (λ ys. refl) c.in_ok-add.ensures (c.loop-name.invariant more)

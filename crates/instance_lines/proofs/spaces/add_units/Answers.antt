@@ -1,0 +1,12 @@
+use Rattle.std.proofs.Common.{refl, append_assoc}
+use Rattle.std.specs.Prelude.{flat_map}
+use Rattle.instance_lines.specs.Canonical.{unit_names}
+use Rattle.instance_lines.proofs.SpaceLaws.{step-spaces}
+use Rattle.instance_lines.proofs.spaces.add_units.Goals as goal
+
+pub loop-unit-preserved : goal.loop-unit-preserved
+loop-unit-preserved c more =
+    step-spaces (flat_map unit_names) unit_names c.args.units.now c.loop-unit.unit-index c.unit-item.result _ _ _ more
+    c.loop-unit-test.true c.unit-item.is (λ ys. refl)
+    (λ m. rw (c.in_ok-add_all-2.ensures, c.in_ok-add_all.ensures, c.as_slice.ensures, c.as_slice-in-loop-unit.ensures, append_assoc) refl)
+    (c.loop-unit.invariant more)

@@ -1,0 +1,6 @@
+use Rattle.std.proofs.Common.{◌∙◌}
+use Rattle.target_contents.proofs.GatherLaws.{gathers-all}
+use Rattle.target_contents.proofs.parts.ids_named.Goals as goal
+
+pub returns : goal.returns
+returns c = c.each_once.ensures ∙ gathers-all _ _ c.in_ok-ids.ensures
