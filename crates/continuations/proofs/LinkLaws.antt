@@ -1,9 +1,8 @@
 -- What the numbered elements of a set say of all of it.
-use Rattle.std.proofs.Common.{◌≡◌, ◌∙◌, ◌++◌, ◌+◌, ◌<◌, ◌≤◌, ℕ, Bool, true, false, cond, List, [], ◌∷◌, length, get_or, take, refl, ap, sym, subst, append_assoc, append-nil, Option, Some, None, option_map}
+use Rattle.std.proofs.Common.{◌≡◌, ◌∙◌, ◌++◌, ◌+◌, ◌<◌, ℕ, Bool, true, false, cond, List, [], ◌∷◌, length, get_or, take, refl, ap, sym, subst, append-nil, Option, Some, None, option_map}
 use Rattle.std.proofs.lemmas.Bool.{true≢false, or_left, or_right}
 use Rattle.std.proofs.Math.Seq.{take-append_seam}
-use Rattle.std.proofs.lemmas.List.{length-map, map-append, take_all, take_more, take-map}
-use Rattle.std.proofs.lemmas.List.Elements.{All-append, All-filter, filter-append}
+use Rattle.std.proofs.lemmas.List.{length-map, take-map}
 use Rattle.std.specs.Borrow.{Bor}
 use Rattle.std.specs.Prelude.{◌&&◌, ◌||◌, is_some, is_none, option_and_then}
 use Rattle.std.specs.List.{filter, flat_map, list_any, slice_get}
@@ -14,11 +13,9 @@ use Rattle.ix_base.specs.Asks.{Asks, asks}
 use Rattle.ix_base.specs.declared.tree.Spot.{Spot}
 use Rattle.ix_base.specs.Chain.{continuation, continued_at}
 use Rattle.ix_base.specs.LinkRules.{breaking, breaks_link, broken_at, found_at, lacks_continuation}
-use Rattle.ix_base.specs.LocatedElements.{Located, located, is_continuation, is_start, may_go_on}
+use Rattle.ix_base.specs.LocatedElements.{Located, located, is_continuation, is_start}
 use Rattle.ix_base.specs.Rows.{row}
-use Rattle.ix_base.specs.Spots.{IsOnOnePage}
-use Rattle.id_table.specs.Tables.{all_located, AreOnOwnPages}
-use Rattle.id_table.proofs.Asking.{map-filter}
+use Rattle.id_table.specs.Tables.{all_located}
 use Rattle.continuations.specs.Numbers.{NameNexts}
 use Rattle.continuations.specs.Walks.{AreNexts}
 use Rattle.continuations.proofs.KeptLaws.{some-map}
@@ -27,7 +24,6 @@ use Rattle.continuations.proofs.Inner.{any-in, in-any}
 use Rattle.continuations.proofs.Reaching.{same-bool}
 use Rattle.continuations.proofs.SeenLaws.{any-append}
 use Rattle.id_table.proofs.RowLemmas.{located-take}
-use Rattle.id_table.proofs.Sorting.{filter-within}
 
 or-false : (b : Bool) → (b || false) ≡ b
 or-false true = refl
@@ -125,55 +121,9 @@ linked es both spots count ns all n same names len =
     (links-are (asks es) (filter is_continuation es) (filter is_start es) (all_located spots) ns count (length spots) (ap all_located same ∙ all) n len
     (sym (length-map spots (λ (s : Bor Spot). located s.now))) names)
 
--- the continuations, and behind them the elements with which chains begin
-pub first-spots : (es : List Located) (none first : List (Bor Spot)) → none ≡ [] → all_located first ≡ all_located none ++ filter is_continuation es → all_located first ≡ filter is_continuation es
-first-spots es none first e f = f ∙ ap (λ (xs : List (Bor Spot)). all_located xs ++ filter is_continuation es) e
-
 -- so many in front are the continuations
 pub first-numbers : (es : List Located) (spots : List (Bor Spot)) (count : ℕ) → all_located spots ≡ filter is_continuation es ++ filter is_start es
     → count ≡ length (filter is_continuation es) → all_located (take count spots) ≡ filter is_continuation es
 first-numbers es spots count all n =
     sym (take-map (λ (s : Bor Spot). located s.now) count spots) ∙ ap (take count) all ∙ ap (λ k. take k (filter is_continuation es ++ filter is_start es)) n
     ∙ take-append_seam (filter is_continuation es) (filter is_start es)
-
--- those of some kind of the elements of a set are added
-abbrev kept : (Located → Bool) → List (Bor Spot) → List (Bor Spot)
-kept p spots = filter (λ (s : Bor Spot). p (located s.now)) spots
-
-kept-more : (p : Located → Bool) (spots : List (Bor Spot)) (i : ℕ) (s : Bor Spot) (b : Bool) → i < length spots → s ≡ get_or spots i s → p (located s.now) ≡ b
-    → kept p (take i spots) ++ cond b (s ∷ []) [] ≡ kept p (take (i + 1) spots)
-kept-more p spots i s b l e is =
-    ap (λ c. kept p (take i spots) ++ cond c (s ∷ []) []) (sym is) ∙ sym (filter-append (λ (t : Bor Spot). p (located t.now)) (take i spots) (s ∷ []))
-    ∙ ap (λ t. kept p (take i spots ++ t ∷ [])) e ∙ ap (kept p) (sym (take_more spots i s l))
-
--- one more is added where it is of the kind
-pub pushed-one : (p : Located → Bool) (old now new spots : List (Bor Spot)) (i : ℕ) (s : Bor Spot) → i < length spots → s ≡ get_or spots i s → p (located s.now) ≡ true
-    → new ≡ now ++ s ∷ [] → now ≡ old ++ filter (λ s. p (located s.now)) (take i spots) → new ≡ old ++ filter (λ s. p (located s.now)) (take (i + 1) spots)
-pushed-one p old now new spots i s l e is n h =
-    n ∙ ap (λ xs. xs ++ s ∷ []) h ∙ append_assoc old (kept p (take i spots)) (s ∷ []) ∙ ap (λ xs. old ++ xs) (kept-more p spots i s true l e is)
-
-pub pushed-none : (p : Located → Bool) (old now spots : List (Bor Spot)) (i : ℕ) (s : Bor Spot) → i < length spots → s ≡ get_or spots i s → p (located s.now) ≡ false
-    → now ≡ old ++ filter (λ s. p (located s.now)) (take i spots) → now ≡ old ++ filter (λ s. p (located s.now)) (take (i + 1) spots)
-pushed-none p old now spots i s l e is h =
-    h ∙ ap (λ xs. old ++ xs) (sym (append-nil (kept p (take i spots))) ∙ kept-more p spots i s false l e is)
-
-pub pushed : (p : Located → Bool) (old new spots : List (Bor Spot)) (i : ℕ) (es : List Located) → length spots ≤ i → all_located spots ≡ es
-    → new ≡ old ++ filter (λ s. p (located s.now)) (take i spots) → all_located new ≡ all_located old ++ filter p es
-pushed p old new spots i es all e h =
-    ap all_located (h ∙ ap (λ (ss : List (Bor Spot)). old ++ kept p ss) (take_all i spots all))
-    ∙ map-append (λ (s : Bor Spot). located s.now) old (kept p spots)
-    ∙ ap (λ xs. all_located old ++ xs) (map-filter (λ (s : Bor Spot). located s.now) p spots ∙ ap (filter p) e)
-
-pub pushed-pages : (p : Located → Bool) (old new spots : List (Bor Spot)) (i : ℕ) → length spots ≤ i → new ≡ old ++ filter (λ s. p (located s.now)) (take i spots)
-    → AreOnOwnPages old → AreOnOwnPages spots → AreOnOwnPages new
-pushed-pages p old new spots i all h before each =
-    subst AreOnOwnPages (sym (h ∙ ap (λ (ss : List (Bor Spot)). old ++ kept p ss) (take_all i spots all)))
-    (All-append (λ (s : Bor Spot). IsOnOnePage s.now) old (kept p spots) before
-    (All-filter (λ (s : Bor Spot). p (located s.now)) (λ (s : Bor Spot). IsOnOnePage s.now) spots each))
-
--- what begins chains and what goes on in them is found among the elements of chains
-pub continuations-of : (es : List Located) → filter is_continuation (filter may_go_on es) ≡ filter is_continuation es
-continuations-of = filter-within is_continuation may_go_on (λ e h. or_right (is_start e) (is_continuation e) h)
-
-pub starts-of : (es : List Located) → filter is_start (filter may_go_on es) ≡ filter is_start es
-starts-of = filter-within is_start may_go_on (λ e h. or_left (is_start e) (is_continuation e) h)

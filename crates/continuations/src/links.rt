@@ -1,5 +1,5 @@
 //! The elements of chains, numbered, so that a walk from one to the next takes no look-up.
-ghost use Rattle.std.specs.Prelude.{◌≡◌, ◌++◌, ◌&&◌, OnOk, IfOk, is_some, is_none, length, filter};
+ghost use Rattle.std.specs.Prelude.{◌≡◌, ◌++◌, ◌&&◌, IfOk, is_some, is_none, length, filter};
 ghost use Rattle.std.specs.List.{list_any};
 ghost use Rattle.ix_base.specs.Chain as chains;
 ghost use Rattle.ix_base.specs.LinkRules.{lacks_continuation};
@@ -14,7 +14,7 @@ ghost use Rattle.continuations.specs.Walks.{AreNexts};
 use crate::marks::any_joined;
 use crate::numbers::{number_behind, number_of};
 use id_table::Index;
-use ix_base::{NoMemory, Spot, is_continuation, is_start};
+use ix_base::{NoMemory, Spot};
 use link_ids::continued_at;
 use std::alloc::Global;
 
@@ -80,36 +80,6 @@ fn nexts_of<'a>(
     Ok((nexts, lacks))
 }
 
-/// Adds the continuations of a set.
-fn push_continuations<'a>(index: &Index<'a>, spots: &mut Vec<&'a Spot<'a>>) -> Result<(), NoMemory>
-    requires { AreOnOwnPages spots.old.items }
-    ensures spots { OnOk result (all_located spots.new.items
-        ≡ all_located spots.old.items ++ filter spec_is_continuation index.now.spots) }
-    ensures pages { OnOk result (AreOnOwnPages spots.new.items) }
-{
-    for spot in index.of_chains() {
-        if is_continuation(*spot) {
-            spots.push(*spot)?;
-        }
-    }
-    Ok(())
-}
-
-/// Adds the elements of a set with which chains begin.
-fn push_starts<'a>(index: &Index<'a>, spots: &mut Vec<&'a Spot<'a>>) -> Result<(), NoMemory>
-    requires { AreOnOwnPages spots.old.items }
-    ensures spots { OnOk result (all_located spots.new.items
-        ≡ all_located spots.old.items ++ filter kinds.is_start index.now.spots) }
-    ensures pages { OnOk result (AreOnOwnPages spots.new.items) }
-{
-    for spot in index.of_chains() {
-        if is_start(*spot) {
-            spots.push(*spot)?;
-        }
-    }
-    Ok(())
-}
-
 /// The elements of the chains of a set, continuations first, and how many of these there are.
 fn spots_of<'a>(alloc: Global, index: &Index<'a>) -> Result<(Vec<&'a Spot<'a>>, usize), NoMemory>
     ensures spots { IfOk result (λ r. all_located r.0.items
@@ -117,11 +87,11 @@ fn spots_of<'a>(alloc: Global, index: &Index<'a>) -> Result<(Vec<&'a Spot<'a>>, 
     ensures counted { IfOk result (λ r. r.1 ≡ length (filter spec_is_continuation index.now.spots)) }
     ensures pages { IfOk result (λ r. AreOnOwnPages r.0.items) }
 {
-    let mut spots = Vec::with_capacity(alloc, index.of_chains().len())?;
-    push_continuations(index, &mut spots)?;
-    let continuations = spots.len();
-    push_starts(index, &mut spots)?;
-    Ok((spots, continuations))
+    let continuations = index.continuations();
+    let mut spots = Vec::new(alloc);
+    spots.extend_from_slice(continuations)?;
+    spots.extend_from_slice(index.starts())?;
+    Ok((spots, continuations.len()))
 }
 
 /// The numbers of the continuations at which the elements of the chains of a set go on, and whether one of them goes on

@@ -2,6 +2,7 @@ pub mod AgreeLaws
 pub mod Asking
 pub mod Entering
 pub mod HeldLaws
+pub mod NoTuples
 pub mod OnPages
 pub mod OtherLaws
 pub mod Placing

@@ -1,12 +1,16 @@
 -- Lists of elements by what they are, after one more, and what is known of their elements.
-use Rattle.std.proofs.Common.{◌≡◌, ◌∙◌, ◌++◌, ◌∷◌, [], All, ap, refl, sym, true, false, true≢false, List, Bool, map}
+use Rattle.std.proofs.Common.{◌≡◌, ◌∙◌, ◌++◌, ◌∷◌, [], ◌||◌, All, ap, refl, sym, true, false, true≢false, List, Bool, map}
+use Rattle.std.proofs.Math.Bool.{or-false}
+use Rattle.std.proofs.lemmas.List.{map-append}
+use Rattle.std.proofs.lemmas.List.Folds.{list_any-append}
 use Rattle.std.proofs.lemmas.List.Elements.{All-filter, filter-append}
 use Rattle.std.specs.Borrow.{Bor}
-use Rattle.std.specs.List.{filter, flat_map}
+use Rattle.std.specs.List.{filter, flat_map, list_any}
 use Rattle.ix_base.specs.declared.tree.Spot.{Spot}
-use Rattle.ix_base.specs.LocatedElements.{Located, is_fact, located, may_go_on}
+use Rattle.ix_base.specs.LocatedElements.{Located, is_continuation, is_fact, is_start, located}
 use Rattle.ix_base.specs.Spots.{IsOnOnePage}
 use Rattle.id_table.specs.declared.lists.Lists.{Lists}
+use Rattle.id_table.specs.Model.{has_own_target, is_of_tuples}
 use Rattle.id_table.specs.Tables.{AreOnOwnPages, AreSorted, all_located, is_other, spots_where, such_spots}
 
 one-such : (p : Located → Bool) (s : Bor Spot) → such_spots p (s ∷ []) ≡ spots_where (p (located s.now)) s
@@ -21,14 +25,28 @@ such-more p old new spots now s more was is =
     is ∙ ap (λ xs. xs ++ spots_where (p (located s.now)) s) was ∙ ap (λ xs. such_spots p spots ++ xs) (sym (one-such p s))
     ∙ sym (filter-append (λ (x : Bor Spot). p (located x.now)) spots (s ∷ [])) ∙ ap (such_spots p) (sym more)
 
+-- whether there is any, after one more
+any-more : (p : Located → Bool) (old new : Bool) (spots now : List (Bor Spot)) (s : Bor Spot) → now ≡ spots ++ s ∷ []
+    → old ≡ list_any p (all_located spots) → new ≡ (old || p (located s.now)) → new ≡ list_any p (all_located now)
+any-more p old new spots now s more was is =
+    is ∙ ap (λ b. b || p (located s.now)) was ∙ ap (λ b. list_any p (all_located spots) || b) (sym (or-false (p (located s.now))))
+    ∙ sym (list_any-append p (all_located spots) (located s.now ∷ []))
+    ∙ ap (list_any p) (sym (map-append (λ (x : Bor Spot). located x.now) spots (s ∷ []))) ∙ ap (λ xs. list_any p (all_located xs)) (sym more)
+
 pub sorted-more : (old new : Lists) (spots now : List (Bor Spot)) (s : Bor Spot) → now ≡ spots ++ s ∷ [] → AreSorted old spots
     → new.facts.items ≡ old.facts.items ++ spots_where (is_fact (located s.now)) s
-    → new.of_chains.items ≡ old.of_chains.items ++ spots_where (may_go_on (located s.now)) s
-    → new.others.items ≡ old.others.items ++ spots_where (is_other (located s.now)) s → AreSorted new now
-sorted-more old new spots now s more was facts chains others = record {
+    → new.starts.items ≡ old.starts.items ++ spots_where (is_start (located s.now)) s
+    → new.continuations.items ≡ old.continuations.items ++ spots_where (is_continuation (located s.now)) s
+    → new.others.items ≡ old.others.items ++ spots_where (is_other (located s.now)) s
+    → new.has_tuples ≡ (old.has_tuples || is_of_tuples (located s.now)) → new.has_targets ≡ (old.has_targets || has_own_target (located s.now))
+    → AreSorted new now
+sorted-more old new spots now s more was facts starts continuations others tuples targets = record {
   facts = such-more is_fact old.facts.items new.facts.items spots now s more was.facts facts;
-  of_chains = such-more may_go_on old.of_chains.items new.of_chains.items spots now s more was.of_chains chains;
+  starts = such-more is_start old.starts.items new.starts.items spots now s more was.starts starts;
+  continuations = such-more is_continuation old.continuations.items new.continuations.items spots now s more was.continuations continuations;
   others = such-more is_other old.others.items new.others.items spots now s more was.others others;
+  has_tuples = any-more is_of_tuples old.has_tuples new.has_tuples spots now s more was.has_tuples tuples;
+  has_targets = any-more has_own_target old.has_targets new.has_targets spots now s more was.has_targets targets;
 }
 
 -- the elements of such spots are such elements

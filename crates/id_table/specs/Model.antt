@@ -1,10 +1,12 @@
 -- What is to be known of an index.
-use Rattle.std.specs.Prelude.{◌≡◌, Bool, true, false, ◌&&◌, ◌||◌, ℕ, List, [], ◌∷◌, Contains, Option, Some, None, is_none, is_some, if◌then◌else◌, bytes_eq}
+use Rattle.std.specs.Prelude.{◌≡◌, Bool, true, false, ◌&&◌, ◌||◌, ℕ, List, [], ◌∷◌, not, All, Contains, Option, Some, None, is_none, is_some, if◌then◌else◌, bytes_eq}
 use Rattle.std.specs.Option.{option_map_or}
 use Rattle.ix_base.specs.Asks.{Asks, asks, are_many}
+use Rattle.ix_base.specs.Forms.{is_empty}
 use Rattle.ix_base.specs.Ids.{id_of, tuple_id_of, holds_id, holds_tuple_id, agree, is_part, sole}
-use Rattle.ix_base.specs.LinkRules.{found_at}
-use Rattle.ix_base.specs.LocatedElements.{Located}
+use Rattle.ix_base.specs.LinkRules.{found_at, target_of}
+use Rattle.ix_base.specs.LocatedElements.{Located, is_tuple}
+use Rattle.ix_base.specs.Membership.{owner, tuple_ref_of}
 use Rattle.ix_base.specs.Rows.{row}
 use Rattle.ix_base.specs.declared.breach.Found.{Found}
 use Rattle.ix_base.specs.declared.rule.Rule.TheVariants.{L1}
@@ -59,6 +61,18 @@ AreChosen h = (id : List ℕ) → is_some (chosen h id) ≡ (are_many (asked h) 
 pub record IsApart (h : Held) : Type 0 where
   pub ids : (id : List ℕ) → are_many (asked h) (holds_id id) ≡ false
   pub tuple_ids : (id : List ℕ) → are_many (asked h) (holds_tuple_id id) ≡ false
+
+-- an element that is a tuple, or refers to one by its id
+abbrev pub is_of_tuples : Located → Bool
+is_of_tuples e = is_tuple e || is_some (tuple_ref_of e)
+
+-- no tuple owns any of these elements
+abbrev pub AreUnowned : List Located → Type 0
+AreUnowned es = All (λ e. owner (asks es) e ≡ None) es
+
+-- an element with a target, and not the default one
+abbrev pub has_own_target : Located → Bool
+has_own_target e = not (is_empty (target_of e))
 
 -- another element has the element's id, and none was chosen for it; or another tuple has its tuple id
 abbrev pub repeats_held : Held → Located → Bool

@@ -1,28 +1,29 @@
 //! The marked elements of the pages, found by id, and what was chosen for ids that several have.
-ghost use Rattle.std.specs.Prelude.{◌≡◌, ◌++◌, ◌∷◌, [], ℕ, List, OnOk, OnErr, IfOk, IfSome, IsErr, true, false, ◌&&◌, filter, if◌then◌else◌, bytes_eq, is_none, is_some, option_map, map, flat_map, All, Bool};
+ghost use Rattle.std.specs.Prelude.{◌≡◌, ◌++◌, [], ℕ, List, OnOk, OnErr, IfSome, IsErr, true, false, filter, if◌then◌else◌, bytes_eq, is_some, option_map, map, flat_map, All, Bool};
+ghost use Rattle.std.specs.List.{list_any};
 ghost use Rattle.std.specs.Option.{option_map_or};
 ghost use Rattle.ix_base.specs.declared.kind.Kind.{Kind as KindOf};
 ghost use Rattle.ix_base.specs.declared.rule.Rule.TheVariants.{L1};
-ghost use Rattle.ix_base.specs.Asks.{are_many, if_such};
+ghost use Rattle.ix_base.specs.Asks.{if_such};
 ghost use Rattle.ix_base.specs.Elements.{placed, pages_of};
 ghost use Rattle.ix_base.specs.Fronts.{AppendsFront};
 ghost use Rattle.ix_base.specs.Ids as ids;
 ghost use Rattle.ix_base.specs.Kinds as kinds;
 ghost use Rattle.ix_base.specs.LinkRules.{breaking};
-ghost use Rattle.ix_base.specs.LocatedElements.{Located, is_fact, is_kind, located, may_go_on, page_marked};
+ghost use Rattle.ix_base.specs.LocatedElements.{Located, is_continuation, is_fact, is_kind, is_start, located, page_marked};
 ghost use Rattle.ix_base.specs.Spaces.{AreNumbered, spaces_of};
 ghost use Rattle.ix_base.specs.Spots.{IsOnOnePage};
 ghost use Rattle.ix_base.specs.Trees.{tree_of};
-ghost use Rattle.id_table.specs.Model.{AreChosen, IsApart, IsHeldFor, IsHolder, IsOfOthers, asked, chosen, doubled_at, one_held, repeats_held};
+ghost use Rattle.id_table.specs.Model.{AreChosen, AreUnowned, IsApart, IsHeldFor, IsHolder, IsOfOthers, asked, chosen, doubled_at, has_own_target, is_of_tuples, one_held};
 ghost use Rattle.id_table.specs.Tables.{AreOnOwnPages, all_located, is_other};
 
 use crate::choices::{choice_in, chosen_or_only, set_choice};
+use crate::doubled::add_if_doubled;
 use crate::entries::{Entry, entries_in, entry_at};
 use crate::holders::{count_in, one_in};
 use crate::kept::Kept;
 use bumpalo::Bump;
-use ix_base::{Breaches, Element, NoMemory, Rule, Spot};
-use link_ids::{id_at, tuple_id_at};
+use ix_base::{Breaches, Element, NoMemory, Spot};
 use std::alloc::Global;
 use std::marker::Model;
 
@@ -144,12 +145,20 @@ impl<'a> Index<'a> {
         self.kept.tables.lists.facts.as_slice()
     }
 
-    /// The elements with which chains begin and the continuations, in order. It takes no memory.
-    pub fn of_chains(&self) -> &[&'a Spot<'a>]
-        ensures elements { all_located result.now ≡ filter may_go_on self.now.spots }
+    /// The elements with which chains begin, in order. It takes no memory.
+    pub fn starts(&self) -> &[&'a Spot<'a>]
+        ensures elements { all_located result.now ≡ filter is_start self.now.spots }
         ensures pages { AreOnOwnPages result.now }
     {
-        self.kept.tables.lists.of_chains.as_slice()
+        self.kept.tables.lists.starts.as_slice()
+    }
+
+    /// The continuations, in order. It takes no memory.
+    pub fn continuations(&self) -> &[&'a Spot<'a>]
+        ensures elements { all_located result.now ≡ filter is_continuation self.now.spots }
+        ensures pages { AreOnOwnPages result.now }
+    {
+        self.kept.tables.lists.continuations.as_slice()
     }
 
     /// The elements that are neither facts nor of chains, in order: contexts, units, references, relationships and what is around
@@ -199,66 +208,24 @@ impl<'a> Index<'a> {
     }
 
     /// Whether something was chosen for the id.
-    fn is_chosen(&self, id: &str) -> bool
+    pub(crate) fn is_chosen(&self, id: &str) -> bool
         ensures { result ≡ is_some (chosen self.now id.now) }
     {
         choice_in(&self.kept.choices, id).is_some()
     }
 
     /// How many marked elements have the id.
-    fn count(&self, id: &str) -> usize
+    pub(crate) fn count(&self, id: &str) -> usize
         ensures { result ≡ (asked self.now).count (ids.holds_id id.now) }
     {
         entries_in(&self.kept.tables.ids, &self.none, id).len()
     }
 
     /// How many tuples have the tuple id.
-    fn count_tuples(&self, id: &str) -> usize
+    pub(crate) fn count_tuples(&self, id: &str) -> usize
         ensures { result ≡ (asked self.now).count (ids.holds_tuple_id id.now) }
     {
         count_in(&self.kept.tables.tuples, id)
-    }
-
-    /// Whether another element has the id, and nothing was chosen for it.
-    fn is_doubled(&self, id: &str) -> bool
-        ensures { result ≡ (are_many (asked self.now) (ids.holds_id id.now) && is_none (chosen self.now id.now)) }
-    {
-        self.count(id) > 1 && !self.is_chosen(id)
-    }
-
-    fn repeats_own_id(&self, spot: &Spot<'_>) -> bool
-        ensures { result ≡ option_map_or (λ id. are_many (asked self.now) (ids.holds_id id) && is_none (chosen self.now id))
-            (ids.id_of (located spot.now)) false }
-    {
-        match id_at(spot) {
-            Some(id) => self.is_doubled(id),
-            None => false,
-        }
-    }
-
-    fn repeats_tuple_id(&self, spot: &Spot<'_>) -> bool
-        ensures { result
-            ≡ option_map_or (λ id. are_many (asked self.now) (ids.holds_tuple_id id)) (ids.tuple_id_of (located spot.now)) false }
-    {
-        match tuple_id_at(spot) {
-            Some(id) => self.count_tuples(id) > 1,
-            None => false,
-        }
-    }
-
-    /// Whether another element has the element's id without a choice for it, or another tuple its tuple id.
-    fn repeats_id(&self, spot: &Spot<'_>) -> bool
-        ensures { result ≡ repeats_held self.now (located spot.now) }
-    {
-        self.repeats_own_id(spot) || self.repeats_tuple_id(spot)
-    }
-
-    /// Adds an element where another has its id and nothing was chosen for it, or another tuple its tuple id.
-    fn add_if_doubled(&self, spot: &Spot<'_>, breaches: &mut Breaches) -> Result<(), NoMemory>
-        ensures ok { OnOk result (breaches.new ≡ breaches.old ++ doubled_at self.now (located spot.now)) }
-        ensures err { OnErr result (breaches.new ≡ breaches.old) }
-    {
-        breaches.add_if(spot.element.place, Rule::L1, self.repeats_id(spot))
     }
 
     /// Whether an id or a tuple id was met again. It takes no memory.
@@ -267,6 +234,21 @@ impl<'a> Index<'a> {
         ensures met { result ≡ true → ¬ IsApart self.now }
     {
         self.kept.tables.repeats
+    }
+
+    /// Whether one of the elements is a tuple or refers to one. It takes no memory.
+    pub fn has_tuples(&self) -> bool
+        ensures tuples { result ≡ list_any is_of_tuples self.now.spots }
+        ensures unowned { result ≡ false → AreUnowned self.now.spots }
+    {
+        self.kept.tables.lists.has_tuples
+    }
+
+    /// Whether one of the elements has a target, and not the default one. It takes no memory.
+    pub fn has_targets(&self) -> bool
+        ensures { result ≡ list_any has_own_target self.now.spots }
+    {
+        self.kept.tables.lists.has_targets
     }
 
     /// Adds exactly the elements of each id that several have and for which nothing was chosen, and the tuples that share a
@@ -285,7 +267,7 @@ impl<'a> Index<'a> {
             return Ok(());
         }
         for spot in self.spots() {
-            self.add_if_doubled(spot, breaches)?;
+            add_if_doubled(self, spot, breaches)?;
         }
         Ok(())
     }

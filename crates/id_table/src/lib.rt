@@ -2,6 +2,7 @@
 #![tactic(auto)]
 
 mod choices;
+mod doubled;
 mod entries;
 mod holders;
 mod index;

@@ -1,12 +1,14 @@
 //! Elements by what they are for links and facts.
-ghost use Rattle.std.specs.Prelude.{◌≡◌, ◌++◌, ◌∷◌, [], OnOk};
+ghost use Rattle.std.specs.Prelude.{◌≡◌, ◌++◌, [], ◌||◌, OnOk};
 ghost use Rattle.ix_base.specs.LocatedElements as located_elements;
 ghost use Rattle.ix_base.specs.Elements.{placed};
 ghost use Rattle.ix_base.specs.Kinds as kinds;
 ghost use Rattle.ix_base.specs.LocatedElements.{located};
+ghost use Rattle.id_table.specs.Model.{has_own_target as spec_has_own_target, is_of_tuples as spec_is_of_tuples};
 ghost use Rattle.id_table.specs.Tables.{AreSorted, is_other as spec_is_other, spots_where};
 
-use ix_base::{Kind, NoMemory, Spot, may_go_on};
+use ix_base::{Kind, NoMemory, Spot, is_start, token_at};
+use link_ids::tuple_ref;
 use std::alloc::Global;
 
 /// Elements by what they are, each list in order, so that whoever speaks of facts alone, say, doesn't look at all elements. An element
@@ -14,18 +16,27 @@ use std::alloc::Global;
 pub struct Lists<'a> {
     /// Items and tuples.
     pub facts: Vec<&'a Spot<'a>>,
-    /// The elements of chains: those with which one begins, and continuations.
-    pub of_chains: Vec<&'a Spot<'a>>,
+    /// The elements with which chains begin.
+    pub starts: Vec<&'a Spot<'a>>,
+    /// The elements at which others go on.
+    pub continuations: Vec<&'a Spot<'a>>,
     /// All that are neither.
     pub others: Vec<&'a Spot<'a>>,
+    /// Whether one of the elements is a tuple or refers to one.
+    pub has_tuples: bool,
+    /// Whether one of the elements has a target, and not the default one.
+    pub has_targets: bool,
 }
 
 impl Drop for Lists<'_> {
     fn drop(self) {
         let Lists {
             facts: _,
-            of_chains: _,
+            starts: _,
+            continuations: _,
             others: _,
+            has_tuples: _,
+            has_targets: _,
         } = self;
     }
 }
@@ -44,6 +55,24 @@ fn push_where<'a>(
     Ok(())
 }
 
+/// Whether an element of a kind is a tuple or refers to one.
+fn is_of_tuples(spot: &Spot<'_>, kind: Kind) -> bool
+    requires { kind ≡ kinds.kind_of (placed spot.now) }
+    ensures { result ≡ spec_is_of_tuples (located spot.now) }
+{
+    kind == Kind::Tuple || tuple_ref(spot).is_some()
+}
+
+/// Whether an element has a target, and not the default one.
+fn has_own_target(spot: &Spot<'_>) -> bool
+    ensures { result ≡ spec_has_own_target (located spot.now) }
+{
+    match token_at(spot.element, "target") {
+        Some(target) => !target.is_empty(),
+        None => false,
+    }
+}
+
 impl<'a> Lists<'a> {
     /// Lists of no elements. It takes no memory.
     pub fn new(alloc: Global) -> Lists<'a>
@@ -51,8 +80,11 @@ impl<'a> Lists<'a> {
     {
         Lists {
             facts: Vec::new(alloc),
-            of_chains: Vec::new(alloc),
+            starts: Vec::new(alloc),
+            continuations: Vec::new(alloc),
             others: Vec::new(alloc),
+            has_tuples: false,
+            has_targets: false,
         }
     }
 
@@ -61,15 +93,27 @@ impl<'a> Lists<'a> {
         requires { kind ≡ kinds.kind_of (placed spot.now) }
         ensures facts { OnOk result (self.new.facts.items
             ≡ self.old.facts.items ++ spots_where (located_elements.is_fact (located spot.now)) spot.entry) }
-        ensures chains { OnOk result (self.new.of_chains.items
-            ≡ self.old.of_chains.items ++ spots_where (located_elements.may_go_on (located spot.now)) spot.entry) }
+        ensures starts { OnOk result (self.new.starts.items
+            ≡ self.old.starts.items ++ spots_where (located_elements.is_start (located spot.now)) spot.entry) }
+        ensures continuations { OnOk result (self.new.continuations.items
+            ≡ self.old.continuations.items ++ spots_where (located_elements.is_continuation (located spot.now)) spot.entry) }
         ensures others { OnOk result (self.new.others.items
             ≡ self.old.others.items ++ spots_where (spec_is_other (located spot.now)) spot.entry) }
+        ensures tuples { OnOk result (self.new.has_tuples ≡ (self.old.has_tuples || spec_is_of_tuples (located spot.now))) }
+        ensures targets { OnOk result (self.new.has_targets ≡ (self.old.has_targets || spec_has_own_target (located spot.now))) }
     {
+        self.has_tuples = self.has_tuples || is_of_tuples(spot, kind);
+        self.has_targets = self.has_targets || has_own_target(spot);
         let is_fact = kind.is_fact();
-        let is_of_chains = may_go_on(spot);
+        let is_start = is_start(spot);
+        let is_continuation = kind == Kind::Continuation;
         push_where(&mut self.facts, spot, is_fact)?;
-        push_where(&mut self.of_chains, spot, is_of_chains)?;
-        push_where(&mut self.others, spot, !is_fact && !is_of_chains)
+        push_where(&mut self.starts, spot, is_start)?;
+        push_where(&mut self.continuations, spot, is_continuation)?;
+        push_where(
+            &mut self.others,
+            spot,
+            !is_fact && !is_start && !is_continuation,
+        )
     }
 }

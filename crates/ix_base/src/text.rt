@@ -60,7 +60,8 @@ impl Held {
     }
 }
 
-/// A text that is owned. Contracts see it as its bytes, in UTF-8. One of at most 16 bytes takes no memory of its own.
+/// A text that is owned. Contracts see it as its bytes, in UTF-8. One of at most 16 bytes that was made with no room for
+/// more takes no memory of its own.
 #[derive(Debug)]
 pub struct Text {
     alloc: Global,

@@ -7,7 +7,7 @@ use Rattle.std.specs.Option.{option_map_or}
 use Rattle.std.specs.Ordering.{on}
 use Rattle.std.specs.Prelude.{◌&&◌, is_some}
 use Rattle.std.proofs.lemmas.List.{map-append, take_more}
-use Rattle.std.proofs.lemmas.List.Elements.{All-nil, All-cons, All-get_or, All-head, All-tail, All-contains_itself, All-weaker, filter_map-append}
+use Rattle.std.proofs.lemmas.List.Elements.{All-nil, All-cons, All-get_or, All-head, All-tail, All-contains, All-contains_itself, All-weaker, filter_map-append}
 use Rattle.std.specs.Borrow.{Bor}
 use Rattle.std.specs.declared.cmp.Ordering.{Ordering}
 use Rattle.std.specs.declared.cmp.Ordering.TheVariants.{Less, Equal, Greater}
@@ -18,7 +18,9 @@ use Rattle.ix_base.specs.Membership.{is_owned_by, members, order_of, owner}
 use Rattle.ix_base.specs.Orders.{order_cmp}
 use Rattle.ix_base.specs.SortedLists.{put, put_by, sorted}
 use Rattle.ix_base.proofs.OnceLemmas.{Contains-from_filter}
+use Rattle.id_table.specs.Model.{AreUnowned}
 use Rattle.id_table.specs.Tables.{all_located}
+use Rattle.tuples.specs.Model.{AreMembersOf, Kept, owner_in}
 use Rattle.target_contents.specs.Visits.{AreAmong}
 
 pub &&-left : (a b : Bool) → (a && b) ≡ true → a ≡ true
@@ -96,6 +98,17 @@ outer-more xs new s false n e = ap all_located n ∙ map-append (λ (x : Bor Spo
 pub outer-same : (xs : List (Bor Spot)) (s : Bor Spot) (b : Bool) → b ≡ true → all_located xs ≡ all_located xs ++ cond (not b) (located s.now ∷ []) []
 outer-same xs s true e = sym (append-nil (all_located xs))
 outer-same xs s false e = absurd (cc)
+
+-- where no tuple owns any of the set, each has no owner
+pub all-outer : (k : Kept) (es : List Located) (spots : List (Bor Spot)) → AreMembersOf k es → AreUnowned es → AreAmong es spots
+    → all_located spots ≡ filter (λ e. not (is_some (owner_in k e))) (all_located spots)
+all-outer k es [] are unowned among = refl
+all-outer k es (s ∷ spots) are unowned among =
+    let e = located s.now in
+    let rest = filter (λ x. not (is_some (owner_in k x))) (all_located spots) in
+    let none = are.owners e ∙ All-contains (λ x. owner (asks es) x ≡ None) es e unowned (All-head (λ (x : Bor Spot). Contains es (located x.now)) s spots among) in
+    ap (λ xs. e ∷ xs) (all-outer k es spots are unowned (All-tail (λ (x : Bor Spot). Contains es (located x.now)) s spots among))
+    ∙ sym (ap (λ (o : Option Located). cond (not (is_some o)) (e ∷ rest) rest) none)
 
 pub some-same : {X Y Z : Type 0} (f : X → Z) (g : Y → Z) (a : Option X) (b : Option Y) → option_map f a ≡ option_map g b → is_some a ≡ is_some b
 some-same f g None None e = refl

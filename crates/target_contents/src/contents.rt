@@ -1,5 +1,5 @@
 //! The contents of the targets of a set.
-ghost use Rattle.std.specs.Prelude.{◌≡◌, ◌≤◌, ◌++◌, ◌∷◌, [], All, map, filter, not, is_some, IfOk, OnOk};
+ghost use Rattle.std.specs.Prelude.{◌≡◌, ◌≤◌, ◌++◌, ◌∷◌, [], All, map, filter, not, is_some, true, IfOk, OnOk};
 ghost use Rattle.std.specs.List.{flat_map};
 ghost use Rattle.ix_base.specs.Asks.{asks};
 ghost use Rattle.ix_base.specs.LocatedElements.{base_in, located};
@@ -10,21 +10,22 @@ ghost use Rattle.ix_base.specs.declared.limits.TheConstants.{DEEPEST_TUPLE};
 ghost use Rattle.id_table.specs.Tables.{all_located};
 ghost use Rattle.instance_lines.specs.Elements.{lines_of_facts};
 ghost use Rattle.instance_lines.specs.Writable.{IsWritable, depth};
-ghost use Rattle.tuples.specs.Model.{owner_in};
+ghost use Rattle.tuples.specs.Model.{AreMembersOf, owner_in};
 ghost use Rattle.target_contents.specs.Contents as contents;
 ghost use Rattle.target_contents.specs.Contents.{IsContent, IsGathered, target_names};
 ghost use Rattle.target_contents.specs.Gathered.{Gathers};
-ghost use Rattle.target_contents.specs.LinkedSets.{IsValued, SaysIn};
+ghost use Rattle.target_contents.specs.LinkedSets.{IsValued, SaysIn, all_of};
 ghost use Rattle.target_contents.specs.SetOutcomes.{AreAllTargets, AreTargets, CanBeWritten};
-ghost use Rattle.target_contents.specs.Visits.{values_of};
+ghost use Rattle.target_contents.specs.Visits.{AreAmong, values_of};
 ghost use Rattle.target_contents.specs.TargetFacts.{AreFacts};
 
 use crate::facts_in::facts_at;
 use crate::groups::{at, groups_of};
 use crate::linked::{LinkedSet, ValuedSet};
+use crate::links::Linked;
 use crate::notes::{arcroles_for, notes_for, roles_for};
 use crate::outcome::{Outcome, Target};
-use crate::parts::{Ref, contexts_of, ids_named, units_of};
+use crate::parts::{contexts_of, ids_named, units_of};
 use crate::references::{addresses_at, linkbases_at};
 use fact_view::target_of;
 use id_table::Index;
@@ -52,18 +53,24 @@ fn push_outer<'a>(
     Ok(())
 }
 
-/// Those of some elements that have no owner.
+/// Those of some elements that have no owner. Where a set has no tuples, these are all.
 fn outer_of<'a>(
     alloc: Global,
-    members: &Members<'a>,
+    linked: &Linked<'_, 'a>,
     spots: &[&'a Spot<'a>],
 ) -> Result<Vec<&'a Spot<'a>>, NoMemory>
+    requires members { AreMembersOf linked.now.members (all_of linked.now) }
+    requires among { AreAmong (all_of linked.now) spots.now }
     ensures { IfOk result (λ v. all_located v.items
-        ≡ filter (λ e. not (is_some (owner_in members.now e))) (all_located spots.now)) }
+        ≡ filter (λ e. not (is_some (owner_in linked.now.members e))) (all_located spots.now)) }
 {
     let mut outer = Vec::with_capacity(alloc, spots.len())?;
+    if !linked.index.has_tuples() {
+        outer.extend_from_slice(spots)?;
+        return Ok(outer);
+    }
     for spot in spots {
-        push_outer(members, *spot, &mut outer)?;
+        push_outer(&linked.members, *spot, &mut outer)?;
     }
     Ok(outer)
 }
@@ -77,9 +84,9 @@ fn schemas_for<'a>(
     ensures { IfOk result (λ l. l
         ≡ map (rules.address_of (base_in valued.now.bases)) (filter (rules.is_schema_for target.now) valued.now.elements)) }
 {
-    let spots = at(alloc, &valued.groups.schemas, target)?;
+    let spots = at(&valued.groups.schemas, &valued.groups.none, target);
     let set = &valued.set;
-    addresses_at(alloc, set.linked.bases, spots.as_slice())
+    addresses_at(alloc, set.linked.bases, spots)
 }
 
 /// The references to linkbases of a target.
@@ -91,37 +98,25 @@ fn linkbases_for<'a>(
     ensures { IfOk result (λ l. l
         ≡ map (contents.linkbase_at (base_in valued.now.bases)) (filter (contents.is_linkbase_for target.now) valued.now.elements)) }
 {
-    let spots = at(alloc, &valued.groups.linkbases, target)?;
+    let spots = at(&valued.groups.linkbases, &valued.groups.none, target);
     let set = &valued.set;
-    linkbases_at(alloc, set.linked.bases, spots.as_slice())
+    linkbases_at(alloc, set.linked.bases, spots)
 }
 
-/// The contexts that the items of a target name.
-fn contexts_for<'a>(
+/// The contexts and the units that the items of a target name.
+fn parts_for<'a>(
     alloc: Global,
     valued: &ValuedSet<'_, '_, 'a>,
     target: &str,
-) -> Result<List<Context>, NoMemory>
-    ensures { IfOk result (λ l. l ≡ contents.contexts_of valued.now.elements target.now) }
+) -> Result<(List<Context>, List<Unit>), NoMemory>
+    ensures contexts { IfOk result (λ p. p.0 ≡ contents.contexts_of valued.now.elements target.now) }
+    ensures units { IfOk result (λ p. p.1 ≡ contents.units_of valued.now.elements target.now) }
 {
-    let facts = at(alloc, &valued.groups.facts, target)?;
-    let ids = ids_named(alloc, Ref::Context, facts.as_slice())?;
+    let ids = ids_named(alloc, valued.facts_of(target))?;
     let set = &valued.set;
-    contexts_of(alloc, set.linked.index, ids.as_slice())
-}
-
-/// The units that the items of a target name.
-fn units_for<'a>(
-    alloc: Global,
-    valued: &ValuedSet<'_, '_, 'a>,
-    target: &str,
-) -> Result<List<Unit>, NoMemory>
-    ensures { IfOk result (λ l. l ≡ contents.units_of valued.now.elements target.now) }
-{
-    let facts = at(alloc, &valued.groups.facts, target)?;
-    let ids = ids_named(alloc, Ref::Unit, facts.as_slice())?;
-    let set = &valued.set;
-    units_of(alloc, set.linked.index, ids.as_slice())
+    let contexts = contexts_of(alloc, set.linked.index, ids.contexts.as_slice())?;
+    let units = units_of(alloc, set.linked.index, ids.units.as_slice())?;
+    Ok((contexts, units))
 }
 
 /// The facts of a target, members within their tuples.
@@ -134,9 +129,8 @@ fn facts_for<'a>(
         (filter (contents.is_outer (asks valued.now.elements) target.now) valued.now.elements) (facts_of l)) }
     ensures shallow { IfOk result (λ l. depth (facts_of l) ≤ DEEPEST_TUPLE) }
 {
-    let facts = at(alloc, &valued.groups.facts, target)?;
     let set = &valued.set;
-    let outer = outer_of(alloc, &set.linked.members, facts.as_slice())?;
+    let outer = outer_of(alloc, set.linked, valued.facts_of(target))?;
     facts_at(alloc, valued, outer.as_slice(), DEEPEST_TUPLE)
 }
 
@@ -151,8 +145,7 @@ fn gathered<'a>(
 {
     let schemas = schemas_for(alloc, valued, target)?;
     let linkbases = linkbases_for(alloc, valued, target)?;
-    let contexts = contexts_for(alloc, valued, target)?;
-    let units = units_for(alloc, valued, target)?;
+    let (contexts, units) = parts_for(alloc, valued, target)?;
     let facts = facts_for(alloc, valued, target)?;
     let notes = notes_for(alloc, &valued.set, target)?;
     let roles = roles_for(alloc, &valued.set, notes.as_slice())?;
@@ -205,10 +198,29 @@ fn each_target<'a>(alloc: Global, spots: &[&'a Spot<'a>]) -> Result<Vec<&'a str>
     Ok(names)
 }
 
+/// Whether a set has facts, and all targets are the default one.
+fn has_only_default(index: &Index<'_>) -> bool
+    ensures { result ≡ true → target_names index.now.spots ≡ [] ∷ [] }
+{
+    !index.has_targets() && !index.facts().is_empty()
+}
+
+/// The default target alone.
+fn only_default<'a>(alloc: Global) -> Result<Vec<&'a str>, NoMemory>
+    ensures { IfOk result (λ v. values_of v.items ≡ [] ∷ []) }
+{
+    let mut names = Vec::new(alloc);
+    names.push("")?;
+    Ok(names)
+}
+
 /// The targets of a set, in byte order, each once.
 fn names_of<'a>(alloc: Global, index: &Index<'a>) -> Result<Vec<&'a str>, NoMemory>
     ensures { IfOk result (λ v. values_of v.items ≡ target_names index.now.spots) }
 {
+    if has_only_default(index) {
+        return only_default(alloc);
+    }
     let mut names = each_target(alloc, index.spots())?;
     each_once(&mut names);
     Ok(names)

@@ -1,10 +1,12 @@
 //! The elements of a set by the target for which they stand.
-ghost use Rattle.std.specs.Prelude.{◌≡◌, ℕ, List, IfOk, filter, option_map};
+ghost use Rattle.std.specs.Prelude.{◌≡◌, [], ℕ, List, IfOk, filter, option_map, true};
+ghost use Rattle.std.specs.List.{list_any};
 ghost use Rattle.ix_base.specs.LinkRules as rules;
 ghost use Rattle.ix_base.specs.LocatedElements.{located};
+ghost use Rattle.id_table.specs.Model.{has_own_target};
 ghost use Rattle.id_table.specs.Tables.{HasEach, all_located, spots_at};
 ghost use Rattle.target_contents.specs.Contents.{is_linkbase_for};
-ghost use Rattle.target_contents.specs.Groups.{AreGroups, key_by};
+ghost use Rattle.target_contents.specs.Groups.{AreGroups, is_fact_of, key_by};
 
 use fact_view::target_of;
 use id_table::{Holders, Index, enter};
@@ -56,26 +58,29 @@ pub(crate) fn grouped<'a>(
     Ok(holders)
 }
 
-/// The elements that stand for a target.
-pub(crate) fn at<'a>(
-    alloc: Global,
-    holders: &Holders<'a>,
+/// The elements that stand for a target, or none. It takes no memory.
+pub(crate) fn at<'m, 'a>(
+    holders: &'m Holders<'a>,
+    none: &'m Vec<&'a Spot<'a>>,
     target: &str,
-) -> Result<Vec<&'a Spot<'a>>, NoMemory>
-    ensures { IfOk result (λ v. v.items ≡ spots_at holders.now target.now) }
+) -> &'m [&'a Spot<'a>]
+    requires { none.now.items ≡ [] }
+    ensures { result.now ≡ spots_at holders.now target.now }
 {
-    let mut spots = Vec::new(alloc);
-    if let Some(found) = holders.get(target) {
-        spots.extend_from_slice(found.as_slice())?;
+    match holders.get(target) {
+        Some(found) => found.as_slice(),
+        None => none.as_slice(),
     }
-    Ok(spots)
 }
 
 /// The facts and the references of a set, by their targets.
 pub(crate) struct Groups<'a> {
+    /// None where all facts are of the default target.
     pub facts: Holders<'a>,
     pub schemas: Holders<'a>,
     pub linkbases: Holders<'a>,
+    /// What is shown of a target for which no element stands.
+    pub none: Vec<&'a Spot<'a>>,
 }
 
 impl Drop for Groups<'_> {
@@ -84,6 +89,7 @@ impl Drop for Groups<'_> {
             facts: _,
             schemas: _,
             linkbases: _,
+            none: _,
         } = self;
     }
 }
@@ -103,15 +109,27 @@ fn references_of<'a>(
     Ok((schemas, linkbases))
 }
 
+/// The facts of an index, by their targets. Where all are of the default one, they aren't put together.
+fn fact_groups<'a>(alloc: Global, index: &Index<'a>) -> Result<Holders<'a>, NoMemory>
+    ensures { IfOk result (λ m. list_any has_own_target index.now.spots ≡ true
+        → (target : List ℕ) → all_located (spots_at m target) ≡ filter (is_fact_of target) index.now.spots) }
+{
+    if !index.has_targets() {
+        return Ok(Holders::new(alloc));
+    }
+    grouped(alloc, Group::Facts, index.facts())
+}
+
 /// The facts and the references of an index, by their targets.
 pub(crate) fn groups_of<'a>(alloc: Global, index: &Index<'a>) -> Result<Groups<'a>, NoMemory>
     ensures { IfOk result (λ g. AreGroups g index.now.spots) }
 {
     let (schemas, linkbases) = references_of(alloc, index)?;
-    let facts = grouped(alloc, Group::Facts, index.facts())?;
+    let facts = fact_groups(alloc, index)?;
     Ok(Groups {
         facts,
         schemas,
         linkbases,
+        none: Vec::new(alloc),
     })
 }

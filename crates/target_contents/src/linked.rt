@@ -1,7 +1,8 @@
 //! Sets whose links break no rule, and those of them whose values break none.
 
-use crate::groups::Groups;
+use crate::groups::{Groups, at};
 use crate::links::Linked;
+use ix_base::Spot;
 use std::marker::Model;
 
 /// A set whose links break no rule. Contracts see its elements, with the bases of their pages.
@@ -58,4 +59,27 @@ impl<'l, 's, 'a> Model for ValuedSet<'l, 's, 'a> {
     ghost view = { λ s. s.set };
 
     ghost invariant = { λ s. IsValued s.set × AreGroups s.groups s.set.elements };
+}
+
+impl<'a> ValuedSet<'_, '_, 'a> {
+    ghost use Rattle.std.specs.Prelude.{◌≡◌, filter};
+    ghost use Rattle.id_table.specs.Tables.{all_located};
+    ghost use Rattle.target_contents.specs.Groups.{is_fact_of};
+
+    /// The facts of a target, in order. It takes no memory.
+    pub(crate) fn facts_of(&self, target: &str) -> &[&'a Spot<'a>]
+        ensures { all_located result.now ≡ filter (is_fact_of target.now) self.now.elements }
+    {
+        let set = &self.set;
+        let index = set.linked.index;
+        if index.has_targets() {
+            return at(&self.groups.facts, &self.groups.none, target);
+        }
+        let facts = index.facts();
+        if target.is_empty() {
+            facts
+        } else {
+            &facts[..0]
+        }
+    }
 }

@@ -70,7 +70,34 @@ fn lacks_schema(index: &Index<'_>, schemas: &Holders<'_>, spot: &Spot<'_>) -> bo
     is_fact(spot) && count_in(schemas, target_of(spot.element)) == 0
 }
 
-/// Adds the facts whose targets have no schema.
+/// Whether all targets are the default one, and it has a schema.
+fn has_default_schema(index: &Index<'_>, schemas: &Holders<'_>) -> bool
+    requires { (target : List ℕ) → all_located (spots_at schemas.now target) ≡ filter (rules.is_schema_for target) index.now.spots }
+    ensures { result ≡ true → breaking rule.L14 index.now.spots ≡ [] }
+{
+    !index.has_targets() && count_in(schemas, "") > 0
+}
+
+/// Adds the facts whose targets are without one of these schemas.
+fn add_schemaless(
+    index: &Index<'_>,
+    schemas: &Holders<'_>,
+    found: &mut Breaches,
+) -> Result<(), NoMemory>
+    requires { (target : List ℕ) → all_located (spots_at schemas.now target) ≡ filter (rules.is_schema_for target) index.now.spots }
+    ensures { OnOk result (found.new ≡ found.old ++ breaking rule.L14 index.now.spots) }
+{
+    for spot in index.facts() {
+        found.add_if(
+            spot.element.place,
+            Rule::L14,
+            lacks_schema(index, schemas, spot),
+        )?;
+    }
+    Ok(())
+}
+
+/// Adds the facts whose targets have no schema. They aren't looked through where each has that of the default one.
 fn add_lacking_schema(
     alloc: Global,
     index: &Index<'_>,
@@ -79,14 +106,10 @@ fn add_lacking_schema(
     ensures { OnOk result (found.new ≡ found.old ++ breaking rule.L14 index.now.spots) }
 {
     let schemas = grouped(alloc, Group::Schemas, index.others())?;
-    for spot in index.facts() {
-        found.add_if(
-            spot.element.place,
-            Rule::L14,
-            lacks_schema(index, &schemas, spot),
-        )?;
+    if has_default_schema(index, &schemas) {
+        return Ok(());
     }
-    Ok(())
+    add_schemaless(index, &schemas, found)
 }
 
 /// Adds the rules on ids, references and continuations that are broken, and gives the chains.

@@ -1,6 +1,6 @@
 //! The contexts and the units that items name.
 ghost use Rattle.std.specs.Prelude.{◌≡◌, ◌++◌, ◌∷◌, [], filter, option_map, IfOk, OnOk};
-ghost use Rattle.std.specs.List.{filter_map};
+ghost use Rattle.std.specs.List.{cons_option, filter_map};
 ghost use Rattle.ix_base.specs.Ids.{context_for, unit_for};
 ghost use Rattle.ix_base.specs.LocatedElements as kinds;
 ghost use Rattle.ix_base.specs.LocatedElements.{located};
@@ -8,8 +8,8 @@ ghost use Rattle.ix_base.specs.Once.{in_order};
 ghost use Rattle.ix_base.specs.SortedLists.{text_cmp};
 ghost use Rattle.id_table.specs.Model.{AreChosen};
 ghost use Rattle.id_table.specs.Tables.{all_located};
+ghost use Rattle.link_ids.specs.Links.{context_named, unit_named};
 ghost use Rattle.target_contents.specs.Gathered.{Gathers};
-ghost use Rattle.target_contents.specs.Groups.{ref_by};
 ghost use Rattle.target_contents.specs.Visits.{values_of};
 
 use id_table::Index;
@@ -19,61 +19,83 @@ use ix_base::{
 use std::alloc::Global;
 use xbrl_parts::{read_context, read_unit};
 
-/// What an item names: a context or a unit.
-#[derive(Clone, Copy)]
-pub(crate) enum Ref {
-    Context,
-    Unit,
+/// The ids of the contexts and of the units that items name.
+#[derive(Drop)]
+pub(crate) struct Named<'a> {
+    pub contexts: Vec<&'a str>,
+    pub units: Vec<&'a str>,
 }
 
-/// The id of the context, or of the unit, that an item names.
-fn id_named<'a>(by: Ref, spot: &Spot<'a>) -> Option<&'a str>
-    ensures { option_map (λ s. s.now) result ≡ ref_by by (located spot.now) }
+/// The id of the context that an element names.
+fn context_id<'a>(spot: &Spot<'a>) -> Option<&'a str>
+    ensures { option_map (λ s. s.now) result ≡ context_named (located spot.now) }
 {
-    match (by, kind_of(spot)) {
-        (Ref::Context, _) => token_at(spot.element, "contextRef"),
-        (Ref::Unit, Kind::NonFraction | Kind::Fraction) => token_at(spot.element, "unitRef"),
+    token_at(spot.element, "contextRef")
+}
+
+/// The id of the unit that an element names.
+fn unit_id<'a>(spot: &Spot<'a>) -> Option<&'a str>
+    ensures { option_map (λ s. s.now) result ≡ unit_named (located spot.now) }
+{
+    match kind_of(spot) {
+        Kind::NonFraction | Kind::Fraction => token_at(spot.element, "unitRef"),
         _ => None,
     }
 }
 
-/// Adds the id that an element names, where it is an item and this isn't the last id.
-fn push_named<'a>(by: Ref, spot: &Spot<'a>, ids: &mut Vec<&'a str>) -> Result<(), NoMemory>
+/// Adds an id, where there is one and it isn't the last.
+fn push_id<'a>(ids: &mut Vec<&'a str>, id: Option<&'a str>) -> Result<(), NoMemory>
     ensures { OnOk result (Gathers (values_of ids.old.items) (values_of ids.new.items)
-        (filter_map (ref_by by) (filter kinds.is_item (located spot.now ∷ [])))) }
+        (cons_option (option_map (λ s. s.now) id.entry) [])) }
+{
+    match id {
+        Some(id) => push_unlike(ids, id),
+        None => Ok(()),
+    }
+}
+
+/// Adds the ids that an element names, where it is an item and they aren't the last ones.
+fn push_named<'a>(spot: &Spot<'a>, named: &mut Named<'a>) -> Result<(), NoMemory>
+    ensures contexts { OnOk result (Gathers (values_of named.old.contexts.items) (values_of named.new.contexts.items)
+        (filter_map context_named (filter kinds.is_item (located spot.now ∷ [])))) }
+    ensures units { OnOk result (Gathers (values_of named.old.units.items) (values_of named.new.units.items)
+        (filter_map unit_named (filter kinds.is_item (located spot.now ∷ [])))) }
 {
     if !is_item(spot) {
         return Ok(());
     }
-    if let Some(id) = id_named(by, spot) {
-        push_unlike(ids, id)?;
-    }
-    Ok(())
+    push_id(&mut named.contexts, context_id(spot))?;
+    push_id(&mut named.units, unit_id(spot))
 }
 
 /// The ids that the items among these elements name. Those that the item before names, too, aren't there again.
-fn each_named<'a>(alloc: Global, by: Ref, spots: &[&'a Spot<'a>]) -> Result<Vec<&'a str>, NoMemory>
-    ensures { IfOk result (λ v. Gathers [] (values_of v.items) (filter_map (ref_by by) (filter kinds.is_item (all_located spots.now)))) }
+fn each_named<'a>(alloc: Global, spots: &[&'a Spot<'a>]) -> Result<Named<'a>, NoMemory>
+    ensures contexts { IfOk result (λ n. Gathers [] (values_of n.contexts.items)
+        (filter_map context_named (filter kinds.is_item (all_located spots.now)))) }
+    ensures units { IfOk result (λ n. Gathers [] (values_of n.units.items)
+        (filter_map unit_named (filter kinds.is_item (all_located spots.now)))) }
 {
-    let mut ids = Vec::new(alloc);
+    let mut named = Named {
+        contexts: Vec::new(alloc),
+        units: Vec::new(alloc),
+    };
     for spot in spots {
-        push_named(by, spot, &mut ids)?;
+        push_named(spot, &mut named)?;
     }
-    Ok(ids)
+    Ok(named)
 }
 
 /// The ids that the items among these elements name, in order, each once.
-pub(crate) fn ids_named<'a>(
-    alloc: Global,
-    by: Ref,
-    spots: &[&'a Spot<'a>],
-) -> Result<Vec<&'a str>, NoMemory>
-    ensures { IfOk result (λ v. values_of v.items
-        ≡ in_order text_cmp (filter_map (ref_by by) (filter kinds.is_item (all_located spots.now)))) }
+pub(crate) fn ids_named<'a>(alloc: Global, spots: &[&'a Spot<'a>]) -> Result<Named<'a>, NoMemory>
+    ensures contexts { IfOk result (λ n. values_of n.contexts.items
+        ≡ in_order text_cmp (filter_map context_named (filter kinds.is_item (all_located spots.now)))) }
+    ensures units { IfOk result (λ n. values_of n.units.items
+        ≡ in_order text_cmp (filter_map unit_named (filter kinds.is_item (all_located spots.now)))) }
 {
-    let mut ids = each_named(alloc, by, spots)?;
-    each_once(&mut ids);
-    Ok(ids)
+    let mut named = each_named(alloc, spots)?;
+    each_once(&mut named.contexts);
+    each_once(&mut named.units);
+    Ok(named)
 }
 
 /// The context with an id, where there is one.

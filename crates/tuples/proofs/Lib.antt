@@ -7,6 +7,7 @@ pub mod FitLaws
 pub mod GroupLaws
 pub mod KeptLaws
 pub mod MemberLaws
+pub mod NoneOwned
 pub mod OrderLaws
 pub mod RankLaws
 pub mod RisingLaws

@@ -3,8 +3,8 @@
 //! `membership` finds the owner of each fact once, sorts the facts once by their orders, and enters them in that order at
 //! the places of their owners, so that the members of each tuple come in order; whether two of them have one order takes a
 //! logarithm of their number. From each tuple it follows up to 100 owners, to see whether too many stand one above the
-//! other. `Members::of` is one look-up by place, `Members::owner` one by tuple id or a walk up the page; both take no
-//! memory.
+//! other. Where the index says that the set has no tuples, it looks at no fact. `Members::of` is one look-up by place,
+//! `Members::owner` one by tuple id or a walk up the page; both take no memory.
 #![tactic(auto)]
 
 mod decimals;

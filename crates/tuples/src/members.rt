@@ -95,6 +95,16 @@ fn tuple_around<'a>(spot: &Spot<'a>) -> Option<&'a Spot<'a>>
 }
 
 impl<'a> Members<'a> {
+    /// Those of a set without tuples. It takes no memory.
+    pub(crate) fn none(alloc: Global) -> Members<'a>
+        ensures { result ≡ record { lists = []; tuples = [] } }
+    {
+        Members {
+            slices: Slices::new(alloc),
+            tuples: Holders::new(alloc),
+        }
+    }
+
     /// The members of a tuple by rising order, those with equal orders as they came, and those without one behind all others. It
     /// takes no memory.
     pub fn of(&self, tuple: &Spot<'a>) -> &'a [&'a Spot<'a>]

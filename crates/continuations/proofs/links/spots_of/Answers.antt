@@ -1,24 +1,15 @@
-use Rattle.std.proofs.Common.{◌∙◌, ◌++◌, ap, sym, length, List}
-use Rattle.std.proofs.lemmas.List.{length-map}
+use Rattle.std.proofs.Common.{subst, sym}
+use Rattle.std.proofs.lemmas.List.Elements.{All-append, All-nil}
 use Rattle.std.specs.Borrow.{Bor}
-use Rattle.std.specs.List.{filter}
 use Rattle.ix_base.specs.declared.tree.Spot.{Spot}
-use Rattle.ix_base.specs.LocatedElements.{Located, located, is_start}
-use Rattle.continuations.proofs.LinkLaws.{first-spots}
+use Rattle.ix_base.specs.Spots.{IsOnOnePage}
+use Rattle.id_table.specs.Tables.{AreOnOwnPages}
 use Rattle.continuations.proofs.links.spots_of.Goals as goal
 
-pub returns-clause-spots : goal.returns-clause-spots
-returns-clause-spots c =
-    let es = c.args.index.now.spots in
-    c.in_ok-push_starts.ensures.spots ∙ ap (λ (xs : List Located). xs ++ filter is_start es)
-    (first-spots es c.in_ok-spots.spots.items c.push_continuations.new.spots.items c.in_ok-spots.ensures.items c.in_ok-push_continuations.ensures.spots)
-
-pub returns-clause-counted : goal.returns-clause-counted
-returns-clause-counted c =
-    let es = c.args.index.now.spots in
-    let first = c.push_continuations.new.spots in
-    c.len-continuations.ensures ∙ first.ok.0 ∙ sym (length-map first.items (λ (s : Bor Spot). located s.now))
-    ∙ ap length (first-spots es c.in_ok-spots.spots.items first.items c.in_ok-spots.ensures.items c.in_ok-push_continuations.ensures.spots)
-
 pub returns-clause-pages : goal.returns-clause-pages
-returns-clause-pages c = c.in_ok-push_starts.ensures.pages
+returns-clause-pages c =
+    let own = λ (s : Bor Spot). IsOnOnePage s.now in
+    let first = subst AreOnOwnPages (sym c.in_ok-extend_from_slice.ensures.items)
+    (All-append own c.new-spots.result.items c.continuations-continuations.result.now (subst AreOnOwnPages (sym c.new-spots.ensures.items) (All-nil own)) c.continuations-continuations.ensures.pages) in
+    subst AreOnOwnPages (sym c.in_ok-extend_from_slice-2.ensures.items)
+    (All-append own c.extend_from_slice.new.self.items c.starts.result.now first c.starts.ensures.pages)

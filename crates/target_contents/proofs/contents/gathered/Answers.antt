@@ -21,12 +21,12 @@ returns c =
       gathered = record {
         schemas = c.in_ok-schemas.ensures;
         linkbases = c.in_ok-linkbases.ensures;
-        contexts = c.in_ok-contexts.ensures;
-        units = c.in_ok-units.ensures;
+        contexts = c.in_ok-contexts.ensures.contexts;
+        units = c.in_ok-contexts.ensures.units;
         facts = c.in_ok-facts.ensures.facts;
         roles = roles ∙ ap (λ used. roles_for bases es kind.RoleRef (uris_in roles_in used)) (c.as_slice.ensures ∙ links);
         arcroles = arcroles ∙ ap (λ used. roles_for bases es kind.ArcroleRef (uris_in arcroles_in used)) (c.as_slice-2.ensures ∙ links);
         notes = links;
       };
-      writable = gathered-writable es c.args.target.now _ c.in_ok-contexts.ensures c.in_ok-facts.ensures.shallow;
+      writable = gathered-writable es c.args.target.now _ c.in_ok-contexts.ensures.contexts c.in_ok-facts.ensures.shallow;
     }

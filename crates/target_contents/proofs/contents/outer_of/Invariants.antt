@@ -7,4 +7,4 @@ use Rattle.target_contents.proofs.contents.outer_of.Given as goal
 
 -- those before here that have no owner
 abbrev pub invariant-loop-spot : goal.invariant-loop-spot
-invariant-loop-spot l = all_located l.outer.items ≡ filter (λ e. not (is_some (owner_in l.members e))) (all_located (take l.spot-index l.spots))
+invariant-loop-spot l = all_located l.outer.items ≡ filter (λ e. not (is_some (owner_in l.linked.members e))) (all_located (take l.spot-index l.spots))

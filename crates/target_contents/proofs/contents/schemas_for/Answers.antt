@@ -17,8 +17,8 @@ addresses_at-requires c =
     let es = all_of l in
     let p = is_schema_for c.args.target.now in
     let groups = subst (λ (b : BasedElements). AreGroups c.valued.inside.groups b.elements) (sym c.set.view_is) c.valued.invariant.1 in
-    spots-are (λ (x : Located). x.page < length (bases_of l)) c.as_slice.result.now (filter p es)
-    (ap all_located (c.as_slice.ensures.value ∙ c.in_ok-spots.ensures) ∙ groups.schemas c.args.target.now)
+    spots-are (λ (x : Located). x.page < length (bases_of l)) c.at-spots.result.now (filter p es)
+    (ap all_located c.at-spots.ensures ∙ groups.schemas c.args.target.now)
     (All-filter p (λ (x : Located). x.page < length (bases_of l)) es c.set.invariant.0.pages)
 
 pub returns : goal.returns
@@ -29,4 +29,4 @@ returns c =
     subst (λ (b : BasedElements). IfOk c.addresses_at.result (λ found. found ≡ map (address_of (base_in b.bases)) (filter (is_schema_for target) b.elements)))
     (c.set.view_is ∙ c.valued.view_is)
     (IfOk-weaker c.addresses_at.result _ _ (λ found h. h ∙ ap (map (address_of (base_in (bases_of l))))
-    (ap all_located (c.as_slice.ensures.value ∙ c.in_ok-spots.ensures) ∙ groups.schemas target)) c.addresses_at.ensures)
+    (ap all_located c.at-spots.ensures ∙ groups.schemas target)) c.addresses_at.ensures)

@@ -1,23 +1,21 @@
-use Rattle.std.proofs.Common.{◌∙◌, ◌++◌, ap}
-use Rattle.std.proofs.lemmas.List.{take_all}
-use Rattle.std.specs.List.{filter, flat_map}
-use Rattle.ix_base.specs.declared.rule.Rule.TheVariants.{L14}
-use Rattle.ix_base.specs.LinkRules.{broken_at}
-use Rattle.id_table.specs.Model.{asked}
-use Rattle.id_table.specs.Tables.{all_located, is_other}
+use Rattle.std.proofs.Common.{◌∙◌, ◌++◌, ap, append-nil, sym}
+use Rattle.std.specs.List.{filter}
+use Rattle.id_table.specs.Tables.{is_other}
 use Rattle.target_contents.proofs.GroupLaws.{schemas-at}
-use Rattle.target_contents.proofs.ListLaws.{schemaless-of, schemas-of}
+use Rattle.target_contents.proofs.ListLaws.{schemas-of}
 use Rattle.target_contents.proofs.links.add_lacking_schema.Goals as goal
 
-pub lacks_schema-requires : goal.lacks_schema-requires
-lacks_schema-requires c = λ q.
+pub has_default_schema-requires : goal.has_default_schema-requires
+has_default_schema-requires c = λ q.
     let es = c.args.index.now.spots in
     schemas-at c.in_ok-schemas.schemas c.others.result.now (filter is_other es) c.others.ensures.elements c.in_ok-schemas.ensures q ∙ schemas-of q es
 
-pub returns : goal.returns
-returns c =
-    let facts = c.facts-spot-items.result.now in
-    c.loop-spot.invariant
-    ∙ ap (λ xs. c.args.found.now ++ flat_map (broken_at (asked c.args.index.now) L14) xs)
-    (ap all_located (take_all c.loop-spot.spot-index facts c.loop-spot-test.false) ∙ c.facts-spot-items.ensures.elements)
-    ∙ ap (λ xs. c.args.found.now ++ xs) (schemaless-of (asked c.args.index.now) c.args.index.now.spots)
+pub add_schemaless-requires : goal.add_schemaless-requires
+add_schemaless-requires c = λ q.
+    let es = c.args.index.now.spots in
+    schemas-at c.in_ok-schemas.schemas c.others.result.now (filter is_other es) c.others.ensures.elements c.in_ok-schemas.ensures q ∙ schemas-of q es
+
+pub returns-then-has_default_schema : goal.returns-then-has_default_schema
+returns-then-has_default_schema c =
+    let old = c.args.found.now in
+    sym (ap (λ xs. old ++ xs) (c.has_default_schema.ensures c.if-has_default_schema.true) ∙ append-nil old)

@@ -26,6 +26,7 @@ invariant_of-self-in-Ok c =
           (subst (λ (h : Held). IfSome c.args.choice (λ s. IsHolder h.spots id (located s.now))) (sym c.self.view_is) c.requires.holder)
           c.in-Ok.ensures (λ q p e. sym ((bytes_eq-Decides q p).0 e));
       on_pages = pages-set t.kept.choices c.set_choice.new.choices id c.args.choice c.self.invariant.on_pages c.requires.page c.in-Ok.ensures;
+      closed = c.self.invariant.closed;
       empty = c.self.invariant.empty;
     }
 

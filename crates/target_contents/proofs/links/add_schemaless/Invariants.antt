@@ -4,7 +4,7 @@ use Rattle.ix_base.specs.declared.rule.Rule.TheVariants.{L14}
 use Rattle.ix_base.specs.LinkRules.{broken_at}
 use Rattle.id_table.specs.Model.{asked}
 use Rattle.id_table.specs.Tables.{all_located}
-use Rattle.target_contents.proofs.links.add_lacking_schema.Given as goal
+use Rattle.target_contents.proofs.links.add_schemaless.Given as goal
 
 -- those before here are added
 abbrev pub invariant-loop-spot : goal.invariant-loop-spot
