@@ -1,8 +1,7 @@
 -- What the numbered elements of a set say of all of it.
-use Rattle.std.proofs.Common.{◌≡◌, ◌∙◌, ◌++◌, ◌+◌, ◌<◌, ℕ, Bool, true, false, cond, List, [], ◌∷◌, length, get_or, take, refl, ap, sym, subst, append-nil, Option, Some, None, option_map}
+use Rattle.std.proofs.Common.{◌≡◌, ◌∙◌, ◌++◌, ℕ, Bool, true, false, cond, List, [], ◌∷◌, refl, ap, sym, append-nil, Option, Some, None, option_map}
 use Rattle.std.proofs.lemmas.Bool.{true≢false, or_left, or_right}
-use Rattle.std.proofs.Math.Seq.{take-append_seam}
-use Rattle.std.proofs.lemmas.List.{length-map, take-map}
+use Rattle.std.proofs.lemmas.List.{map-append}
 use Rattle.std.specs.Borrow.{Bor}
 use Rattle.std.specs.Prelude.{◌&&◌, ◌||◌, is_some, is_none, option_and_then}
 use Rattle.std.specs.List.{filter, flat_map, list_any, slice_get}
@@ -15,19 +14,13 @@ use Rattle.ix_base.specs.Chain.{continuation, continued_at}
 use Rattle.ix_base.specs.LinkRules.{breaking, breaks_link, broken_at, found_at, lacks_continuation}
 use Rattle.ix_base.specs.LocatedElements.{Located, located, is_continuation, is_start}
 use Rattle.ix_base.specs.Rows.{row}
-use Rattle.id_table.specs.Tables.{all_located}
-use Rattle.continuations.specs.Numbers.{NameNexts}
-use Rattle.continuations.specs.Walks.{AreNexts}
+use Rattle.id_table.specs.declared.chain_element.ChainElement.{ChainElement}
+use Rattle.id_table.specs.Tables.{all_located, chain_spots}
 use Rattle.continuations.proofs.KeptLaws.{some-map}
-use Rattle.continuations.proofs.Numbering.{IsIn, in-filter, filter-in, links-are}
+use Rattle.continuations.proofs.Numbering.{IsIn, in-filter, filter-in}
 use Rattle.continuations.proofs.Inner.{any-in, in-any}
 use Rattle.continuations.proofs.Reaching.{same-bool}
 use Rattle.continuations.proofs.SeenLaws.{any-append}
-use Rattle.id_table.proofs.RowLemmas.{located-take}
-
-or-false : (b : Bool) → (b || false) ≡ b
-or-false true = refl
-or-false false = refl
 
 -- a rule that no element breaks has no breaches
 none-by : (a : Asks Located) (r : Rule) (e : Located) (b : Bool) → b ≡ false → row b (found_at e r) ≡ []
@@ -96,34 +89,19 @@ lacking-is f g h (Some q) n e = by (f q) n e where
   by (Some x) None e = absurd cc
   by (Some x) (Some k) e = refl
 
--- one element more is looked at
-pub lacks-more : (a : Asks Located) (conts : List Located) (spots : List (Bor Spot)) (i : ℕ) (s : Bor Spot) (id : Option (Bor (List ℕ))) (n : Option ℕ) (lacks lost : Bool)
-    → i < length spots → s ≡ get_or spots i s → option_map (λ (t : Bor (List ℕ)). t.now) id ≡ continued_at (located s.now)
-    → option_map (slice_get conts) n ≡ option_map Some (option_and_then (continuation a) (option_map (λ (t : Bor (List ℕ)). t.now) id))
-    → lost ≡ (is_some id && is_none n) → lacks ≡ list_any (lacks_continuation a) (all_located (take i spots))
-    → (lacks || lost) ≡ list_any (lacks_continuation a) (all_located (take (i + 1) spots))
-lacks-more a conts spots i s id n lacks lost l at named next is before =
-    let here : lacks_continuation a (located s.now) ≡ lost
-    = ap (λ o. option_map_or (λ q. is_none (continuation a q)) o false) (sym named)
-    ∙ lacking-is (continuation a) (slice_get conts) Some (option_map (λ (t : Bor (List ℕ)). t.now) id) n next
-    ∙ ap (λ b. b && is_none n) (some-map (λ (t : Bor (List ℕ)). t.now) id) ∙ sym is in
-    (λ j. before j || sym here j)
-    ∙ ap (λ b. list_any (lacks_continuation a) (all_located (take i spots)) || b) (sym (or-false (lacks_continuation a (located s.now))))
-    ∙ sym (any-append (lacks_continuation a) (all_located (take i spots)) (located s.now ∷ []))
-    ∙ ap (list_any (lacks_continuation a)) (sym (located-take spots i s l at))
+-- an element that goes on at an id without a number lacks its continuation
+pub lost-is : (a : Asks Located) (conts : List Located) (e : ChainElement) (n : Option ℕ)
+    → option_map (slice_get conts) n ≡ option_map Some (option_and_then (continuation a) (option_map (λ (t : Bor (List ℕ)). t.now) e.continued_at))
+    → (is_some e.continued_at && is_none n) ≡ lacks_continuation a (located e.spot.now)
+lost-is a conts e n next =
+    let text = λ (t : Bor (List ℕ)). t.now in
+    ap (λ b. b && is_none n) (sym (some-map text e.continued_at))
+    ∙ sym (lacking-is (continuation a) (slice_get conts) Some (option_map text e.continued_at) n next)
+    ∙ ap (λ o. option_map_or (λ q. is_none (continuation a q)) o false) e.goes_on
 
--- the numbers of the elements of a set
-pub linked : (es : List Located) (both spots : List (Bor Spot)) (count : ℕ) (ns : List (Option ℕ)) → all_located both ≡ filter is_continuation es ++ filter is_start es
-    → count ≡ length (filter is_continuation es) → spots ≡ both → NameNexts (asks es) (filter is_continuation es) (all_located spots) (length spots) ns
-    → length ns ≡ length spots → AreNexts (asks es) (all_located both) count ns
-linked es both spots count ns all n same names len =
-    subst (λ (ss : List (Bor Spot)). AreNexts (asks es) (all_located ss) count ns) same
-    (links-are (asks es) (filter is_continuation es) (filter is_start es) (all_located spots) ns count (length spots) (ap all_located same ∙ all) n len
-    (sym (length-map spots (λ (s : Bor Spot). located s.now))) names)
-
--- so many in front are the continuations
-pub first-numbers : (es : List Located) (spots : List (Bor Spot)) (count : ℕ) → all_located spots ≡ filter is_continuation es ++ filter is_start es
-    → count ≡ length (filter is_continuation es) → all_located (take count spots) ≡ filter is_continuation es
-first-numbers es spots count all n =
-    sym (take-map (λ (s : Bor Spot). located s.now) count spots) ∙ ap (take count) all ∙ ap (λ k. take k (filter is_continuation es ++ filter is_start es)) n
-    ∙ take-append_seam (filter is_continuation es) (filter is_start es)
+-- the elements of chains, continuations first
+pub both-located : (es : List Located) (conts starts : List ChainElement) → all_located (chain_spots conts) ≡ filter is_continuation es
+    → all_located (chain_spots starts) ≡ filter is_start es → all_located (chain_spots conts ++ chain_spots starts) ≡ filter is_continuation es ++ filter is_start es
+both-located es conts starts c s =
+    map-append (λ (t : Bor Spot). located t.now) (chain_spots conts) (chain_spots starts) ∙ ap (λ xs. xs ++ all_located (chain_spots starts)) c
+    ∙ ap (λ xs. filter is_continuation es ++ xs) s

@@ -1,10 +1,9 @@
 -- Numbers of continuations.
-use Rattle.std.proofs.Common.{◌≡◌, ◌∙◌, ◌+◌, ◌<◌, ◌≤◌, ◌++◌, ℕ, zero, suc, Bool, true, false, cond, List, [], ◌∷◌, length, get_or, refl, ap, sym, subst, arith, zero-add, Option, Some, None, ◌⊎◌, inl, inr, ⊎_elim, option_map}
+use Rattle.std.proofs.Common.{◌≡◌, ◌∙◌, ◌+◌, ◌<◌, ◌≤◌, ◌++◌, ℕ, zero, suc, Bool, true, false, cond, List, [], ◌∷◌, length, get_or, drop, refl, ap, sym, subst, arith, zero-add, Option, Some, None, ◌⊎◌, inl, inr, ⊎_elim, option_map}
 use Rattle.std.proofs.lemmas.Bool.{cases_eq, cases_lt, ltb-false, true≢false}
 use Rattle.std.proofs.lemmas.Option.{slice_get_within, slice_get-map, slice_get_read}
-use Rattle.std.proofs.Math.ListN.{get_or-append, get_or-eq_default}
-use Rattle.std.proofs.Math.Seq.{get_or-append_seam}
-use Rattle.std.proofs.lemmas.List.{length-append}
+use Rattle.std.proofs.Math.ListN.{get_or-eq_default}
+use Rattle.std.proofs.lemmas.List.{length-append, length-map}
 use Rattle.std.specs.Borrow.{Bor}
 use Rattle.std.specs.List.{filter, slice_get}
 use Rattle.std.specs.Option.{option_map_or}
@@ -15,8 +14,9 @@ use Rattle.ix_base.specs.Ids.{holds_id}
 use Rattle.ix_base.specs.LocatedElements.{Located, located, is_continuation}
 use Rattle.text_map.specs.Texts.{Texts}
 use Rattle.ix_base.specs.declared.tree.Spot.{Spot}
-use Rattle.id_table.specs.Tables.{all_located}
-use Rattle.continuations.specs.Numbers.{number_at, AreNumbers, NameNexts}
+use Rattle.id_table.specs.declared.chain_element.ChainElement.{ChainElement}
+use Rattle.id_table.specs.Tables.{all_located, chain_spots}
+use Rattle.continuations.specs.Numbers.{number_at, AreNumbers, numbered_in, nexts_of}
 use Rattle.continuations.specs.Walks.{next_at, AreNexts}
 use Rattle.continuations.proofs.Walking.{some-inj}
 
@@ -152,23 +152,13 @@ numbered-more old new xs i x numbers at entered = record {
       ⊎_elim (λ (same : k ≡ i). ap (holds_id q) (some-inj e x (sym s ∙ ap (slice_get xs) same ∙ at)) ∙ t)
       (λ (other : k ≡ i → ⊥). numbers.missed q n k e (omega (arith, l, other)) s) (cases_eq k i)
 
--- one name more
-pub names-more : (a : Asks Located) (conts xs : List Located) (i : ℕ) (x : Located) (o : Option ℕ) (nexts more : List (Option ℕ))
-    → length nexts ≡ i → NameNexts a conts xs i nexts → slice_get xs i ≡ Some x → option_map (slice_get conts) o ≡ option_map Some (next a x)
-    → more ≡ nexts ++ o ∷ [] → NameNexts a conts xs (i + 1) more
-names-more a conts xs i x o nexts more len names at is grown = λ k e l s.
-    ⊎_elim
-    (λ (same : k ≡ i).
-    ap (λ (ns : List (Option ℕ)). option_map (slice_get conts) (next_at ns k)) grown
-    ∙ ap (λ j. option_map (slice_get conts) (next_at (nexts ++ o ∷ []) j)) (same ∙ sym len)
-    ∙ ap (option_map (slice_get conts)) (get_or-append_seam nexts o [] None)
-    ∙ is ∙ ap (λ y. option_map Some (next a y)) (some-inj x e (sym at ∙ ap (slice_get xs) (sym same) ∙ s)))
-    (λ (other : k ≡ i → ⊥).
-    let below : k < length nexts = omega (arith, l, other, len) in
-    ap (λ (ns : List (Option ℕ)). option_map (slice_get conts) (next_at ns k)) grown
-    ∙ ap (option_map (slice_get conts)) (get_or-append nexts (o ∷ []) None k below)
-    ∙ names k e (omega (arith, l, other)) s)
-    (cases_eq k i)
+-- each number is that of the element at which this one goes on
+pub number-at : (a : Asks Located) (conts xs : List Located) (nexts : List (Option ℕ)) → numbered_in conts nexts ≡ nexts_of a xs
+    → (k : ℕ) (e : Located) → slice_get xs k ≡ Some e → option_map (slice_get conts) (next_at nexts k) ≡ option_map Some (next a e)
+number-at a conts [] nexts h k e s = some-none e s
+number-at a conts (x ∷ xs) [] h k e s = absurd cc
+number-at a conts (x ∷ xs) (n ∷ ns) h zero e s = ap (λ (os : List (Option (Option Located))). get_or os 0 None) h ∙ ap (λ y. option_map Some (next a y)) (some-inj x e s)
+number-at a conts (x ∷ xs) (n ∷ ns) h (suc k) e s = number-at a conts xs ns (ap (drop 1) h) k e s
 
 -- what stands at a number of the first list stands there in both
 pub got-left : {X : Type 0} (xs ys : List X) (k : ℕ) (x : X) → slice_get xs k ≡ Some x → slice_get (xs ++ ys) k ≡ Some x
@@ -202,28 +192,40 @@ none-at (x ∷ xs) (suc k) l = none-at xs k (omega (arith, l))
 pub located-at : (xs : List (Bor Spot)) (i : ℕ) (s : Bor Spot) → i < length xs → s ≡ get_or xs i s → slice_get (all_located xs) i ≡ Some (located s.now)
 located-at xs i s l e = slice_get-map (λ (t : Bor Spot). located t.now) xs i ∙ ap (option_map (λ (t : Bor Spot). located t.now)) (slice_get_read xs (length xs) i s refl l e)
 
+-- the element of a chain at a number in a list
+pub element-at : (es : List ChainElement) (i : ℕ) (e : ChainElement) → i < length es → e ≡ get_or es i e → slice_get (all_located (chain_spots es)) i ≡ Some (located e.spot.now)
+element-at es i e l is =
+    slice_get-map (λ (t : Bor Spot). located t.now) (chain_spots es) i
+    ∙ ap (option_map (λ (t : Bor Spot). located t.now))
+    (slice_get-map (λ (x : ChainElement). x.spot) es i ∙ ap (option_map (λ (x : ChainElement). x.spot)) (slice_get_read es (length es) i e refl l is))
+
+-- so many are the elements
+pub count-elements : (es : List ChainElement) → length (all_located (chain_spots es)) ≡ length es
+count-elements es = length-map (chain_spots es) (λ (s : Bor Spot). located s.now) ∙ length-map es (λ (e : ChainElement). e.spot)
+
 some-some : {X : Type 0} (o : Option X) (j : ℕ) (xs : List X) → option_map (slice_get xs) (Some j) ≡ option_map Some o → j < length xs
 some-some None j xs h = absurd cc
 some-some (Some x) j xs h = slice_get_within xs j x (some-inj (slice_get xs j) (Some x) h)
 
 -- the numbers among the continuations are those among all
-pub links-are : (a : Asks Located) (conts starts xs : List Located) (nexts : List (Option ℕ)) (count n : ℕ)
-    → xs ≡ conts ++ starts → count ≡ length conts → length nexts ≡ n → n ≡ length xs → NameNexts a conts xs n nexts → AreNexts a xs count nexts
-links-are a conts starts xs nexts count n all counted len whole names = record {
-  length_is = len ∙ whole;
+pub links-are : (a : Asks Located) (conts starts xs : List Located) (nexts : List (Option ℕ)) (count : ℕ)
+    → xs ≡ conts ++ starts → count ≡ length conts → numbered_in conts nexts ≡ nexts_of a xs → AreNexts a xs count nexts
+links-are a conts starts xs nexts count all counted same = record {
+  length_is = len;
   small = let e : length xs ≡ length conts + length starts = ap length all ∙ length-append conts starts in omega (arith, e, counted);
-  below = λ k j h. below k j h (cases_lt k n);
-  names = λ k e s. rw all (named k e s (next_at nexts k) (next a e) (names k e (subst (λ m. k < m) (sym whole) (slice_get_within xs k e s)) s));
+  below = λ k j h. below k j h (cases_lt k (length xs));
+  names = λ k e s. rw all (named k e s (next_at nexts k) (next a e) (number-at a conts xs nexts same k e s));
 } where
-  below : (k j : ℕ) → next_at nexts k ≡ Some j → (k < n) ⊎ (n ≤ k) → j < count
+  len : length nexts ≡ length xs
+  len = sym (length-map nexts (option_map (slice_get conts))) ∙ ap length same ∙ length-map xs (λ e. option_map Some (next a e))
+
+  below : (k j : ℕ) → next_at nexts k ≡ Some j → (k < length xs) ⊎ (length xs ≤ k) → j < count
   below k j h (inl l) =
-      let at : (e : Located) × (slice_get xs k ≡ Some e) = got-at xs k (subst (λ m. k < m) whole l) in
+      let at : (e : Located) × (slice_get xs k ≡ Some e) = got-at xs k l in
       let e : count ≡ length conts = counted in
-      let s : j < length conts = some-some (next a at.0) j conts (sym (ap (option_map (slice_get conts)) h) ∙ names k at.0 l at.1) in
+      let s : j < length conts = some-some (next a at.0) j conts (sym (ap (option_map (slice_get conts)) h) ∙ number-at a conts xs nexts same k at.0 at.1) in
       omega (arith, e, s)
-  below k j h (inr l) =
-      let e : length nexts ≡ n = len in
-      some-none j (sym (get_or-eq_default nexts None (subst (λ m. m ≤ k) (sym e) l)) ∙ h)
+  below k j h (inr l) = some-none j (sym (get_or-eq_default nexts None (subst (λ m. m ≤ k) (sym len) l)) ∙ h)
 
   named : (k : ℕ) (e : Located) → slice_get xs k ≡ Some e → (o : Option ℕ) (p : Option Located) → option_map (slice_get conts) o ≡ option_map Some p → option_map (slice_get (conts ++ starts)) o ≡ option_map Some p
   named k e s None p h = h

@@ -5,13 +5,12 @@ ghost use Rattle.ix_base.specs.Chain as chains;
 ghost use Rattle.ix_base.specs.Ids.{holds_id};
 ghost use Rattle.ix_base.specs.LocatedElements.{located, is_continuation as spec_is_continuation};
 ghost use Rattle.id_table.specs.Model.{asked};
-ghost use Rattle.id_table.specs.Tables.{all_located};
+ghost use Rattle.id_table.specs.Tables.{all_located, chain_spots};
 ghost use Rattle.continuations.specs.Numbers.{number_at, AreNumbers, IsTableOf, StandsAt};
 
 use crate::walk::continuation;
-use id_table::Index;
-use ix_base::{NoMemory, Place, Spot};
-use link_ids::id_at;
+use id_table::{ChainElement, Index};
+use ix_base::{NoMemory, Place};
 use std::alloc::Global;
 use text_map::TextMap;
 
@@ -21,45 +20,46 @@ pub(crate) type Numbers<'a> = TextMap<'a, usize>;
 /// Enters the number of an element at its id.
 fn enter_number<'a>(
     numbers: &mut Numbers<'a>,
-    spot: &Spot<'a>,
+    element: &ChainElement<'a>,
     number: usize,
 ) -> Result<(), NoMemory>
     ensures { OnOk result ((q : List ℕ) → number_at numbers.new q
-        ≡ (if holds_id q (located spot.now) then Some number else number_at numbers.old q)) }
+        ≡ (if holds_id q (located element.now.spot.now) then Some number else number_at numbers.old q)) }
 {
-    if let Some(id) = id_at(spot) {
+    if let Some(id) = element.id {
         numbers.insert(id, number)?;
     }
     Ok(())
 }
 
 /// The numbers of elements, by their ids. Of several with one id the last counts.
-fn numbers_of<'a>(alloc: Global, spots: &[&'a Spot<'a>]) -> Result<Numbers<'a>, NoMemory>
-    ensures { IfOk result (λ m. AreNumbers m (all_located spots.now) (length spots.now)) }
+fn numbers_of<'a>(alloc: Global, elements: &[ChainElement<'a>]) -> Result<Numbers<'a>, NoMemory>
+    ensures { IfOk result (λ m. AreNumbers m (all_located (chain_spots elements.now)) (length elements.now)) }
 {
     let mut numbers = TextMap::new(alloc);
-    for (number, spot) in spots.iter().enumerate() {
-        enter_number(&mut numbers, *spot, number)?;
+    for (number, element) in elements.iter().enumerate() {
+        enter_number(&mut numbers, element, number)?;
     }
     Ok(numbers)
 }
 
 /// Whether the element of a number has an id.
-fn has_id(spots: &[&Spot<'_>], number: usize, id: &str) -> bool
-    ensures { result ≡ option_map_or (holds_id id.now) (slice_get (all_located spots.now) number) false }
+fn has_id(elements: &[ChainElement<'_>], number: usize, id: &str) -> bool
+    ensures { result ≡ option_map_or (holds_id id.now) (slice_get (all_located (chain_spots elements.now)) number) false }
 {
-    if number >= spots.len() {
+    if number >= elements.len() {
         return false;
     }
-    match id_at(spots[number]) {
+    let element = &elements[number];
+    match element.id {
         Some(own) => id == own,
         None => false,
     }
 }
 
 /// Whether an id is that of one continuation alone, which has this number. Where no id was met twice, none is looked up.
-fn is_named(index: &Index<'_>, continuations: &[&Spot<'_>], id: &str, number: usize) -> bool
-    requires { all_located continuations.now ≡ filter spec_is_continuation index.now.spots }
+fn is_named(index: &Index<'_>, continuations: &[ChainElement<'_>], id: &str, number: usize) -> bool
+    requires { all_located (chain_spots continuations.now) ≡ filter spec_is_continuation index.now.spots }
     ensures { result ≡ true → Some (slice_get (filter spec_is_continuation index.now.spots) number)
         ≡ option_map Some (chains.continuation (asked index.now) id.now) }
 {
@@ -70,14 +70,14 @@ fn is_named(index: &Index<'_>, continuations: &[&Spot<'_>], id: &str, number: us
 }
 
 /// How many elements stand before a place, by halving, where they are in the order of places.
-fn count_before(spots: &[&Spot<'_>], place: Place) -> usize
-    ensures { result ≤ length spots.now }
+fn count_before(elements: &[ChainElement<'_>], place: Place) -> usize
+    ensures { result ≤ length elements.now }
 {
     let mut low = 0;
-    let mut high = spots.len();
+    let mut high = elements.len();
     while low < high {
         let middle = low + (high - low) / 2;
-        let here = spots[middle].element.place;
+        let here = elements[middle].spot.element.place;
         if here.page < place.page || here.page == place.page && here.offset < place.offset {
             low = middle + 1;
         } else {
@@ -90,18 +90,18 @@ fn count_before(spots: &[&Spot<'_>], place: Place) -> usize
 /// The number that stands in a table at an id. The table is made where there is none yet.
 fn number_in<'a>(
     alloc: Global,
-    spots: &[&'a Spot<'a>],
+    elements: &[ChainElement<'a>],
     table: &mut Option<Numbers<'a>>,
     id: &str,
 ) -> Result<Option<usize>, NoMemory>
-    requires { IsTableOf spots.now table.old }
-    ensures table { OnOk result (IsTableOf spots.now table.new) }
-    ensures number { IfOk result (StandsAt spots.now id.now) }
+    requires { IsTableOf elements.now table.old }
+    ensures table { OnOk result (IsTableOf elements.now table.new) }
+    ensures number { IfOk result (StandsAt elements.now id.now) }
 {
     if let Some(numbers) = table.as_ref() {
         return Ok(numbers.get(id).copied());
     }
-    let numbers = numbers_of(alloc, spots)?;
+    let numbers = numbers_of(alloc, elements)?;
     let number = numbers.get(id).copied();
     *table = Some(numbers);
     Ok(number)
@@ -112,11 +112,11 @@ fn number_in<'a>(
 fn number_sought<'a>(
     alloc: Global,
     index: &Index<'a>,
-    continuations: &[&'a Spot<'a>],
+    continuations: &[ChainElement<'a>],
     table: &mut Option<Numbers<'a>>,
     id: &str,
 ) -> Result<Option<usize>, NoMemory>
-    requires continuations { all_located continuations.now ≡ filter spec_is_continuation index.now.spots }
+    requires continuations { all_located (chain_spots continuations.now) ≡ filter spec_is_continuation index.now.spots }
     requires table { IsTableOf continuations.now table.old }
     ensures table { OnOk result (IsTableOf continuations.now table.new) }
     ensures number { IfOk result (λ n. option_map (slice_get (filter spec_is_continuation index.now.spots)) n
@@ -136,12 +136,12 @@ fn number_sought<'a>(
 pub(crate) fn number_of<'a>(
     alloc: Global,
     index: &Index<'a>,
-    continuations: &[&'a Spot<'a>],
+    continuations: &[ChainElement<'a>],
     table: &mut Option<Numbers<'a>>,
     id: Option<&str>,
     likely: usize,
 ) -> Result<Option<usize>, NoMemory>
-    requires continuations { all_located continuations.now ≡ filter spec_is_continuation index.now.spots }
+    requires continuations { all_located (chain_spots continuations.now) ≡ filter spec_is_continuation index.now.spots }
     requires table { IsTableOf continuations.now table.old }
     ensures number { IfOk result (λ n. option_map (slice_get (filter spec_is_continuation index.now.spots)) n
         ≡ option_map Some (option_and_then (chains.continuation (asked index.now)) (option_map (λ s. s.now) id.entry))) }

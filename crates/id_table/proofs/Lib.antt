@@ -1,11 +1,11 @@
 pub mod AgreeLaws
 pub mod Asking
 pub mod Entering
+pub mod GatherLaws
 pub mod HeldLaws
 pub mod NoTuples
 pub mod OnPages
 pub mod OtherLaws
-pub mod Placing
 pub mod Rearranged
 pub mod Renumbered
 pub mod RowLemmas

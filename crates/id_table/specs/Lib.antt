@@ -1,3 +1,4 @@
+pub mod Gathered
 pub mod Model
 pub mod ModelCodes
 pub mod Renumbering

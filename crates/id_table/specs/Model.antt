@@ -1,14 +1,16 @@
 -- What is to be known of an index.
-use Rattle.std.specs.Prelude.{◌≡◌, Bool, true, false, ◌&&◌, ◌||◌, ℕ, List, [], ◌∷◌, not, All, Contains, Option, Some, None, is_none, is_some, if◌then◌else◌, bytes_eq}
+use Rattle.std.specs.Prelude.{◌≡◌, Bool, true, false, ◌&&◌, ◌||◌, ℕ, List, [], ◌∷◌, not, All, Contains, Option, Some, None, is_none, is_some, codes, if◌then◌else◌, bytes_eq}
 use Rattle.std.specs.Option.{option_map_or}
 use Rattle.ix_base.specs.Asks.{Asks, asks, are_many}
 use Rattle.ix_base.specs.Forms.{is_empty}
 use Rattle.ix_base.specs.Ids.{id_of, tuple_id_of, holds_id, holds_tuple_id, agree, is_part, sole}
 use Rattle.ix_base.specs.LinkRules.{found_at, target_of}
-use Rattle.ix_base.specs.LocatedElements.{Located, is_tuple}
+use Rattle.ix_base.specs.LocatedElements.{Located, is_item, is_kind, is_nil, is_tuple}
 use Rattle.ix_base.specs.Membership.{owner, tuple_ref_of}
+use Rattle.ix_base.specs.Readers.{attr}
 use Rattle.ix_base.specs.Rows.{row}
 use Rattle.ix_base.specs.declared.breach.Found.{Found}
+use Rattle.ix_base.specs.declared.kind.Kind.TheVariants as kind
 use Rattle.ix_base.specs.declared.rule.Rule.TheVariants.{L1}
 
 -- an element that was chosen for an id
@@ -82,3 +84,11 @@ repeats_held h e =
 
 abbrev pub doubled_at : Held → Located → List Found
 doubled_at h e = row (repeats_held h e) (found_at e L1)
+
+-- an item that breaks no rule of values, as its attributes tell: it has no value, or its text as it stands
+abbrev pub faultless : Located → Bool
+faultless e = (is_kind kind.NonNumeric e && is_none (attr (codes "format") e.placed.tree)) || is_nil e
+
+-- an item whose value may break a rule
+abbrev pub is_checked : Located → Bool
+is_checked e = is_item e && not (faultless e)

@@ -14,14 +14,17 @@ ghost use Rattle.ix_base.specs.LocatedElements.{Located, is_continuation, is_fac
 ghost use Rattle.ix_base.specs.Spaces.{AreNumbered, spaces_of};
 ghost use Rattle.ix_base.specs.Spots.{IsOnOnePage};
 ghost use Rattle.ix_base.specs.Trees.{tree_of};
-ghost use Rattle.id_table.specs.Model.{AreChosen, AreUnowned, IsApart, IsHeldFor, IsHolder, IsOfOthers, asked, chosen, doubled_at, has_own_target, is_of_tuples, one_held};
-ghost use Rattle.id_table.specs.Tables.{AreOnOwnPages, all_located, is_other};
+ghost use Rattle.id_table.specs.Gathered.{AreGathered};
+ghost use Rattle.id_table.specs.Model.{AreChosen, AreUnowned, IsApart, IsHeldFor, IsHolder, IsOfOthers, asked, chosen, doubled_at, has_own_target, is_checked, is_of_tuples, one_held};
+ghost use Rattle.id_table.specs.Tables.{AreOnOwnPages, all_located, chain_spots, is_other};
 
+use crate::chain_element::ChainElement;
 use crate::choices::{choice_in, chosen_or_only, set_choice};
 use crate::doubled::add_if_doubled;
 use crate::entries::{Entry, entries_in, entry_at};
 use crate::holders::{count_in, one_in};
 use crate::kept::Kept;
+use crate::named::NamedIds;
 use bumpalo::Bump;
 use ix_base::{Breaches, Element, NoMemory, Spot};
 use std::alloc::Global;
@@ -145,18 +148,34 @@ impl<'a> Index<'a> {
         self.kept.tables.lists.facts.as_slice()
     }
 
-    /// The elements with which chains begin, in order. It takes no memory.
-    pub fn starts(&self) -> &[&'a Spot<'a>]
-        ensures elements { all_located result.now ≡ filter is_start self.now.spots }
+    /// The items whose values may break a rule, in order: those that aren't nil, and are numbers or have a format. It takes no memory.
+    pub fn checked(&self) -> &[&'a Spot<'a>]
+        ensures elements { all_located result.now ≡ filter is_checked self.now.spots }
         ensures pages { AreOnOwnPages result.now }
+    {
+        self.kept.tables.lists.checked.as_slice()
+    }
+
+    /// The ids of the contexts and units that items name, in order, but not again where the item before names it, too. It takes no
+    /// memory.
+    pub fn named(&self) -> &NamedIds<'a>
+        ensures { AreGathered self.now.spots result.now }
+    {
+        &self.kept.tables.lists.named
+    }
+
+    /// The elements with which chains begin, in order, each with its ids. It takes no memory.
+    pub fn starts(&self) -> &[ChainElement<'a>]
+        ensures elements { all_located (chain_spots result.now) ≡ filter is_start self.now.spots }
+        ensures pages { AreOnOwnPages (chain_spots result.now) }
     {
         self.kept.tables.lists.starts.as_slice()
     }
 
-    /// The continuations, in order. It takes no memory.
-    pub fn continuations(&self) -> &[&'a Spot<'a>]
-        ensures elements { all_located result.now ≡ filter is_continuation self.now.spots }
-        ensures pages { AreOnOwnPages result.now }
+    /// The continuations, in order, each with its ids. It takes no memory.
+    pub fn continuations(&self) -> &[ChainElement<'a>]
+        ensures elements { all_located (chain_spots result.now) ≡ filter is_continuation self.now.spots }
+        ensures pages { AreOnOwnPages (chain_spots result.now) }
     {
         self.kept.tables.lists.continuations.as_slice()
     }

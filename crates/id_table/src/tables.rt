@@ -1,19 +1,18 @@
 //! The marked elements of pages, with tables from their ids.
-ghost use Rattle.std.specs.Prelude.{◌≡◌, ◌++◌, ◌∷◌, [], OnOk, filter, All};
-ghost use Rattle.ix_base.specs.Elements.{pages_of, placed};
+ghost use Rattle.std.specs.Prelude.{◌≡◌, ◌++◌, ◌∷◌, [], OnOk, IfOk, filter, All};
+ghost use Rattle.ix_base.specs.Elements.{elements_from, pages_of, path_above, place_of, placed, placed_at};
 ghost use Rattle.ix_base.specs.Kinds as kinds;
 ghost use Rattle.ix_base.specs.LocatedElements.{located, is_marked as spec_is_marked, page_marked};
 ghost use Rattle.ix_base.specs.Spaces.{AreNumbered, spaces_of};
-ghost use Rattle.ix_base.specs.Spots.{IsOnOnePage};
+ghost use Rattle.ix_base.specs.Spots.{IsOn, IsOnOnePage, elements_up};
 ghost use Rattle.ix_base.specs.Trees.{tree_of};
-ghost use Rattle.id_table.specs.Tables.{AreOnOwnPages, AreWhole, all_located};
+ghost use Rattle.id_table.specs.Tables.{AreWhole, all_located, elements_above, marked_on};
 
 use crate::entries::{Entries, enter_entry};
 use crate::holders::{Holders, enter_tuple};
 use crate::lists::Lists;
-use crate::walk::walk;
 use bumpalo::Bump;
-use ix_base::{Element, Kind, NoMemory, Spot, kind_of};
+use ix_base::{Element, Kind, NoMemory, Node, Spot, kind_of};
 use std::alloc::Global;
 use text_map::TextMap;
 
@@ -37,6 +36,20 @@ impl Drop for Tables<'_> {
             repeats: _,
         } = self;
     }
+}
+
+/// A spot of the arena.
+fn spot_in<'a>(
+    arena: &'a Bump,
+    element: &'a Element<'a>,
+    up: Option<&'a Spot<'a>>,
+) -> Result<&'a Spot<'a>, NoMemory>
+    ensures placed { IfOk result (λ s. placed s.now ≡ placed_at (tree_of element.now) (path_above up.entry)) }
+    ensures place { IfOk result (λ s. place_of s.now ≡ element.now.place) }
+    ensures up { IfOk result (λ s. elements_up s.now ≡ element.now ∷ elements_above up.entry) }
+{
+    let spot = arena.try_alloc(Spot { element, up })?;
+    Ok(spot)
 }
 
 impl<'a> Tables<'a> {
@@ -83,16 +96,29 @@ impl<'a> Tables<'a> {
         }
     }
 
-    /// Adds the marked elements among the spots of a page.
-    fn add_all(&mut self, alloc: Global, spots: &[&'a Spot<'a>]) -> Result<(), NoMemory>
+    /// Adds the marked ones of an element and of all below it, in document order. All of them and those above are of one page.
+    fn add_from(
+        &mut self,
+        alloc: Global,
+        arena: &'a Bump,
+        element: &'a Element<'a>,
+        up: Option<&'a Spot<'a>>,
+    ) -> Result<(), NoMemory>
         requires whole { AreWhole self.old.ids self.old.tuples self.old.lists self.old.repeats self.old.spots.items }
-        requires pages { AreOnOwnPages spots.now }
-        ensures spots { OnOk result (all_located self.new.spots.items
-            ≡ all_located self.old.spots.items ++ filter spec_is_marked (all_located spots.now)) }
+        requires page { All (λ p. p ≡ element.now.place.page) (pages_of element.now) }
+        requires spaces { AreNumbered (spaces_of element.now) }
+        requires above { All (IsOn element.now.place.page) (elements_above up) }
+        ensures spots { OnOk result (all_located self.new.spots.items ≡ all_located self.old.spots.items
+            ++ marked_on element.now.place.page (elements_from (path_above up.entry) (tree_of element.now))) }
         ensures whole { OnOk result (AreWhole self.new.ids self.new.tuples self.new.lists self.new.repeats self.new.spots.items) }
     {
-        for spot in spots {
-            self.add_marked(alloc, *spot)?;
+        let spot = spot_in(arena, element, up)?;
+        self.add_marked(alloc, spot)?;
+        for node in element.children {
+            let Node::Elem(below) = node else {
+                continue;
+            };
+            self.add_from(alloc, arena, below, Some(spot))?;
         }
         Ok(())
     }
@@ -111,8 +137,6 @@ impl<'a> Tables<'a> {
             ≡ all_located self.old.spots.items ++ page_marked root.now.place.page (tree_of root.now)) }
         ensures whole { OnOk result (AreWhole self.new.ids self.new.tuples self.new.lists self.new.repeats self.new.spots.items) }
     {
-        let mut spots = Vec::new(alloc);
-        walk(arena, root, None, &mut spots)?;
-        self.add_all(alloc, spots.as_slice())
+        self.add_from(alloc, arena, root, None)
     }
 }

@@ -1,14 +1,16 @@
 -- Items that break no rule of values, as their attributes tell.
-use Rattle.std.proofs.Common.{◌≡◌, true, false, List, ℕ, ap, refl, subst, sym, ⊎_elim}
-use Rattle.std.specs.Prelude.{Option, None, Some, Ok, is_none, option_map, codes}
+use Rattle.std.proofs.Common.{◌≡◌, ◌∷◌, [], Bool, true, false, List, ℕ, ap, cond, refl, subst, sym, ⊎_elim}
+use Rattle.std.specs.Prelude.{Option, None, Some, Ok, ◌&&◌, is_none, not, option_map, codes}
+use Rattle.std.specs.List.{filter}
 use Rattle.std.proofs.lemmas.Bool.{and_parts, cases_Bool, or_cases}
+use Rattle.ix_base.specs.declared.breach.Found.{Found}
 use Rattle.ix_base.specs.declared.content.Item.{Item}
 use Rattle.ix_base.specs.declared.content.Value.TheVariants as value
 use Rattle.ix_base.specs.declared.kind.Kind.{Kind}
 use Rattle.ix_base.specs.declared.kind.Kind.TheVariants as kind
 use Rattle.ix_base.specs.Asks.{Asks}
 use Rattle.ix_base.specs.Kinds.{kind_of, same_kind}
-use Rattle.ix_base.specs.LocatedElements.{Located, is_kind, is_nil}
+use Rattle.ix_base.specs.LocatedElements.{Located, is_item, is_kind, is_nil}
 use Rattle.ix_base.specs.Readers.{attr}
 use Rattle.ix_base.specs.ValueNames.{name_of}
 use Rattle.ix_base.specs.Steps.{◌>>=◌}
@@ -16,7 +18,8 @@ use Rattle.ix_base.specs.Token.{token_of}
 use Rattle.ix_base.specs.Trees.{Named, Tree}
 use Rattle.ix_base.specs.FactViews.{view}
 use Rattle.facts.specs.ItemValue.{IsItem, IsPlain, IsTextBy, IsValueAs, IsValueBy, IsValueOf, ItemText, item_text, item_with}
-use Rattle.target_contents.specs.Faults.{faultless}
+use Rattle.id_table.specs.Model.{faultless, is_checked}
+use Rattle.target_contents.specs.Faults.{AreOfItems}
 
 kind-is : (k : Kind) → same_kind k kind.NonNumeric ≡ true → k ≡ kind.NonNumeric
 kind-is kind.NonNumeric h = refl
@@ -57,3 +60,18 @@ module _ (bases : Located → List ℕ) (a : Asks Located) (e : Located) where
       (λ own. let parts = and_parts _ _ own in text-says parts.0 (none-is _ parts.1) full)
       (λ nil. nil-says nil)
       (or_cases _ _ h)) (cases_Bool (is_nil e))
+
+-- the rules that the items break whose values may break one are those that all items break
+module _ (bases : Located → List ℕ) (a : Asks Located) where
+  checked-one : (e : Located) (es : List Located) (found : List Found) (b c : Bool) → is_item e ≡ b → faultless e ≡ c
+      → ((rest : List Found) → AreOfItems (IsItem bases a) (filter is_checked es) rest → AreOfItems (IsItem bases a) (filter is_item es) rest)
+      → AreOfItems (IsItem bases a) (cond (b && not c) (e ∷ filter is_checked es) (filter is_checked es)) found
+      → AreOfItems (IsItem bases a) (cond b (e ∷ filter is_item es) (filter is_item es)) found
+  checked-one e es found true true i f k h = let said = faultless-says bases a e f in (Ok said.0, said.1, (found, k found h, refl))
+  checked-one e es found true false i f k h = (h.0, h.1, (h.2.0, k h.2.0 h.2.1, h.2.2))
+  checked-one e es found false c i f k h = k found h
+
+  pub checked-all : (es : List Located) (found : List Found) → AreOfItems (IsItem bases a) (filter is_checked es) found
+      → AreOfItems (IsItem bases a) (filter is_item es) found
+  checked-all [] found h = h
+  checked-all (e ∷ es) found h = checked-one e es found (is_item e) (faultless e) refl refl (checked-all es) h

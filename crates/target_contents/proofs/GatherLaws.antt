@@ -1,5 +1,5 @@
 -- Texts that are gathered one behind another.
-use Rattle.std.proofs.Common.{◌≡◌, ◌∙◌, ◌++◌, ◌+◌, ◌<◌, ◌∷◌, ℕ, List, [], Option, ap, get_or, length, sym, take, append-nil, append_assoc}
+use Rattle.std.proofs.Common.{◌≡◌, ◌∙◌, ◌+◌, ◌<◌, ◌∷◌, ℕ, List, [], Option, ap, get_or, length, sym, take, append-nil}
 use Rattle.std.proofs.lemmas.List.Elements.{filter-append, filter_map-append}
 use Rattle.std.specs.Borrow.{Bor}
 use Rattle.std.specs.List.{filter, filter_map}
@@ -8,19 +8,9 @@ use Rattle.ix_base.specs.LocatedElements.{Located, is_item, located}
 use Rattle.ix_base.specs.Once.{in_order}
 use Rattle.ix_base.specs.SortedLists.{text_cmp}
 use Rattle.id_table.specs.Tables.{all_located}
-use Rattle.target_contents.specs.Gathered.{Gathers}
+use Rattle.id_table.specs.Gathered.{Gathers}
+use Rattle.id_table.proofs.GatherLaws.{gathers-more}
 use Rattle.target_contents.proofs.AmongLaws.{located-more}
-
--- those before, and further ones
-pub gathers-more : (start old new before here all : List (List ℕ)) → all ≡ before ++ here → Gathers start old before → Gathers old new here
-    → Gathers start new all
-gathers-more start old new before here all is g h = λ rest.
-    h rest ∙ g (here ++ rest)
-    ∙ ap (λ l. in_order text_cmp (start ++ l)) (sym (append_assoc before here rest) ∙ ap (λ l. l ++ rest) (sym is))
-
--- none
-pub gathers-none : (old : List (List ℕ)) → Gathers old old []
-gathers-none old rest = λ i. in_order text_cmp (old ++ rest)
 
 -- all of them, put in order
 pub gathers-all : (new all : List (List ℕ)) → Gathers [] new all → in_order text_cmp new ≡ in_order text_cmp all

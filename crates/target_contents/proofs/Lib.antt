@@ -11,6 +11,7 @@ mod GroupLaws
 mod LinkLaws
 mod ListLaws
 pub mod MemberLaws
+mod NamedLaws
 pub mod NoTargets
 mod NoteLaws
 mod RedirectLaws

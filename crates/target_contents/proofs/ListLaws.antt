@@ -52,7 +52,7 @@ unit-kind kind.NonFraction h = refl
 unit-kind kind.Fraction h = refl
 unit-kind k h = absurd (let z : false ≡ true = h in cc)
 
-unbroken : (e : Located) (r : Rule) (b : Bool) → b ≡ false → row b (found_at e r) ≡ []
+pub unbroken : (e : Located) (r : Rule) (b : Bool) → b ≡ false → row b (found_at e r) ≡ []
 unbroken e r b h = ap (λ x. row x (found_at e r)) h
 
 pub refs-of : (a : Asks Located) (es : List Located) → flat_map (refs_at a) (filter is_fact es) ≡ flat_map (refs_at a) es

@@ -9,14 +9,16 @@ use Rattle.ix_base.specs.Asks.{Asks, are_some}
 use Rattle.ix_base.specs.Forms.{is_empty}
 use Rattle.ix_base.specs.declared.rule.Rule.TheVariants.{L14}
 use Rattle.ix_base.specs.LinkRules.{broken_at, found_at, is_schema_for, lacks_schema, target_of}
-use Rattle.ix_base.specs.LocatedElements.{Located, is_fact, is_kind}
+use Rattle.ix_base.specs.LocatedElements.{Located, is_fact, is_item, is_kind}
 use Rattle.ix_base.specs.declared.kind.Kind.TheVariants as kind
 use Rattle.ix_base.specs.Once.{in_order, put}
 use Rattle.ix_base.specs.Rows.{row}
 use Rattle.ix_base.specs.SortedLists.{text_cmp}
 use Rattle.id_table.specs.Model.{has_own_target}
-use Rattle.target_contents.specs.Contents.{has_target, target_names, targets_at}
+use Rattle.target_contents.specs.Contents.{has_target, is_item_of, target_names, targets_at}
 use Rattle.target_contents.specs.Groups.{is_fact_of}
+use Rattle.target_contents.proofs.ContentLaws.{items-are}
+use Rattle.target_contents.proofs.ListLaws.{items-of}
 
 empty-is : (xs : List ℕ) → not (is_empty xs) ≡ false → xs ≡ []
 empty-is [] h = refl
@@ -57,6 +59,12 @@ facts-of-default q (e ∷ es) h =
     filter-one (is_fact_of q) (length q == 0) (is_fact e) e es
     (ap (λ t. is_fact e && bytes_eq q t) (default-of e parts.0) ∙ ap (λ b. is_fact e && b) (is-default q) ∙ and-is (is_fact e) (length q == 0))
     (facts-of-default q es parts.1)
+
+-- so are the items
+pub items-of-default : (q : List ℕ) (es : List Located) → list_any has_own_target es ≡ false → (length q == 0) ≡ true
+    → filter is_item es ≡ filter (is_item_of q) es
+items-of-default q es h empty =
+    sym (items-of es) ∙ ap (filter is_item) (sym (facts-of-default q es h ∙ ap (λ b. cond b (filter is_fact es) []) empty)) ∙ items-are es q
 
 -- Their names.
 

@@ -1,15 +1,13 @@
 -- The rules that a set breaks, class by class.
-use Rattle.std.specs.Prelude.{◌≡◌, ℕ, suc, Bool, ◌&&◌, ◌||◌, List, [], ◌∷◌, ◌++◌, filter, Option, None, Some, is_none, Result, codes}
+use Rattle.std.specs.Prelude.{◌≡◌, ℕ, suc, List, [], ◌∷◌, ◌++◌, filter, Option, None, Some, Result}
 use Rattle.ix_base.specs.declared.breach.Found.{Found}
 use Rattle.ix_base.specs.declared.content.Item.{Item}
-use Rattle.ix_base.specs.declared.kind.Kind.TheVariants as kind
 use Rattle.ix_base.specs.declared.rule.Rule.{Rule}
 use Rattle.ix_base.specs.declared.rule.Rule.TheVariants as rule
 use Rattle.ix_base.specs.Asks.{Asks}
 use Rattle.ix_base.specs.ElementRules.{found_on}
 use Rattle.ix_base.specs.LinkRules.{broken, broken_at, found_at, has_two_addresses}
-use Rattle.ix_base.specs.LocatedElements.{Located, Paged, is_item, is_kind, is_nil}
-use Rattle.ix_base.specs.Readers.{attr}
+use Rattle.ix_base.specs.LocatedElements.{Located, Paged, is_item}
 use Rattle.ix_base.specs.Rows.{row}
 use Rattle.facts.specs.ItemValue.{IsItem}
 use Rattle.facts.specs.Verdicts.{rule_said}
@@ -42,10 +40,6 @@ fault_by e (Some r) = found_at e r ∷ []
 -- the rule of values that an item breaks, by what it says
 abbrev pub value_fault : Located → Result Item Rule → List Found
 value_fault e r = fault_by e (rule_said r)
-
--- an item that breaks no rule of values, as its attributes tell: it has no value, or its text as it stands
-abbrev pub faultless : Located → Bool
-faultless e = (is_kind kind.NonNumeric e && is_none (attr (codes "format") e.placed.tree)) || is_nil e
 
 -- these are the rules of values that these items break
 abbrev pub AreOfItems : (Located → Result Item Rule → Type 0) → List Located → List Found → Type 0

@@ -1,8 +1,8 @@
 pub mod Contents
 pub mod Faults
-pub mod Gathered
 pub mod Groups
 pub mod LinkedSets
+pub mod Named
 pub mod PageSet
 pub mod RoleAddresses
 pub mod SetOutcomes

@@ -16,6 +16,7 @@ use Rattle.id_table.specs.ModelCodes.{located_code}
 use Rattle.tuples.specs.Model.{AreMembersOf}
 use Rattle.target_contents.specs.Contents.{SaysItem}
 use Rattle.target_contents.specs.declared.links.Linked.{Linked}
+use Rattle.target_contents.specs.Named.{AreNamed}
 use Rattle.target_contents.specs.RoleAddresses.{SeesAll}
 
 abbrev pub all_of : Linked → List Located
@@ -32,8 +33,8 @@ AreApart es = (x y : Located) → Contains es x → Contains es y → same_place
 abbrev pub AreOwned : List Located → Type 0
 AreOwned es = (e o : Located) → Contains es e → owner (asks es) e ≡ Some o → Contains es o
 
--- the chains, the members and the relations are those of the elements, which are apart, and of pages that have bases, and what was chosen
--- for ids is what the elements ask for
+-- the chains, the members and the relations are those of the elements, which are apart, and of pages that have bases, what was chosen for
+-- ids is what the elements ask for, and the ids are those that items name
 pub record IsLinked (l : Linked) : Type 0 where
   pub chains : AreChainsOf l.chains (all_of l)
   pub members : AreMembersOf l.members (all_of l)
@@ -42,6 +43,7 @@ pub record IsLinked (l : Linked) : Type 0 where
   pub apart : AreApart (all_of l)
   pub owned : AreOwned (all_of l)
   pub chosen : AreChosen l.index.now
+  pub named : AreNamed (all_of l) l.named
   pub pages : All (λ e. e.page < length (bases_of l)) (all_of l)
 
 -- what contracts see of the set: its elements, and the bases of their pages

@@ -1,19 +1,20 @@
 //! The contents of the targets of a set.
-ghost use Rattle.std.specs.Prelude.{◌≡◌, ◌≤◌, ◌++◌, ◌∷◌, [], All, map, filter, not, is_some, true, IfOk, OnOk};
-ghost use Rattle.std.specs.List.{flat_map};
+ghost use Rattle.std.specs.Prelude.{◌≡◌, ◌≤◌, ◌++◌, ◌∷◌, [], ◌&&◌, ◌==◌, All, length, map, filter, not, is_some, true, IfOk, OnOk};
+ghost use Rattle.std.specs.List.{flat_map, list_any};
 ghost use Rattle.ix_base.specs.Asks.{asks};
-ghost use Rattle.ix_base.specs.LocatedElements.{base_in, located};
+ghost use Rattle.ix_base.specs.LocatedElements.{base_in, is_fact, is_item, located};
 ghost use Rattle.ix_base.specs.LinkRules as rules;
 ghost use Rattle.ix_base.specs.Facts.{facts_of};
 ghost use Rattle.ix_base.specs.Membership.{deepest};
 ghost use Rattle.ix_base.specs.declared.limits.TheConstants.{DEEPEST_TUPLE};
+ghost use Rattle.id_table.specs.Gathered.{Gathers};
+ghost use Rattle.id_table.specs.Model.{has_own_target};
 ghost use Rattle.id_table.specs.Tables.{all_located};
 ghost use Rattle.instance_lines.specs.Elements.{lines_of_facts};
 ghost use Rattle.instance_lines.specs.Writable.{IsWritable, depth};
 ghost use Rattle.tuples.specs.Model.{AreMembersOf, owner_in};
 ghost use Rattle.target_contents.specs.Contents as contents;
 ghost use Rattle.target_contents.specs.Contents.{IsContent, IsGathered, target_names};
-ghost use Rattle.target_contents.specs.Gathered.{Gathers};
 ghost use Rattle.target_contents.specs.LinkedSets.{IsValued, SaysIn, all_of};
 ghost use Rattle.target_contents.specs.SetOutcomes.{AreAllTargets, AreTargets, CanBeWritten};
 ghost use Rattle.target_contents.specs.Visits.{AreAmong, values_of};
@@ -25,7 +26,7 @@ use crate::linked::{LinkedSet, ValuedSet};
 use crate::links::Linked;
 use crate::notes::{arcroles_for, notes_for, roles_for};
 use crate::outcome::{Outcome, Target};
-use crate::parts::{contexts_of, ids_named, units_of};
+use crate::parts::{ids_named, parts_of};
 use crate::references::{addresses_at, linkbases_at};
 use fact_view::target_of;
 use id_table::Index;
@@ -103,7 +104,15 @@ fn linkbases_for<'a>(
     linkbases_at(alloc, set.linked.bases, spots)
 }
 
-/// The contexts and the units that the items of a target name.
+/// Whether all facts of a set are of a target: it is the default one, and all targets are.
+fn are_all_of(index: &Index<'_>, target: &str) -> bool
+    ensures is { result ≡ (not (list_any has_own_target index.now.spots) && (length target.now == 0)) }
+    ensures items { result ≡ true → filter is_item index.now.spots ≡ filter (contents.is_item_of target.now) index.now.spots }
+{
+    !index.has_targets() && target.is_empty()
+}
+
+/// The contexts and the units that the items of a target name. The items aren't looked through where all are of the target.
 fn parts_for<'a>(
     alloc: Global,
     valued: &ValuedSet<'_, '_, 'a>,
@@ -112,11 +121,13 @@ fn parts_for<'a>(
     ensures contexts { IfOk result (λ p. p.0 ≡ contents.contexts_of valued.now.elements target.now) }
     ensures units { IfOk result (λ p. p.1 ≡ contents.units_of valued.now.elements target.now) }
 {
-    let ids = ids_named(alloc, valued.facts_of(target))?;
     let set = &valued.set;
-    let contexts = contexts_of(alloc, set.linked.index, ids.contexts.as_slice())?;
-    let units = units_of(alloc, set.linked.index, ids.units.as_slice())?;
-    Ok((contexts, units))
+    let linked = set.linked;
+    if are_all_of(linked.index, target) {
+        return parts_of(alloc, linked.index, &linked.named);
+    }
+    let named = ids_named(alloc, valued.facts_of(target))?;
+    parts_of(alloc, linked.index, &named)
 }
 
 /// The facts of a target, members within their tuples.
@@ -200,7 +211,8 @@ fn each_target<'a>(alloc: Global, spots: &[&'a Spot<'a>]) -> Result<Vec<&'a str>
 
 /// Whether a set has facts, and all targets are the default one.
 fn has_only_default(index: &Index<'_>) -> bool
-    ensures { result ≡ true → target_names index.now.spots ≡ [] ∷ [] }
+    ensures is { result ≡ (not (list_any has_own_target index.now.spots) && not (length (filter is_fact index.now.spots) == 0)) }
+    ensures names { result ≡ true → target_names index.now.spots ≡ [] ∷ [] }
 {
     !index.has_targets() && !index.facts().is_empty()
 }

@@ -1,5 +1,5 @@
 //! The items of a set, and the rules of values that they break.
-ghost use Rattle.std.specs.Prelude.{◌≡◌, ◌<◌, ◌++◌, ◌∷◌, List, [], All, Contains, length, option_map, true, filter, Some, IfOk, IfSome, OnOk};
+ghost use Rattle.std.specs.Prelude.{◌≡◌, ◌<◌, ◌++◌, [], All, Contains, length, true, filter, Some, IfOk, IfSome, OnOk};
 ghost use Rattle.ix_base.specs.Asks.{asks};
 ghost use Rattle.ix_base.specs.Chain as chains;
 ghost use Rattle.ix_base.specs.Elements.{place_of};
@@ -9,18 +9,16 @@ ghost use Rattle.ix_base.specs.declared.kind.Kind.TheVariants as kind;
 ghost use Rattle.ix_base.specs.declared.content.Item.{Item as ItemOf};
 ghost use Rattle.ix_base.specs.declared.rule.Rule.{Rule as RuleOf};
 ghost use Rattle.std.specs.Prelude.{Result as ResultOf};
-ghost use Rattle.ix_base.specs.declared.breach.Found.{Found};
 ghost use Rattle.facts.specs.ItemValue.{IsItem};
 ghost use Rattle.facts.specs.Verdicts.{rule_said, said};
 ghost use Rattle.id_table.specs.Tables.{all_located, AreOnOwnPages};
-ghost use Rattle.target_contents.specs.Faults.{AreOfItems, fault_by, faultless, value_fault};
+ghost use Rattle.target_contents.specs.Faults.{AreOfItems, fault_by, value_fault};
 ghost use Rattle.target_contents.specs.Visits.{AreAmong};
 
 use crate::linked::LinkedSet;
 use facts::{ItemFault, item_of, value_rule};
-use ix_base::{Breaches, Item, Kind, NoMemory, Rule, Spot, attr_of, is_item, kind_of};
+use ix_base::{Breaches, Item, Kind, NoMemory, Rule, Spot, kind_of};
 use std::alloc::Global;
-use value_forms::is_nil;
 
 /// The chain of a nonNumeric; for another item nothing.
 fn chain_of<'a>(set: &LinkedSet<'_, '_, 'a>, spot: &Spot<'a>) -> &'a [&'a Spot<'a>]
@@ -69,16 +67,7 @@ fn add_at(spot: &Spot<'_>, rule: Rule, found: &mut Breaches) -> Result<(), NoMem
     found.add(spot.element.place, rule)
 }
 
-/// Whether an item breaks no rule of values, as its attributes tell: it has no value, or its text as it stands.
-fn is_faultless(spot: &Spot<'_>) -> bool
-    ensures { result ≡ faultless (located spot.now) }
-{
-    let has_own_text = kind_of(spot) == Kind::NonNumeric
-        && attr_of(spot.element, "", "format").is_none();
-    has_own_text || is_nil(spot.element)
-}
-
-/// Adds the rule of values that an item breaks, if it breaks one. No item is made where its attributes tell that it breaks none.
+/// Adds the rule of values that an item breaks, if it breaks one.
 fn add_value<'a>(
     alloc: Global,
     set: &LinkedSet<'_, '_, 'a>,
@@ -90,54 +79,32 @@ fn add_value<'a>(
         × IsItem (base_in set.now.bases) (asks set.now.elements) (located spot.now) r
         × (found.new ≡ found.old ++ value_fault (located spot.now) r)) }
 {
-    if is_faultless(spot) {
-        return Ok(());
-    }
     match rule_at(alloc, set, spot)? {
         Some(rule) => add_at(spot, rule, found),
         None => Ok(()),
     }
 }
 
-/// The same of an element, where it is an item.
-fn add_if_item<'a>(
-    alloc: Global,
-    set: &LinkedSet<'_, '_, 'a>,
-    found: &mut Breaches,
-    spot: &Spot<'a>,
-) -> Result<(), NoMemory>
-    requires { Contains set.now.elements (located spot.now) }
-    ensures { OnOk result ((more : List Found)
-        × AreOfItems (IsItem (base_in set.now.bases) (asks set.now.elements)) (filter kinds.is_item (located spot.now ∷ [])) more
-        × (found.new ≡ found.old ++ more)) }
-{
-    if is_item(spot) {
-        return add_value(alloc, set, spot, found);
-    }
-    Ok(())
-}
-
-/// The rules of values that these elements break.
+/// The rules of values that these items break.
 fn faults_among<'a>(
     alloc: Global,
     set: &LinkedSet<'_, '_, 'a>,
     spots: &[&'a Spot<'a>],
 ) -> Result<Breaches, NoMemory>
     requires { AreAmong set.now.elements spots.now }
-    ensures { IfOk result (AreOfItems (IsItem (base_in set.now.bases) (asks set.now.elements))
-        (filter kinds.is_item (all_located spots.now))) }
+    ensures { IfOk result (AreOfItems (IsItem (base_in set.now.bases) (asks set.now.elements)) (all_located spots.now)) }
 {
     let mut found = Breaches::new(alloc);
     for spot in spots {
-        add_if_item(alloc, set, &mut found, spot)?;
+        add_value(alloc, set, spot, &mut found)?;
     }
     Ok(found)
 }
 
-/// The rules of values that the items of a set break.
+/// The rules of values that the items of a set break. Those that break none, as their attributes tell, aren't looked at.
 pub fn value_faults(alloc: Global, set: &LinkedSet<'_, '_, '_>) -> Result<Breaches, NoMemory>
     ensures { IfOk result (AreOfItems (IsItem (base_in set.now.bases) (asks set.now.elements))
         (filter kinds.is_item set.now.elements)) }
 {
-    faults_among(alloc, set, set.linked.index.facts())
+    faults_among(alloc, set, set.linked.index.checked())
 }

@@ -30,6 +30,7 @@ use Rattle.target_contents.specs.declared.outcome.Outcome.TheVariants.{Broken, W
 use Rattle.target_contents.specs.Faults.{AreOfItems, link_faults}
 use Rattle.page_links.specs.Model.{Keeps, as_paged}
 use Rattle.target_contents.specs.LinkedSets.{AreApart, AreOwned, IsLinked, bases_of}
+use Rattle.target_contents.specs.Named.{AreNamed}
 use Rattle.target_contents.specs.SetOutcomes.{IsReport}
 use Rattle.target_contents.specs.PageSet.{PageSet, names, page_bases}
 use Rattle.target_contents.specs.RoleAddresses.{SeesAll}
@@ -78,8 +79,8 @@ keeps-on base pages index bases k =
 -- what was made of the links of a set
 pub is-linked : (l : Linked) (base : List ℕ) (pages : List Page) (index : Held) (bases : Kept) → Keeps base pages index bases → l.index.now ≡ index
     → l.bases.now ≡ bases → AreChainsOf l.chains index.spots → AreMembersOf l.members index.spots → AreRelationsOf l.relations index.spots
-    → SeesAll (base_in bases.pages) index.spots l.seen_roles → IsLinked l
-is-linked l base pages index bases k i b chains members relations seen_roles = record {
+    → SeesAll (base_in bases.pages) index.spots l.seen_roles → AreNamed index.spots l.named → IsLinked l
+is-linked l base pages index bases k i b chains members relations seen_roles named = record {
   chains = subst (λ (h : Held). AreChainsOf l.chains h.spots) (sym i) chains;
   members = subst (λ (h : Held). AreMembersOf l.members h.spots) (sym i) members;
   relations = subst (λ (h : Held). AreRelationsOf l.relations h.spots) (sym i) relations;
@@ -88,6 +89,7 @@ is-linked l base pages index bases k i b chains members relations seen_roles = r
   apart = subst (λ (es : List Located). AreApart es) (sym (ap (λ (h : Held). h.spots) i ∙ k.spots)) (apart (map as_paged pages) (sound-trees 0 pages k.sound));
   owned = subst (λ (es : List Located). AreOwned es) (sym (ap (λ (h : Held). h.spots) i ∙ k.spots)) (owner_marked (map as_paged pages));
   chosen = subst AreChosen (sym i) k.chosen;
+  named = subst (λ (h : Held). AreNamed h.spots l.named) (sym i) named;
   pages = subst (λ (h : Held). All (λ e. e.page < length (bases_of l)) h.spots) (sym i)
       (subst (λ (x : Kept). All (λ e. e.page < length x.pages) index.spots) (sym b) (keeps-on base pages index bases k));
 }

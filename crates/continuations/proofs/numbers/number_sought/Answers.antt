@@ -1,5 +1,4 @@
 use Rattle.std.proofs.Common.{◌≡◌, ◌∙◌, ap, sym, subst, false, length, List, Some, ℕ, option_map}
-use Rattle.std.proofs.lemmas.List.{length-map}
 use Rattle.std.proofs.lemmas.Result.{IfOk-weaker}
 use Rattle.std.specs.Borrow.{Bor}
 use Rattle.std.specs.List.{filter, slice_get}
@@ -10,7 +9,7 @@ use Rattle.ix_base.specs.Ids.{holds_id}
 use Rattle.ix_base.specs.LocatedElements.{Located, located, is_continuation}
 use Rattle.id_table.specs.Model.{asked}
 use Rattle.continuations.specs.Numbers.{AreNumbers}
-use Rattle.continuations.proofs.Numbering.{named-is, number-is}
+use Rattle.continuations.proofs.Numbering.{count-elements, named-is, number-is}
 use Rattle.continuations.proofs.numbers.number_sought.Goals as goal
 
 pub returns-then-has_id-clause-number : goal.returns-then-has_id-clause-number
@@ -26,7 +25,7 @@ returns-clause-number c =
     let one : continuation (asked c.args.index.now) c.args.id.now ≡ Some (located c.in-Some.spot.now)
     = sym c.continuation.ensures ∙ ap (option_map (λ (s : Bor Spot). located s.now)) c.in-Some.is in
     let many : length c.args.continuations.now ≡ length (filter is_continuation c.args.index.now.spots)
-    = sym (length-map c.args.continuations.now (λ (s : Bor Spot). located s.now)) ∙ ap length c.requires.continuations in
+    = sym (count-elements c.args.continuations.now) ∙ ap length c.requires.continuations in
     IfOk-weaker c.number_in.result _ _
     (λ n h. number-is h.0 c.args.index.now.spots c.args.id.now (located c.in-Some.spot.now) n
     (subst (λ (k : ℕ). AreNumbers h.0 (filter is_continuation c.args.index.now.spots) k) many

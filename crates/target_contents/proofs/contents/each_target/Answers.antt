@@ -5,7 +5,7 @@ use Rattle.ix_base.specs.LocatedElements.{located}
 use Rattle.id_table.specs.Tables.{all_located}
 use Rattle.target_contents.specs.Contents.{targets_at}
 use Rattle.target_contents.proofs.AmongLaws.{located-more}
-use Rattle.target_contents.proofs.GatherLaws.{gathers-more}
+use Rattle.id_table.proofs.GatherLaws.{gathers-more}
 use Rattle.target_contents.proofs.contents.each_target.Goals as goal
 
 pub loop-spot-preserved : goal.loop-spot-preserved

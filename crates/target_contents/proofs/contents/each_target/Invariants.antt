@@ -2,7 +2,7 @@ use Rattle.std.proofs.Common.{[], take}
 use Rattle.std.specs.List.{flat_map}
 use Rattle.id_table.specs.Tables.{all_located}
 use Rattle.target_contents.specs.Contents.{targets_at}
-use Rattle.target_contents.specs.Gathered.{Gathers}
+use Rattle.id_table.specs.Gathered.{Gathers}
 use Rattle.target_contents.specs.Visits.{values_of}
 use Rattle.target_contents.proofs.contents.each_target.Given as goal
 

@@ -18,4 +18,4 @@ add_schemaless-requires c = λ q.
 pub returns-then-has_default_schema : goal.returns-then-has_default_schema
 returns-then-has_default_schema c =
     let old = c.args.found.now in
-    sym (ap (λ xs. old ++ xs) (c.has_default_schema.ensures c.if-has_default_schema.true) ∙ append-nil old)
+    sym (ap (λ xs. old ++ xs) (c.has_default_schema.ensures.unbroken c.if-has_default_schema.true) ∙ append-nil old)

@@ -16,7 +16,7 @@ pub returns-clause-faults : goal.returns-clause-faults
 returns-clause-faults c =
     let es = c.args.index.now.spots in
     let on : Rule → List Found = λ r. breaking r es in
-    let ids = c.in_ok-doubled.ensures.ok ∙ ap (λ (x : List Found). c.args.found.now ++ x) (c.in_ok-doubled.ensures.chosen c.requires) in
+    let ids = c.in_ok-doubled.ensures.ok ∙ ap (λ (x : List Found). c.args.found.now ++ x) (c.in_ok-doubled.ensures.chosen c.requires.chosen) in
     let refs = c.in_ok-add_refs.ensures ∙ ap (λ (x : List Found). x ++ flat_map (refs_at (asks es)) es) ids in
     OnOk-map c.link.result _ _ (λ n. n ∙ ap (λ (x : List Found). x ++ on rule.L4 ++ on rule.L5 ++ on rule.L6 ++ on rule.L7) refs) c.link.ensures.breaches
 

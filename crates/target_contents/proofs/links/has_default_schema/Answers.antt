@@ -9,8 +9,8 @@ use Rattle.id_table.specs.Tables.{spots_at}
 use Rattle.target_contents.proofs.NoTargets.{none-schemaless}
 use Rattle.target_contents.proofs.links.has_default_schema.Goals as goal
 
-pub returns-then-not-has_targets : goal.returns-then-not-has_targets
-returns-then-not-has_targets c = λ some.
+pub returns-then-not-has_targets-clause-unbroken : goal.returns-then-not-has_targets-clause-unbroken
+returns-then-not-has_targets-clause-unbroken c = λ some.
     let index = c.args.index.now in
     let count = c.count_in.ensures ∙ sym (length-map (spots_at c.args.schemas.now []) (λ (s : Bor Spot). located s.now)) ∙ ap length (c.requires []) in
     none-schemaless (asked index) index.spots (sym c.has_targets.ensures ∙ c.if-not-has_targets.true) (ap (nat_lt 0) (sym count) ∙ some)

@@ -3,7 +3,7 @@ use Rattle.std.specs.List.{filter, filter_map}
 use Rattle.ix_base.specs.LocatedElements.{is_item}
 use Rattle.id_table.specs.Tables.{all_located}
 use Rattle.link_ids.specs.Links.{context_named, unit_named}
-use Rattle.target_contents.specs.Gathered.{Gathers}
+use Rattle.id_table.specs.Gathered.{Gathers}
 use Rattle.target_contents.specs.Visits.{values_of}
 use Rattle.target_contents.proofs.parts.each_named.Given as goal
 

@@ -1,18 +1,10 @@
 use Rattle.std.proofs.Common.{◌∙◌, None, Some, sym, append-nil}
-use Rattle.std.specs.Prelude.{Ok}
 use Rattle.ix_base.specs.Asks.{asks}
 use Rattle.ix_base.specs.LocatedElements.{base_in, located}
 use Rattle.facts.specs.ItemValue.{IsItem}
-use Rattle.target_contents.proofs.FaultlessLaws.{faultless-says}
 use Rattle.target_contents.proofs.ValueLaws.{value-added}
 use Rattle.indexmap.proofs.MapLemmas.{OnOk-map}
 use Rattle.target_contents.proofs.values.add_value.Goals as goal
-
-pub returns-then-is_faultless : goal.returns-then-is_faultless
-returns-then-is_faultless c =
-    let said = faultless-says (base_in c.args.set.now.bases) (asks c.args.set.now.elements) (located c.args.spot.now)
-    (sym c.is_faultless.ensures ∙ c.if-is_faultless.true) in
-    (Ok said.0, said.1, sym (append-nil c.args.found.now))
 
 pub returns-in-Some : goal.returns-in-Some
 returns-in-Some c =

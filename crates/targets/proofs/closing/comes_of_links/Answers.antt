@@ -28,7 +28,8 @@ pub comes_of_linked-requires-clause-linked : goal.comes_of_linked-requires-claus
 comes_of_linked-requires-clause-linked c = λ none. (
   is-linked c.in_ok-linked.linked _ _ _ _ c.requires.keeps (ap (λ (b : Bor Held). b.now) c.in_ok-linked.ensures.keeps.0)
       (ap (λ (b : Bor Kept). b.now) c.in_ok-linked.ensures.keeps.1) (c.in_ok-linked.ensures.chains none)
-      c.in_ok-linked.ensures.ties.0 c.in_ok-linked.ensures.ties.1 c.in_ok-linked.ensures.seen_roles,
+      c.in_ok-linked.ensures.ties.0 c.in_ok-linked.ensures.ties.1 c.in_ok-linked.ensures.seen_roles
+      c.in_ok-linked.ensures.named,
   subst (λ (b : Bor Held). breaking rule.L9 b.now.spots ≡ []) (sym c.in_ok-linked.ensures.keeps.0)
       (none-deep (base_in c.args.pages.now.bases.now.pages) c.args.pages.now.index.now.spots
       (none-same c.link_all.new.found _ c.in_ok-linked.ensures.faults none)),

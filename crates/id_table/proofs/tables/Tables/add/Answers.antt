@@ -20,7 +20,8 @@ returns-clause-whole c =
       by_tuple_id = each-entered spots now c.args.spot more tuple_id_of c.args.self.now.tuples c.enter_tuple.new.tuples c.requires.whole.by_tuple_id
           c.in_ok-shares_tuple_id.ensures.entered;
       by_sort = sorted-more c.args.self.now.lists c.add.new.self spots now c.args.spot more c.requires.whole.by_sort c.in_ok-add.ensures.facts
-          c.in_ok-add.ensures.starts c.in_ok-add.ensures.continuations c.in_ok-add.ensures.others c.in_ok-add.ensures.tuples c.in_ok-add.ensures.targets;
+          c.in_ok-add.ensures.checked c.in_ok-add.ensures.starts c.in_ok-add.ensures.continuations c.in_ok-add.ensures.others
+          c.in_ok-add.ensures.contexts c.in_ok-add.ensures.units c.in_ok-add.ensures.tuples c.in_ok-add.ensures.targets;
       apart = λ none.
           let parts = or_parts c.args.self.now.repeats _ none in
           let shared = or_parts c.in_ok-shares_id.shares_id c.in_ok-shares_tuple_id.shares_tuple_id parts.1 in

@@ -3,7 +3,7 @@ use Rattle.std.specs.List.{flat_map}
 use Rattle.id_table.specs.Model.{asked}
 use Rattle.id_table.specs.Tables.{all_located}
 use Rattle.target_contents.specs.Faults.{refs_at}
-use Rattle.target_contents.proofs.links.add_refs.Given as goal
+use Rattle.target_contents.proofs.links.add_each.Given as goal
 
 -- what those before here miss is added
 abbrev pub invariant-loop-spot : goal.invariant-loop-spot
