@@ -23,11 +23,11 @@ use Rattle.escape_text.specs.declared.marked_text.Around.{Around}
 within-part : (a : Around) (xs ys : List Space) → IsPart xs ys → IsWithin a xs → IsWithin a ys
 within-part a xs ys part h = record { inner = λ n. numbered-part xs ys part (h.inner n); outer = outer-part a.outer xs ys part h.outer }
 
-pub within_name : (a : Around) (e : Element) → IsWithin a (spaces_of e) → IsOuter a.outer (space_of e.name ∷ [])
-within_name a e h = outer-part a.outer (spaces_of e) (space_of e.name ∷ []) (part-name e) h.outer
+pub within_name : (a : Around) (e : Element) → IsWithin a (spaces_of e) → IsOuter a.outer (space_of e.name.now ∷ [])
+within_name a e h = outer-part a.outer (spaces_of e) (space_of e.name.now ∷ []) (part-name e) h.outer
 
-pub within_inside : (a : Around) (e : Element) → IsWithin a (spaces_of e) → IsWithin a (space_of e.name ∷ flat_map spaces_in e.children.now)
-within_inside a e h = within-part a (spaces_of e) (space_of e.name ∷ flat_map spaces_in e.children.now) (part-inside e) h
+pub within_inside : (a : Around) (e : Element) → IsWithin a (spaces_of e) → IsWithin a (space_of e.name.now ∷ flat_map spaces_in e.children.now)
+within_inside a e h = within-part a (spaces_of e) (space_of e.name.now ∷ flat_map spaces_in e.children.now) (part-inside e) h
 
 pub within_children : (a : Around) (e : Element) → IsWithin a (spaces_of e) → IsWithin a (flat_map spaces_in e.children.now)
 within_children a e h = within-part a (spaces_of e) (flat_map spaces_in e.children.now) (part-children e) h

@@ -75,11 +75,11 @@ fn push_rest(around: Around<'_, '_>, element: &Element<'_>, out: &mut Text) -> R
     ensures { OnOk result (out.new ≡ out.old ++ rest_text (is_short (tree_of element.now)) (tree_of element.now).head.name.local
         (marks.markup (base_of around.entry) (tree_of element.now).head.name.ns (tree_of element.now).children)) }
 {
-    if ends_short(element.name) && is_silent(element) {
+    if ends_short(*element.name) && is_silent(element) {
         return out.push("/>");
     }
     out.push(">")?;
-    push_nodes(inside(around, element.name), element.children, out)?;
+    push_nodes(inside(around, *element.name), element.children, out)?;
     push_close(element.name.local, out)
 }
 

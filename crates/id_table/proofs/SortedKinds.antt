@@ -1,5 +1,5 @@
 -- In which list the elements of a kind are.
-use Rattle.std.proofs.Common.{◌≡◌, Bool, true, false, refl, sym, true≢false, ℕ, List, None, Some}
+use Rattle.std.proofs.Common.{◌≡◌, Bool, true, false, refl, sym, true≢false, ℕ, List, None}
 use Rattle.std.specs.List.{filter}
 use Rattle.ix_base.specs.declared.kind.Kind.{Kind}
 use Rattle.ix_base.specs.declared.kind.Kind.TheVariants as kind

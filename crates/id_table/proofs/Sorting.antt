@@ -1,5 +1,5 @@
 -- Lists of elements by what they are, after one more, and what is known of their elements.
-use Rattle.std.proofs.Common.{◌≡◌, ◌∙◌, ◌++◌, ◌∷◌, [], ◌||◌, All, ap, refl, sym, true, false, true≢false, List, Bool, Option, ℕ, map}
+use Rattle.std.proofs.Common.{◌≡◌, ◌∙◌, ◌++◌, ◌∷◌, [], ◌||◌, ap, refl, sym, true, false, true≢false, List, Bool, Option, ℕ}
 use Rattle.std.proofs.Math.Bool.{or-false}
 use Rattle.std.proofs.lemmas.List.{map-append}
 use Rattle.std.proofs.lemmas.List.Folds.{list_any-append}

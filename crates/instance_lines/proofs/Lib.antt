@@ -2,7 +2,6 @@ pub mod ArrangedLaws
 pub mod Calendar
 pub mod CanonLaws
 pub mod DayLaws
-pub mod Exchanging
 mod FirstDay
 pub mod FirstLaws
 pub mod Gathered
@@ -13,7 +12,6 @@ pub mod LinkLaws
 pub mod MarkupLaws
 pub mod Midnights
 pub mod NumberLaws
-pub mod Placing
 pub mod PrefixLaws
 pub mod RootLaws
 pub mod Sorting

@@ -3,7 +3,6 @@ pub mod Canonical
 pub mod Elements
 pub mod Gains
 pub mod Holdings
-pub mod Inverses
 pub mod Keys
 pub mod Lists
 pub mod Moments

@@ -13,10 +13,10 @@ use crate::arranged_note::links_in_order;
 use crate::fact::line_of;
 use crate::prefix::Prefixes;
 use crate::reference::{linkbase_line, role_line, schema_line};
-use crate::reorder::put_in_order;
 use crate::sort::{Keyed, by_keys, copies_of, once_by_keys, views_of, with_keys};
 use crate::spaces::spaces_in;
 use ix_base::{Content, Context, Fact, Linkbase, List, NoMemory, RoleRef, Text, Unit};
+use reordering::put_in_order;
 use std::alloc::Global;
 use std::mem;
 

@@ -22,7 +22,6 @@ mod names;
 mod note;
 mod prefix;
 mod reference;
-mod reorder;
 mod sort;
 mod spaces;
 mod spelled;

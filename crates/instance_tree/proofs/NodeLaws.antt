@@ -11,7 +11,7 @@ use Rattle.ix_base.specs.declared.tree.Node.TheVariants.{Elem, Chars}
 use Rattle.ix_base.specs.Trees.{Nodes, chars, elem, Tree, before, named, none, nodes_of, node_step, tree_of}
 
 -- what an element is called and what it holds
-pub name-is : (e : Element) → named e.name ≡ (tree_of e).head.name
+pub name-is : (e : Element) → named e.name.now ≡ (tree_of e).head.name
 name-is e = rw (fold_out-Element) refl
 
 pub children_are : (e : Element) → nodes_of e.children.now ≡ (tree_of e).children

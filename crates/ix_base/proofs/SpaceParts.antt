@@ -29,7 +29,7 @@ numbered-part xs ys part h a b in_a in_b = h a b (part a in_a) (part b in_b)
 same_spaces : (ns : List Node) → flat_map (λ l. l) (map spaces_in ns) ≡ flat_map spaces_in ns
 same_spaces ns = flat_map-map (λ l. l) spaces_in ns
 
-pub spaces-Element : (e : Element) → spaces_of e ≡ space_of e.name ∷ (spaces_named e.attrs ++ spaces_bound e.scope ++ flat_map spaces_in e.children.now)
+pub spaces-Element : (e : Element) → spaces_of e ≡ space_of e.name.now ∷ (spaces_named e.attrs ++ spaces_bound e.scope ++ flat_map spaces_in e.children.now)
 spaces-Element e = search (rules, the_lemmas, same_spaces)
 
 pub spaces-Elem : (e : Bor Element) → spaces_in (Elem e) ≡ spaces_of e.now
@@ -38,18 +38,18 @@ spaces-Elem e = search (rules, the_lemmas)
 pub part-children : (e : Element) → IsPart (spaces_of e) (flat_map spaces_in e.children.now)
 part-children e s c =
     subst (λ spaces. Contains spaces s) (sym (spaces-Element e))
-    (Contains-later (space_of e.name) (spaces_named e.attrs ++ spaces_bound e.scope ++ flat_map spaces_in e.children.now) s
+    (Contains-later (space_of e.name.now) (spaces_named e.attrs ++ spaces_bound e.scope ++ flat_map spaces_in e.children.now) s
     (Contains-append_right (spaces_named e.attrs ++ spaces_bound e.scope) (flat_map spaces_in e.children.now) s c))
 
-pub part-inside : (e : Element) → IsPart (spaces_of e) (space_of e.name ∷ flat_map spaces_in e.children.now)
-part-inside e s c = elim (Contains-cases (space_of e.name) (flat_map spaces_in e.children.now) s c) [
-  | inl is ↦ subst (λ spaces. Contains spaces s) (sym (spaces-Element e)) (Contains-same (space_of e.name) _ s is)
+pub part-inside : (e : Element) → IsPart (spaces_of e) (space_of e.name.now ∷ flat_map spaces_in e.children.now)
+part-inside e s c = elim (Contains-cases (space_of e.name.now) (flat_map spaces_in e.children.now) s c) [
+  | inl is ↦ subst (λ spaces. Contains spaces s) (sym (spaces-Element e)) (Contains-same (space_of e.name.now) _ s is)
   | inr more ↦ part-children e s more
 ]
 
-pub part-name : (e : Element) → IsPart (spaces_of e) (space_of e.name ∷ [])
-part-name e s c = elim (Contains-cases (space_of e.name) [] s c) [
-  | inl is ↦ subst (λ spaces. Contains spaces s) (sym (spaces-Element e)) (Contains-same (space_of e.name) _ s is)
+pub part-name : (e : Element) → IsPart (spaces_of e) (space_of e.name.now ∷ [])
+part-name e s c = elim (Contains-cases (space_of e.name.now) [] s c) [
+  | inl is ↦ subst (λ spaces. Contains spaces s) (sym (spaces-Element e)) (Contains-same (space_of e.name.now) _ s is)
   | inr none ↦ absurd (Contains-nil s none)
 ]
 

@@ -51,7 +51,7 @@ node_spaces (Node-F.Elem e) = e.now
 node_spaces (Node-F.Chars s) = []
 
 abbrev pub element_spaces : Element-F (List Space) (List Space) → List Space
-element_spaces e = space_of e.name ∷ (spaces_named e.attrs ++ spaces_bound e.scope ++ flat_map (λ l. l) e.children.now)
+element_spaces e = space_of e.name.now ∷ (spaces_named e.attrs ++ spaces_bound e.scope ++ flat_map (λ l. l) e.children.now)
 
 -- those of an element and of all below it: of the names, and those that are declared around them
 abbrev pub spaces_of : Element → List Space

@@ -53,7 +53,7 @@ abbrev pub bindings_in : Scope → List Bound
 bindings_in s = bindings_above s.level
 
 abbrev pub head_of : {X Y : Type 0} → Element-F X Y → Head
-head_of e = record { offset = e.place.offset; name = named e.name; attrs = attrs_in e.attrs; scope = bindings_in e.scope }
+head_of e = record { offset = e.place.offset; name = named e.name.now; attrs = attrs_in e.attrs; scope = bindings_in e.scope }
 
 -- each node put before those after it
 abbrev pub joined : List (Nodes → Nodes) → Nodes

@@ -96,7 +96,7 @@ pub enum Node<'a> {
 #[cycle(tree)]
 pub struct Element<'a> {
     pub place: Place,
-    pub name: Name<'a>,
+    pub name: &'a Name<'a>,
     pub attrs: Attrs<'a>,
     pub scope: Scope<'a>,
     pub children: &'a [Node<'a>],

@@ -44,7 +44,7 @@ pub part-attrs : (e : Element) → IsPart (spaces_of e) (spaces_named e.attrs)
 part-attrs e s c =
     let below = flat_map spaces_in e.children.now in
     subst (λ spaces. Contains spaces s) (sym (spaces-Element e))
-    (Contains-later (space_of e.name) (spaces_named e.attrs ++ spaces_bound e.scope ++ below) s
+    (Contains-later (space_of e.name.now) (spaces_named e.attrs ++ spaces_bound e.scope ++ below) s
     (Contains-append_left (spaces_named e.attrs ++ spaces_bound e.scope) below s
     (Contains-append_left (spaces_named e.attrs) (spaces_bound e.scope) s c)))
 
@@ -62,8 +62,8 @@ numbered_attr prefixed attrs i d l = numbered-part (prefixed ++ attr_spaces attr
 within-part : (o : Outer) (prefixed xs ys : List Space) → IsPart xs ys → IsWithin o prefixed xs → IsWithin o prefixed ys
 within-part o prefixed xs ys part h = (numbered-behind prefixed xs ys part h.0, outer-part o xs ys part h.1)
 
-pub within_name : (o : Outer) (prefixed : List Space) (e : Element) → IsWithin o prefixed (spaces_of e) → IsOuter o (space_of e.name ∷ [])
-within_name o prefixed e h = outer-part o (spaces_of e) (space_of e.name ∷ []) (part-name e) h.1
+pub within_name : (o : Outer) (prefixed : List Space) (e : Element) → IsWithin o prefixed (spaces_of e) → IsOuter o (space_of e.name.now ∷ [])
+within_name o prefixed e h = outer-part o (spaces_of e) (space_of e.name.now ∷ []) (part-name e) h.1
 
 pub within_children : (o : Outer) (prefixed : List Space) (e : Element) → IsWithin o prefixed (spaces_of e) → IsWithin o prefixed (flat_map spaces_in e.children.now)
 within_children o prefixed e h = within-part o prefixed (spaces_of e) (flat_map spaces_in e.children.now) (part-children e) h
@@ -73,12 +73,12 @@ pub within_node : (o : Outer) (prefixed : List Space) (nodes : List Node) (i : �
 within_node o prefixed nodes i d e l at is h = within-part o prefixed (flat_map spaces_in nodes) (spaces_of e.now) (part-node nodes i d e l at is) h
 
 -- the namespace of an element around what it holds, and none around a root
-pub within_own : (o : Outer) (prefixed : List Space) (e : Element) → o.ns.now ≡ e.name.ns.now → o.number ≡ Some e.name.number → AreNumbered (prefixed ++ spaces_of e)
+pub within_own : (o : Outer) (prefixed : List Space) (e : Element) → o.ns.now ≡ e.name.now.ns.now → o.number ≡ Some e.name.now.number → AreNumbered (prefixed ++ spaces_of e)
     → IsWithin o prefixed (flat_map spaces_in e.children.now)
 within_own o prefixed e text number h =
     let below = flat_map spaces_in e.children.now in (
       numbered-behind prefixed (spaces_of e) below (part-children e) h,
-      outer_named o e.name below text number (numbered-part (prefixed ++ spaces_of e) (space_of e.name ∷ below)
+      outer_named o e.name.now below text number (numbered-part (prefixed ++ spaces_of e) (space_of e.name.now ∷ below)
           (λ s c. Contains-append_right prefixed (spaces_of e) s (part-inside e s c)) h),
     )
 

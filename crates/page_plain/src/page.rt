@@ -93,14 +93,14 @@ fn push_rest(
         ++ rest_bytes (is_short (tree_of element.now)) (tree_of element.now).head.name.local
         (node_bytes (plain.numbered 1 prefixes.now.texts) (tree_of element.now).head.name.ns (tree_of element.now).children)) }
 {
-    if ends_short(element.name) && are_silent(element.children) {
+    if ends_short(*element.name) && are_silent(element.children) {
         return out.push("/>");
     }
     out.push(">")?;
     push_nodes(
         alloc,
         prefixes,
-        Outer::of(element.name),
+        Outer::of(*element.name),
         element.children,
         out,
     )?;

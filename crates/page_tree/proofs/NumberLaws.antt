@@ -71,7 +71,7 @@ scope-open t (x ∷ os) zero o l at h =
     subst (λ y. HaveNumbers t (spaces_open y)) (sym at) (all-left (HasNumber t) (spaces_open x) (flat_map spaces_open os) h) in
     all-right (HasNumber t) (spaces_named o.attrs) (spaces_bound o.scope)
     (all-left (HasNumber t) (spaces_named o.attrs ++ spaces_bound o.scope) (flat_map spaces_in o.children.items)
-    (All-tail (HasNumber t) (space_of o.name) _ own))
+    (All-tail (HasNumber t) (space_of o.name.now) _ own))
 scope-open t (x ∷ os) (suc i) o l at h = scope-open t os i o (omega arith) at (all-right (HasNumber t) (spaces_open x) (flat_map spaces_open os) h)
 
 -- the three kinds of namespaces: none, that of xml, and those that were declared

@@ -42,7 +42,7 @@ pages-Element e = search (rules, the_lemmas, same_pages)
 pub same_spaces : (ns : List Node) → flat_map (λ l. l) (map spaces_in ns) ≡ flat_map spaces_in ns
 same_spaces ns = flat_map-map (λ l. l) spaces_in ns
 
-pub spaces-Element : (e : Element) → spaces_of e ≡ space_of e.name ∷ (spaces_named e.attrs ++ spaces_bound e.scope ++ flat_map spaces_in e.children.now)
+pub spaces-Element : (e : Element) → spaces_of e ≡ space_of e.name.now ∷ (spaces_named e.attrs ++ spaces_bound e.scope ++ flat_map spaces_in e.children.now)
 spaces-Element e = search (rules, the_lemmas, same_spaces)
 
 module _ (page : ℕ) where

@@ -1,5 +1,5 @@
 -- The innermost open element is the last of the stack.
-use Rattle.std.proofs.Common.{◌≡◌, ◌≢◌, ℕ, zero, suc, ◌+◌, ◌<◌, Bool, List, [], ◌∷◌, ◌++◌, length, get_or, slice_set, take, refl, sym, ap, ◌∙◌, arith, Option, Some, None, map, bytes_eq, true, false, ◌==◌, is_some, option_map}
+use Rattle.std.proofs.Common.{◌≡◌, ◌≢◌, ℕ, ◌+◌, ◌<◌, Bool, List, [], ◌∷◌, ◌++◌, length, get_or, take, refl, sym, ap, ◌∙◌, arith, Option, Some, None, map, bytes_eq, true, false, ◌==◌, is_some, option_map}
 use Rattle.std.proofs.lemmas.Bool.{eq-eqb, ne_eqb}
 use Rattle.std.proofs.lemmas.List.{take_more}
 use Rattle.std.proofs.Math.Seq.{take-length}
@@ -38,17 +38,6 @@ length-onto (o ∷ os) fs = length-onto os (frame o ∷ fs) ∙ omega arith
 
 last-split : (os : List Open) (n : ℕ) (o : Open) → n + 1 ≡ length os → os ≡ take n os ++ get_or os n o ∷ []
 last-split os n o h = sym (take-length os) ∙ ap (λ k. take k os) (sym h) ∙ take_more os n o (omega arith)
-
-pub last-open : (os : List Open) (n : ℕ) (o : Open) → n + 1 ≡ length os → o ≡ get_or os n o → os ≡ take n os ++ o ∷ []
-last-open os n o h e = last-split os n o h ∙ ap (λ p. take n os ++ p ∷ []) (sym e)
-
--- the last of some open elements is changed where it stands
-pub set-last : (os : List Open) (n : ℕ) (o : Open) → n + 1 ≡ length os → slice_set os n o ≡ take n os ++ o ∷ []
-set-last [] n o h = absurd (omega arith)
-set-last (p ∷ []) zero o h = refl
-set-last (p ∷ []) (suc n) o h = absurd (omega arith)
-set-last (p ∷ q ∷ os) zero o h = absurd (omega arith)
-set-last (p ∷ q ∷ os) (suc n) o h = ap (λ l. p ∷ l) (set-last (q ∷ os) n o (omega arith))
 
 pub scope-last : (os : List Open) (n : ℕ) (o : Open) → n + 1 ≡ length os → o ≡ get_or os n o
     → (frame o).head.scope ≡ scope_in (frames_of os)

@@ -19,3 +19,8 @@ pub record IsNamed (n : ElementName) (written : List ℕ) : Type 0 where
 pub record IsUnbound (n : Name) (local : List ℕ) : Type 0 where
   pub name : named n ≡ record { ns = []; local = local }
   pub space : (around : List Space) → IsFrom around (space_of n)
+
+-- both are one name, in one namespace with one number
+pub record IsSameName (a b : Name) : Type 0 where
+  pub name : named a ≡ named b
+  pub space : space_of a ≡ space_of b

@@ -11,7 +11,7 @@ use Rattle.page_tree.specs.declared.opened.Open.{Open}
 abbrev pub frame : Open → Frame
 frame o = record {
   written = o.written.now;
-  head = record { offset = o.place.offset; name = named o.name; attrs = attrs_in o.attrs; scope = bindings_in o.scope };
+  head = record { offset = o.place.offset; name = named o.name.now; attrs = attrs_in o.attrs; scope = bindings_in o.scope };
   done = nodes_of o.children.items;
 }
 
@@ -29,7 +29,7 @@ pages_open o = o.place.page ∷ flat_map pages_in o.children.items
 
 -- the namespaces of an open element and of what is built in it
 abbrev pub spaces_open : Open → List Space
-spaces_open o = space_of o.name ∷ (spaces_named o.attrs ++ spaces_bound o.scope ++ flat_map spaces_in o.children.items)
+spaces_open o = space_of o.name.now ∷ (spaces_named o.attrs ++ spaces_bound o.scope ++ flat_map spaces_in o.children.items)
 
 -- what a root has, if there is one
 abbrev pub under : {X : Type 0} → (Element → List X) → Option (Bor Element) → List X

@@ -13,7 +13,7 @@ use ix_base::{Attrs, Element, Name, NoMemory, Node, Place, Scope};
 pub(crate) struct Open<'a> {
     pub written: &'a str,
     pub place: Place,
-    pub name: Name<'a>,
+    pub name: &'a Name<'a>,
     pub attrs: Attrs<'a>,
     pub scope: Scope<'a>,
     pub children: Vec<Node<'a>>,

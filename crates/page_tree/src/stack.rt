@@ -8,7 +8,7 @@ ghost use Rattle.page_tree.specs.Machine.{flushed, scope_in, closed};
 ghost use Rattle.page_tree.specs.Tags.{head_of, scope_of as scope_under_tag};
 ghost use Rattle.page_constructs.specs.Model.{tag_of};
 ghost use Rattle.page_tree.specs.Expansions.{expansion, expansions};
-ghost use Rattle.page_tree.specs.Names.{IsNamed};
+ghost use Rattle.page_tree.specs.Names.{IsNamed, IsSameName};
 ghost use Rattle.page_tree.specs.Spaces.{AreFrom, HaveNumbers, spaces_expanded};
 ghost use Rattle.page_tree.specs.Stacks.{frame, frames_of, pages_open, pages_built, spaces_built, spaces_open, AreAll};
 
@@ -16,7 +16,7 @@ use crate::names::{ElementName, Expanded, attributes_of};
 use crate::opened::Open;
 use crate::scope::outermost_scope;
 use bumpalo::Bump;
-use ix_base::{Element, NoMemory, Node, Place, Scope};
+use ix_base::{Element, Name, NoMemory, Node, Place, Scope};
 use page_constructs::Tag;
 use std::alloc::Global;
 
@@ -33,10 +33,14 @@ pub(crate) fn flush_innermost<'a>(
     ensures pages { OnOk result (flat_map pages_open elements.new.items ≡ flat_map pages_open elements.old.items) }
     ensures spaces { OnOk result (flat_map spaces_open elements.new.items ≡ flat_map spaces_open elements.old.items) }
 {
-    let Some(parent) = elements.last_mut() else {
+    if text.is_empty() {
+        return Ok(());
+    }
+    let Some(mut parent) = elements.pop() else {
         return Ok(());
     };
     parent.flush(arena, text)?;
+    elements.push(parent)?;
     Ok(())
 }
 
@@ -67,7 +71,8 @@ pub(crate) fn empty_list<'a>(alloc: Global, spare: &mut Vec<Vec<Node<'a>>>) -> V
     }
 }
 
-/// An element that begins with this tag, in a scope of its own. In the list, which is empty, its children will stand.
+/// An element that begins with this tag, in a scope of its own. Its name lies in the arena, and in the list, which is empty, its
+/// children will stand.
 pub(crate) fn open_element<'a>(
     children: Vec<Node<'a>>,
     arena: &'a Bump,
@@ -75,10 +80,12 @@ pub(crate) fn open_element<'a>(
     own: ElementName<'a>,
     tag: &Tag<'a, '_>,
     expanded: &[Expanded<'a>],
+    kept: &'a Name<'a>,
 ) -> Result<Open<'a>, NoMemory>
     requires children { children.items ≡ [] }
     requires expanded { map expansion expanded.now ≡ expansions (bindings_in own.scope) (tag_of tag.now) }
     requires named { IsNamed own tag.now.name.name.now }
+    requires same { IsSameName kept.now own.name }
     ensures frame { IfOk result (λ o. (outer : _) → bindings_in own.entry.scope ≡ scope_under_tag outer (tag_of tag.now)
         → frame o ≡ record { written = tag.now.name.name.now; head = head_of outer (tag_of tag.now); done = none }) }
     ensures pages { IfOk result (λ o. pages_open o ≡ page ∷ []) }
@@ -92,7 +99,7 @@ pub(crate) fn open_element<'a>(
             page,
             offset: tag.offset,
         },
-        name: own.name,
+        name: kept,
         attrs,
         scope: own.scope,
         children,
@@ -142,10 +149,11 @@ pub(crate) fn put<'a>(
     ensures spaces { OnOk result ((numbers : Texts ℕ) → HaveNumbers numbers (spaces_of element.now)
         → HaveNumbers numbers (spaces_built elements.old.items root.old) → HaveNumbers numbers (spaces_built elements.new.items root.new)) }
 {
-    let Some(parent) = elements.last_mut() else {
+    let Some(mut parent) = elements.pop() else {
         *root = Some(element);
         return Ok(());
     };
     parent.add(element)?;
+    elements.push(parent)?;
     Ok(())
 }

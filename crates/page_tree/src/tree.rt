@@ -12,6 +12,7 @@ ghost use Rattle.page_tree.specs.Stacks.{frame, frames_of, pages_open, spaces_op
 ghost use Rattle.page_tree.specs.Tags.{head_of, scope_of as scope_under_tag};
 ghost use Rattle.page_constructs.specs.Model.{tag_of};
 
+use crate::element_names::ElementNames;
 use crate::judging::judge_names;
 use crate::names::{ElementName, Expanded, element_name, expand};
 use crate::opened::Open;
@@ -39,6 +40,7 @@ pub(crate) struct Building<'a> {
     /// The attributes of a tag with their expanded names, one tag after another, and names that later ones may share.
     pub expanded: Vec<Expanded<'a>>,
     pub shared: Shared<'a>,
+    pub names: ElementNames<'a>,
     /// Lists of children that ended elements are done with, and the next ones use.
     pub spare: Vec<Vec<Node<'a>>>,
 }
@@ -53,6 +55,7 @@ impl Drop for Building<'_> {
             spaces: _,
             expanded: _,
             shared: _,
+            names: _,
             spare: _,
         } = self;
     }
@@ -75,6 +78,7 @@ impl<'a> Building<'a> {
             spaces: Spaces::new(alloc),
             expanded: Vec::new(alloc),
             shared: Shared::new(alloc),
+            names: ElementNames::new(alloc),
             spare: Vec::new(alloc),
         }
     }
@@ -195,6 +199,7 @@ impl<'a> Building<'a> {
     {
         flush_innermost(setting.arena, &mut self.elements, &mut self.text)?;
         self.text.clear();
+        let kept = self.names.keep(setting.arena, own.name)?;
         let children = empty_list(setting.alloc, &mut self.spare);
         let element = open_element(
             children,
@@ -203,6 +208,7 @@ impl<'a> Building<'a> {
             own,
             tag,
             self.expanded.as_slice(),
+            kept,
         )?;
         Ok(element)
     }

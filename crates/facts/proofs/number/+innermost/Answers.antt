@@ -22,11 +22,11 @@ chars-text x rest = search (rules, the_lemmas)
 -- at an element
 
 elem-in : (e : Bor Element) (rest : Nodes) → nested_in (before (Elem e) rest)
-    ≡ cond (is_of (named e.now.name) ix_namespace (codes "nonFraction")) (Some (unwrap_or (nested_in (tree_of e.now).children) (tree_of e.now))) (nested_in rest)
+    ≡ cond (is_of (named e.now.name.now) ix_namespace (codes "nonFraction")) (Some (unwrap_or (nested_in (tree_of e.now).children) (tree_of e.now))) (nested_in rest)
 elem-in e rest = search (rules, the_lemmas)
 
 elem-text : (e : Bor Element) (rest : Nodes) → nested_text (before (Elem e) rest)
-    ≡ cond (is_of (named e.now.name) ix_namespace (codes "nonFraction")) (Some (number_text (tree_of e.now).children)) (nested_text rest)
+    ≡ cond (is_of (named e.now.name.now) ix_namespace (codes "nonFraction")) (Some (number_text (tree_of e.now).children)) (nested_text rest)
 elem-text e rest = search (rules, the_lemmas)
 
 -- what is found from a node on

@@ -37,6 +37,6 @@ renumbered-returns-in-Ok-clause-spaces t c =
     let root = c.args.root.now in
     let same : c.in-Ok.e.now ≡ record { place = record { page = c.args.page; offset = root.place.offset }; name = root.name; attrs = root.attrs; scope = root.scope; children = c.in_ok-children.children } = search rules in
     spaces-Element c.in-Ok.e.now
-    ∙ ap (λ (x : Element). space_of x.name ∷ (spaces_named x.attrs ++ spaces_bound x.scope ++ flat_map spaces_in x.children.now)) same
-    ∙ ap (λ below. space_of root.name ∷ (spaces_named root.attrs ++ spaces_bound root.scope ++ below)) c.in_ok-children.ensures.spaces
+    ∙ ap (λ (x : Element). space_of x.name.now ∷ (spaces_named x.attrs ++ spaces_bound x.scope ++ flat_map spaces_in x.children.now)) same
+    ∙ ap (λ below. space_of root.name.now ∷ (spaces_named root.attrs ++ spaces_bound root.scope ++ below)) c.in_ok-children.ensures.spaces
     ∙ sym (spaces-Element root)

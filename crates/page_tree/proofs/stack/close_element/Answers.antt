@@ -15,5 +15,5 @@ pub returns-in-Ok-try_alloc-clause-spaces : goal.returns-in-Ok-try_alloc-clause-
 returns-in-Ok-try_alloc-clause-spaces c =
     let own = c.args.own in
     spaces-Element c.in-Ok-try_alloc.e.now
-    ∙ ap (λ (x : Element). space_of x.name ∷ (spaces_named x.attrs ++ spaces_bound x.scope ++ flat_map spaces_in x.children.now)) c.in-Ok-try_alloc.ensures
-    ∙ ap (λ ns. space_of own.name ∷ (spaces_named own.attrs ++ spaces_bound own.scope ++ flat_map spaces_in ns)) (c.in-Ok.ensures ∙ c.as_slice.ensures.value)
+    ∙ ap (λ (x : Element). space_of x.name.now ∷ (spaces_named x.attrs ++ spaces_bound x.scope ++ flat_map spaces_in x.children.now)) c.in-Ok-try_alloc.ensures
+    ∙ ap (λ ns. space_of own.name.now ∷ (spaces_named own.attrs ++ spaces_bound own.scope ++ flat_map spaces_in ns)) (c.in-Ok.ensures ∙ c.as_slice.ensures.value)

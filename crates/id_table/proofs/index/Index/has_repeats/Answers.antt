@@ -1,4 +1,4 @@
-use Rattle.std.proofs.Common.{◌≡◌, ap}
+use Rattle.std.proofs.Common.{ap}
 use Rattle.id_table.specs.Model.{Held}
 use Rattle.id_table.proofs.HeldLaws.{held-apart, held-met}
 use Rattle.id_table.proofs.index.Index.has_repeats.Goals as goal

@@ -1,6 +1,6 @@
 use Rattle.std.proofs.Common.{◌∙◌, ◌<◌, arith, length, length-set}
-use Rattle.instance_lines.proofs.Placing.{all-places, numbers-within, places-more}
-use Rattle.instance_lines.proofs.reorder.places_in.Goals as goal
+use Rattle.reordering.proofs.Placing.{all-places, numbers-within, places-more}
+use Rattle.reordering.proofs.reorder.places_in.Goals as goal
 
 pub index_mut-requires : goal.index_mut-requires
 index_mut-requires c =

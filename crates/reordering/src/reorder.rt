@@ -2,7 +2,7 @@
 ghost use Rattle.std.specs.Prelude.{◌≡◌, ◌<◌, ℕ, Some, map, length, slice_get, slice_index, vec_len, OnOk, IfOk};
 ghost use Rattle.std.specs.List.{range_with_len};
 ghost use Rattle.std.specs.List.Sorted.{IsPermutation};
-ghost use Rattle.instance_lines.specs.Inverses.{AreInverse};
+ghost use Rattle.reordering.specs.Inverses.{AreInverse};
 
 use ix_base::NoMemory;
 use std::alloc::Global;

@@ -1,5 +1,5 @@
 use Rattle.std.proofs.Common.{◌≡◌, ◌<◌, ℕ, length, slice_index}
-use Rattle.instance_lines.proofs.reorder.places_in.Given as goal
+use Rattle.reordering.proofs.reorder.places_in.Given as goal
 
 -- the places so far are entered
 abbrev pub invariant-loop-place : goal.invariant-loop-place

@@ -6,7 +6,7 @@ use Rattle.std.proofs.lemmas.Bool.{cases_eq, cases_lt}
 use Rattle.std.proofs.lemmas.List.{length-map, get_or-map, same_lists}
 use Rattle.std.proofs.lemmas.List.Edits.{Swapped, length-swap, swapped_from_swap}
 use Rattle.std.proofs.lemmas.Option.{slice_get-get_or, slice_get_past}
-use Rattle.instance_lines.specs.Inverses.{AreInverse}
+use Rattle.reordering.specs.Inverses.{AreInverse}
 
 -- what a swap leaves, place by place
 pub got-swap : {X : Type 0} (xs : List X) (a b : ℕ) → a < length xs → b < length xs → Swapped (slice_get xs) (slice_get (swap xs a b)) a b

@@ -1,7 +1,7 @@
 use Rattle.std.proofs.Common.{◌≡◌, ◌∙◌, ◌<◌, ap, arith, length, slice_index, sym, ⊎_elim}
 use Rattle.std.proofs.lemmas.Bool.{cases_eq}
-use Rattle.instance_lines.proofs.Exchanging.{done-in, inverse-kept, kept-in}
-use Rattle.instance_lines.proofs.reorder.exchange.Goals as goal
+use Rattle.reordering.proofs.Exchanging.{done-in, inverse-kept, kept-in}
+use Rattle.reordering.proofs.reorder.exchange.Goals as goal
 
 pub loop-place-preserved : goal.loop-place-preserved
 loop-place-preserved g c =

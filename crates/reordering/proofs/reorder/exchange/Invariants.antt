@@ -1,6 +1,6 @@
 use Rattle.std.proofs.Common.{◌≡◌, ◌<◌, ℕ, length, slice_get, slice_index}
-use Rattle.instance_lines.specs.Inverses.{AreInverse}
-use Rattle.instance_lines.proofs.reorder.exchange.Given as goal
+use Rattle.reordering.specs.Inverses.{AreInverse}
+use Rattle.reordering.proofs.reorder.exchange.Given as goal
 
 -- the places so far have their things, and to each of the others goes what it is to have
 abbrev pub invariant-loop-place : goal.invariant-loop-place

@@ -8,7 +8,7 @@ use Rattle.std.proofs.lemmas.List.{get_or-set_other, get_or-set_same, get_or_def
 use Rattle.std.proofs.lemmas.List.FromFn.{get_or-range_with_len, length-range_with_len}
 use Rattle.std.proofs.lemmas.List.Sorted.{All-permutation, Contains-permutation, length_permutation}
 use Rattle.std.proofs.lemmas.Map.Keys.{IsDistinct-IsPermutation, IsDistinct-from_apart, apart_from_distinct}
-use Rattle.instance_lines.specs.Inverses.{AreInverse}
+use Rattle.reordering.specs.Inverses.{AreInverse}
 
 got : (n k d : ℕ) → k < n → get_or (range_with_len 0 n) k d ≡ k
 got n k d h = get_or-range_with_len 0 n k d h ∙ omega arith

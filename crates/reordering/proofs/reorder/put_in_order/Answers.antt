@@ -1,9 +1,9 @@
 use Rattle.std.proofs.Common.{◌≡◌, ◌∙◌, ap, arith, drop, length, map, subst, sym, Some}
 use Rattle.std.specs.List.{range_with_len}
 use Rattle.std.specs.List.Sorted.{IsPermutation}
-use Rattle.instance_lines.proofs.Exchanging.{from-places, take-written}
-use Rattle.instance_lines.proofs.Placing.{length-order}
-use Rattle.instance_lines.proofs.reorder.put_in_order.Goals as goal
+use Rattle.reordering.proofs.Exchanging.{from-places, take-written}
+use Rattle.reordering.proofs.Placing.{length-order}
+use Rattle.reordering.proofs.reorder.put_in_order.Goals as goal
 
 pub places_in-requires : goal.places_in-requires
 places_in-requires g c =
