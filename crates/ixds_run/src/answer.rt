@@ -17,6 +17,7 @@ use command_words::Command;
 use ix_base::{PageSource, TargetSink, TextSink};
 use page_verdicts::Stopped;
 use std::alloc::Global;
+use std::mem;
 
 /// Follows a command's script, or reads its pages or makes them, and makes ready what is due.
 fn made_ready<P: PageSource>(
@@ -54,7 +55,7 @@ fn put_read_fault<T: TextSink>(line: &[u8], out: &mut T) -> Status
     }
 }
 
-/// Answers a command: makes ready what is due, and then gives it.
+/// Answers a command: makes ready what is due, and then gives it. What was due isn't given back: a program ends with its answer.
 pub fn answer<P: PageSource, S: TargetSink, T: TextSink>(
     alloc: Global,
     command: &Command,
@@ -74,6 +75,10 @@ pub fn answer<P: PageSource, S: TargetSink, T: TextSink>(
     match made_ready(alloc, command, pages) {
         Err(Stopped::NoMemory) => Status::NoMemory,
         Err(Stopped::Failed(line)) => put_read_fault(line.as_slice(), out),
-        Ok(due) => deliver(&due, command.dir(), sink, out),
+        Ok(due) => {
+            let status = deliver(&due, command.dir(), sink, out);
+            mem::forget(due);
+            status
+        }
     }
 }

@@ -15,6 +15,7 @@ use instance_out::{Prepared, prepare_with_lines};
 use ix_base::{List, NoMemory, Report, Text};
 use page_verdicts::{Verdict, sample_text};
 use std::alloc::Global;
+use std::mem;
 use targets::Target;
 
 /// A target that is ready to be written.
@@ -62,17 +63,19 @@ impl Due {
     }
 }
 
-/// A target, ready to be written, with the lines of its facts that it keeps.
+/// A target, ready to be written, with the lines of its facts that it keeps. Its content isn't given back, fact by fact: a run makes
+/// targets ready once, right before it writes them and ends.
 fn due_target(alloc: Global, target: Target) -> Result<DueTarget, NoMemory>
     requires { IsWritable target.content }
     ensures { IfOk result (λ due. ready_lines due ≡ instance_lines target) }
 {
     let (name, content, lines) = target.into_parts();
     let prepared = prepare_with_lines(alloc, &content, lines)?;
+    mem::forget(content);
     Ok(DueTarget { name, prepared })
 }
 
-/// Targets, ready to be written. What each holds is given up before the next is made ready.
+/// Targets, ready to be written.
 fn prepared(alloc: Global, targets: List<Target>) -> Result<Vec<DueTarget>, NoMemory>
     requires { All (λ t. IsWritable t.content) targets }
     ensures { IfOk result (λ v. map ready_lines v.items ≡ map instance_lines targets) }
