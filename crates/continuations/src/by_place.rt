@@ -21,7 +21,10 @@ const PROBES: usize = 8;
 /// What stands in a slot that is free.
 const BLANK: u32 = u32::MAX;
 
-/// Places that are near to each other get slots that are far from each other.
+/// Places that are so many bytes apart get slots of their own.
+const APART: u64 = 32;
+
+/// The slots of one page are far from those of another.
 const MIXER: u64 = 0x9E37_79B9_7F4A_7C15;
 
 /// Chains by the places of their first elements. As long as they come in the order of these places, as those of pages do
@@ -104,13 +107,15 @@ fn find_by_halving<'a>(chains: &[(Key, Slice<'a>)], place: Key) -> Option<Slice<
     }
 }
 
-/// The slot from which on the number of the chain at a place is noted, of so many.
+/// The slot from which on the number of the chain at a place is noted, of so many. Places that follow each other have slots that do, so
+/// that whoever goes through a page finds them at hand.
 fn slot_of(place: Key, count: usize) -> usize
     requires { 0 < count }
     ensures { result < count }
 {
-    let mixed = (place.1 ^ place.0 as u64).wrapping_mul(MIXER);
-    (mixed >> 20) as usize % count
+    let page = (place.0 as u64).wrapping_mul(MIXER);
+    let number = (place.1 / APART).wrapping_add(page);
+    number as usize % count
 }
 
 /// Notes the number of the chain at a place in the first free one of a few slots, where one of them is free.

@@ -12,14 +12,14 @@ use Rattle.std.specs.Option.{option_map_or}
 use Rattle.indexmap.specs.IndexMap.{IndexMap}
 use Rattle.text_map.specs.declared.class.TheConstants.{FULL}
 use Rattle.text_map.specs.declared.key.Kept.{Kept}
-use Rattle.text_map.specs.Hashes.{class_of, hash_of}
+use Rattle.text_map.specs.Hashes.{class_of, front_of, hash_of}
 use Rattle.text_map.specs.Keys.{bytes}
 use Rattle.text_map.specs.Tables.{AreSmall, at, has_room, in_class, kept_at, size}
 
 -- there are classes of fewer numbers than there are classes
 pub class-within : (q : List ℕ) (n : ℕ) → 0 < n → class_of q n < n
 unfolding class_of
-class-within q n h = let l = and_le_r (hash_of q) (n - 1) in omega arith
+class-within q n h = let l = and_le_r (hash_of (front_of q)) (n - 1) in omega arith
 
 module _ {X Y : Type 0} (look : X → List ℕ → Y) (d : Y) where
   -- with tables, it is said of the table of its class

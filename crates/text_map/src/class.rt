@@ -10,10 +10,10 @@ use ix_base::NoMemory;
 use std::alloc::Global;
 
 /// So many texts the table of a class has at most.
-pub(crate) const FULL: usize = 512;
+pub(crate) const FULL: usize = 1024;
 
 /// So many classes there are, a power of two.
-pub(crate) const CLASSES: usize = 1024;
+pub(crate) const CLASSES: usize = 4096;
 
 /// What is kept for a text in the table of its class.
 pub(crate) fn get_classed<'m, 'a, V>(tables: &'m [Table<'a, V>], key: Key<'_>) -> Option<&'m V>
