@@ -166,17 +166,39 @@ def base(size, links):
     return [frame() + [fact(0, ' escape="true"', own + ''.join(f'<a href="x{i}">l</a>' for i in range(links)) + '</div>'), CLOSE]]
 
 
+def folded(one, other):
+    """Two numbers as the library's hash makes one of them: the halves of their product, joined."""
+    product = one * other
+    return product & (1 << 64) - 1 ^ product >> 64
+
+
 def falling_together(count):
-    """Ids that the library's hash, whose seed is fixed, takes for one: the third word of each is the state behind the first two."""
-    whole, fixed, turned = (1 << 64) - 1, 0x243F6A8885A308D3, 0x9E3779B97F4A7C15
-    fitting = set(b'abcdefghijklmnopqrstuvwxyzABCDEFGHIJKLMNOPQRSTUVWXYZ0123456789_-.')
+    """Ids that the library's hash, whose seed is fixed, takes for one: the third word of each is the state behind the first two. Without
+    their last two bytes they are of one class among 4,096."""
+    fixed, turned = 0x243F6A8885A308D3, 0x9E3779B97F4A7C15
+    fitting = b'abcdefghijklmnopqrstuvwxyzABCDEFGHIJKLMNOPQRSTUVWXYZ0123456789_-.'
     chance = random.Random(1)
+
+    def word(text, at):
+        return int.from_bytes(text[at : at + 8], 'little')
+
+    def mixed(text, at, state):
+        return folded(word(text, at) ^ state, word(text, at + 8) ^ turned)
+
     while True:
         front = bytes(chance.choice(b'abcdefghijklmnopqrstuvwxyz') for _ in range(16))
-        product = (int.from_bytes(front[:8], 'little') ^ (fixed + 32 & whole)) * (int.from_bytes(front[8:], 'little') ^ turned)
-        state = ((product & whole) ^ (product >> 64)).to_bytes(8, 'little')
+        state = mixed(front, 0, fixed + 32).to_bytes(8, 'little')
         if all(byte in fitting for byte in state):
-            return [(front + state + b'%08d' % i).decode() for i in range(count)]
+            break
+    ids, number, wanted = [], 0, None
+    while len(ids) < count:
+        own = front + state + b'%06d' % number
+        found = mixed(own, 14, mixed(own, 0, fixed + 30)) % 4096
+        if found == (found if wanted is None else wanted):
+            wanted = found
+            ids += [(own + bytes((one, other))).decode() for one in fitting for other in fitting]
+        number += 1
+    return ids[:count]
 
 
 def collide(count):
