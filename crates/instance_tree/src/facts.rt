@@ -41,7 +41,7 @@ fn tuple_of(alloc: Global, e: &Element<'_>) -> Result<Option<Fact>, NoMemory>
         return Ok(None);
     };
     Ok(Some(Fact::Tuple(Tuple {
-        name: OwnName::of(alloc, e.name)?,
+        name: OwnName::of(alloc, *e.name)?,
         id: Text::of_some(alloc, attr_of(e, "", "id"))?,
         nil: is_nil(e),
         members,
@@ -53,7 +53,7 @@ fn tuple_of(alloc: Global, e: &Element<'_>) -> Result<Option<Fact>, NoMemory>
 fn fact_of(alloc: Global, e: &Element<'_>) -> Result<Option<Fact>, NoMemory>
     ensures { IfOk result (λ o. (more : Facts) → option_map (λ f. before f more) o ≡ fact_at (tree_of e.now) more) }
 {
-    if is_part(&e.name) {
+    if is_part(e.name) {
         return Ok(None);
     }
     let Some(context) = attr_of(e, "", "contextRef") else {
@@ -97,7 +97,7 @@ pub(super) fn facts_among(alloc: Global, nodes: &[Node<'_>]) -> Result<Option<Li
     for node in nodes {
         match node {
             Node::Elem(e) => {
-                if is_part(&e.name) {
+                if is_part(e.name) {
                     continue;
                 }
                 let Some(fact) = fact_of(alloc, e)? else {

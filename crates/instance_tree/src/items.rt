@@ -124,7 +124,7 @@ pub(super) fn item_of(
         return Ok(None);
     };
     Ok(Some(Item {
-        name: OwnName::of(alloc, e.name)?,
+        name: OwnName::of(alloc, *e.name)?,
         context: Text::of(alloc, context)?,
         unit: Text::of_some(alloc, attr_of(e, "", "unitRef"))?,
         accuracy,

@@ -50,7 +50,7 @@ fn are_parts(nodes: &[Node<'_>]) -> bool
 {
     for node in nodes {
         if let Node::Elem(e) = node {
-            if !may_stand(&e.name) {
+            if !may_stand(e.name) {
                 return false;
             }
         }

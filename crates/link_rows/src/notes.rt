@@ -15,14 +15,14 @@ use ix_base::{
 use scopes::Bases;
 use std::alloc::Global;
 
-/// The page from which bases are taken.
-fn bare<'a>() -> Element<'a> {
+/// The page from which bases are taken, of this name.
+fn bare<'a>(name: &'a Name<'a>) -> Element<'a> {
     Element {
         place: Place {
             page: 0,
             offset: 50,
         },
-        name: Name::of("", "p", 0),
+        name,
         attrs: Attrs::empty(),
         scope: Scope::empty(),
         children: &[],
@@ -33,7 +33,8 @@ fn bare<'a>() -> Element<'a> {
 fn bases_of(alloc: Global, count: usize) -> Result<Bases, NoMemory>
     ensures { IfOk result (λ b. length b.pages ≡ count) }
 {
-    let bare = bare();
+    let name = Name::of("", "p", 0);
+    let bare = bare(&name);
     let mut bases = Bases::new(alloc);
     for _number in 0..count {
         bases.add_page("http://example.com/", "a.html", &bare)?;

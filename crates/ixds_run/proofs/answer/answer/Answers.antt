@@ -23,10 +23,10 @@ returns-in-Err-Failed g c =
 pub returns-in-Ok : goal.returns-in-Ok
 returns-in-Ok g c =
     let old : Outside = outside g.P.PageSource g.S.TargetSink g.T.TextSink c.args.pages.now c.args.sink.now c.args.out.now in
-    let new : Outside = outside g.P.PageSource g.S.TargetSink g.T.TextSink c.made_ready.new.pages c.deliver.new.sink c.deliver.new.out in
-    let put = c.deliver.ensures in
-    due_answered old new (c.made_ready.new.pages ≡ c.args.pages.now) (c.deliver.new.sink ≡ c.args.sink.now) (c.deliver.new.out ≡ c.args.out.now) c.in-Ok.due c.deliver.result c.args.command.now c.in-Ok.ensures
-    (subst (λ (d : Option (List ℕ)). Delivered c.in-Ok.due d old new (c.deliver.new.sink ≡ c.args.sink.now) (c.deliver.new.out ≡ c.args.out.now) c.deliver.result) c.dir.ensures (record {
+    let new : Outside = outside g.P.PageSource g.S.TargetSink g.T.TextSink c.made_ready.new.pages c.deliver-status.new.sink c.deliver-status.new.out in
+    let put = c.deliver-status.ensures in
+    due_answered old new (c.made_ready.new.pages ≡ c.args.pages.now) (c.deliver-status.new.sink ≡ c.args.sink.now) (c.deliver-status.new.out ≡ c.args.out.now) c.in-Ok.due c.deliver-status.result c.args.command.now c.in-Ok.ensures
+    (subst (λ (d : Option (List ℕ)). Delivered c.in-Ok.due d old new (c.deliver-status.new.sink ≡ c.args.sink.now) (c.deliver-status.new.out ≡ c.args.out.now) c.deliver-status.result) c.dir.ensures (record {
       either = put.either;
       targets = λ e. (put.whole e).0;
       text = λ e. (put.whole e).1;
