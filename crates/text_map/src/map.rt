@@ -11,8 +11,8 @@ use std::marker::Model;
 
 /// A table from texts to values.
 ///
-/// Contracts see the texts with their values. A look-up compares its text with no more than some hundreds of others and a logarithm of
-/// their number, whatever the texts are. The first texts, and by far most of all others, are found by their hashes.
+/// Contracts see the texts with their values. A look-up compares its text with 1,152 others at most and a logarithm of their number,
+/// whatever the texts are. The first texts, and by far most of all others, are found by their hashes.
 pub struct TextMap<'a, V> {
     tables: Tables<'a, V>,
 }
