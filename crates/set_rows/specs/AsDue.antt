@@ -4,9 +4,9 @@ use Rattle.ix_base.specs.MemTargets.{sink_taken, sink_finished}
 use Rattle.ix_base.specs.MemText.{text_taken}
 use Rattle.ix_base.specs.declared.memory.targets.MemTargets.{MemTargets}
 use Rattle.ixds_run.specs.ExitCodes.{code_of}
-use Rattle.set_rows.specs.declared.due.Due.{Due}
-use Rattle.set_rows.specs.declared.due.Target.{Target}
-use Rattle.set_rows.specs.declared.outcome.Outcome.{Outcome}
+use Rattle.set_rows.specs.declared.sets.due.Due.{Due}
+use Rattle.set_rows.specs.declared.sets.due.Target.{Target}
+use Rattle.set_rows.specs.declared.sets.outcome.Outcome.{Outcome}
 
 -- the target is finished, and has these bytes
 abbrev pub IsWritten : MemTargets → Target → Type 0

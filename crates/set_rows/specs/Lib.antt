@@ -1,1 +1,2 @@
+pub mod AnswerAsDue
 pub mod AsDue

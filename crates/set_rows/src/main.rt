@@ -1,103 +1,60 @@
-//! Runs rows of pages through the top call, and tells of each row what was seen, or what isn't as it is due.
+//! Runs rows, and tells of each whether all is as it is due, or what isn't.
 //!
-//! The arguments are the names of rows. A row is a folder, in the one where the program runs, with these files:
+//! The arguments are the names of rows, which are of three kinds, in the folder where the program runs:
 //!
-//! | File | Has |
-//! |---|---|
-//! | `words` | the words of the command, one a line; those that end in `.html` are its pages, each a file of that name |
-//! | `due_status`, `due_out` | the exit status, and the text that `out` takes |
-//! | `due_default.xbrl`, `due_x.xbrl` | the whole instance of the target without a name, and of the target x; no other target is due |
-//! | `orders`, may be missing | the names of the pages in other orders, one order a line, which are to give the same |
-//! | `faults`, may be missing | numbers of calls of the sink, one a line, each with what stands in the targets where that call fails |
+//! | Name | Its row | Module |
+//! |---|---|---|
+//! | `read_back/X`, `not_canonical/X` | an instance that is read, the file of that name with `.xbrl` behind it | `instances` |
+//! | `calls/X` | a table of single calls of the top call, the file of that name | `calls` |
+//! | each other one, also with `:N` behind it | a set of pages through the top call, the folder of that name | `sets` |
 //!
-//! A row runs with reads of 1, of 7 and of 65,536 bytes. A name with a number behind a colon, as `tuple:7`, runs its row once, with
-//! reads of 65,536 bytes, behind so many allocations of a byte: where the allocation of some number is refused to the program, the
-//! number behind the colon decides which one of the run that is. Where all rows are as due the program ends with status 0, else with 1.
+//! Where all rows are as due the program ends with status 0, else with 1.
 #![tactic(auto)]
 
-mod due;
-mod faults;
-mod files;
-mod outcome;
-mod refused;
-mod row;
+mod calls;
+mod instances;
+mod sets;
 
-use anyhow::{Context, Result};
-use due::Due;
-use outcome::STEPS;
-use row::Row;
-use std::alloc::Global;
+use anyhow::Result;
 use std::env;
 use std::process::ExitCode;
 use std::rt::Files;
 
-/// The first difference of a row: the row as it stands, its other orders, its faults.
-fn difference(alloc: Global, row: &Row) -> Result<Option<String>> {
-    if let Some(text) = outcome::difference(alloc, row, &row.words)? {
-        return Ok(Some(text));
-    }
-    for words in &row.orders {
-        if let Some(text) = outcome::difference(alloc, row, words)? {
-            return Ok(Some(text));
-        }
-    }
-    for fault in &row.faults {
-        if let Some(text) = faults::difference(alloc, row, fault)? {
-            return Ok(Some(text));
-        }
-    }
-    Ok(None)
-}
-
-/// What was seen of a row in which all is as due.
-fn seen(alloc: Global, row: &Row) -> Result<String> {
-    let orders = row.orders.len().saturating_add(1);
-    let runs = orders.saturating_mul(STEPS.len());
-    let mut text = format!(in alloc; "{}, {runs} runs", row.due)?;
-    if !row.faults.is_empty() {
-        write!(text, ", {} faults", row.faults.len())?;
-    }
-    Ok(text)
+/// Whether the row of a name is an instance.
+fn is_instance(name: &str) -> bool {
+    name.starts_with("read_back/") || name.starts_with("not_canonical/")
 }
 
 /// What is told of the row of a name, and whether all of it is as due.
 fn told<R: Files + AllocGlobal>(rt: &R, name: &str) -> Result<(bool, String)> {
-    let alloc = rt.alloc();
-    if let Some((name, bytes)) = name.split_once(':') {
-        let bytes = bytes.parse::<u32>().context("a number of bytes")?;
-        return refused::told(alloc, &Row::read(rt, name)?, bytes as usize);
-    }
-    let row = Row::read(rt, name)?;
-    match difference(alloc, &row)? {
-        Some(text) => Ok((false, text)),
-        None => Ok((true, seen(alloc, &row)?)),
+    if is_instance(name) {
+        instances::told(rt, name)
+    } else if name.starts_with("calls/") {
+        calls::told(rt, name)
+    } else {
+        sets::told(rt, name)
     }
 }
 
-/// Runs the row of a name and prints its line. It tells whether all is as due.
+/// Runs the row of a name and prints its line, in which a row that isn't as due says so. It tells whether all is as due.
 fn shown<R: Files + AllocGlobal + Print>(rt: &R, name: &str) -> Result<bool> {
-    match told(rt, name) {
-        Ok((true, text)) => {
-            println!(rt; "{name}: {text}")?;
-            Ok(true)
-        }
-        Ok((false, text)) => {
-            println!(rt; "{name}: NOT AS DUE: {text}")?;
-            Ok(false)
-        }
-        Err(error) => {
-            println!(rt; "{name}: NOT AS DUE: {error:#}")?;
-            Ok(false)
-        }
-    }
+    let (is_due, text) = match told(rt, name) {
+        Ok(told) => told,
+        Err(error) => (false, format!(in rt.alloc(); "{error:#}")?),
+    };
+    let but = if is_due { "" } else { "NOT AS DUE: " };
+    println!(rt; "{name}: {but}{text}")?;
+    Ok(is_due)
 }
 
 fn main(rt: HostRuntime) -> Result<ExitCode> {
-    let mut end = ExitCode::SUCCESS;
+    let mut are_due = true;
     for name in env::args(&rt)?.skip(1) {
-        if !shown(&rt, name.as_str())? {
-            end = ExitCode::FAILURE;
-        }
+        are_due &= shown(&rt, name.as_str())?;
     }
-    Ok(end)
+    Ok(if are_due {
+        ExitCode::SUCCESS
+    } else {
+        ExitCode::FAILURE
+    })
 }

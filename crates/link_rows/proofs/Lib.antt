@@ -1,2 +1,0 @@
-pub mod ApartRows
-pub mod FoundRows

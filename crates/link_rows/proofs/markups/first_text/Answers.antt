@@ -1,5 +1,0 @@
-use Rattle.sound_pages.proofs.PageRows.{own-pages}
-use Rattle.link_rows.proofs.markups.first_text.Goals as goal
-
-pub add_page-requires-clause-page : goal.add_page-requires-clause-page
-add_page-requires-clause-page c = own-pages _ _ _ c.requires

@@ -1,6 +1,0 @@
-use Rattle.std.proofs.Common.{◌≡◌, []}
-use Rattle.link_rows.proofs.sets.add_pages.Given as goal
-
--- nothing is chosen
-abbrev pub invariant-loop-page : goal.invariant-loop-page
-invariant-loop-page l = l.index.choices ≡ []

@@ -1,0 +1,3 @@
+pub mod ApartRows
+pub mod FoundRows
+pub mod PageRows
