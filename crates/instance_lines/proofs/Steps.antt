@@ -1,5 +1,6 @@
 -- One turn of a loop that appends.
-use Rattle.std.proofs.Common.{◌≡◌, ◌∙◌, ap, sym, ℕ, suc, ◌+◌, ◌<◌, List, [], ◌∷◌, ◌++◌, length, drop, drop-cons, get_or, add-one, ◌≤◌, take, map, refl, zero, arith, Option, None}
+use Rattle.std.proofs.Common.{◌≡◌, ◌∙◌, ap, sym, ℕ, suc, ◌+◌, ◌<◌, List, [], ◌∷◌, ◌++◌, length, drop, drop-cons, get_or, add-one, ◌≤◌, take, map, refl, zero, arith, append_assoc, Option, None}
+use Rattle.std.proofs.Math.ListN.{drop_of_length-le}
 use Rattle.std.proofs.lemmas.Iterator.Adapters.{YieldsList-from_vec}
 use Rattle.std.proofs.lemmas.Iterator.Consumers.{YieldsList-end}
 use Rattle.std.proofs.lemmas.List.{map-append, map-id}
@@ -50,3 +51,14 @@ pub map_pushed : {A B : Type 0} (f : A → B) (xs : List A) (x : A) (old new : L
     → y ≡ f x → new ≡ map f (xs ++ x ∷ [])
 map_pushed f xs x old new y before pushed made =
     pushed ∙ ap (λ l. l ++ y ∷ []) before ∙ ap (λ z. map f xs ++ z ∷ []) made ∙ sym (map-append f xs (x ∷ []))
+
+-- the same behind what was there before
+pub map_added : {A B : Type 0} (f : A → B) (xs : List A) (x : A) (start old new : List B) (y : B) → old ≡ start ++ map f xs
+    → new ≡ old ++ y ∷ [] → y ≡ f x → new ≡ start ++ map f (xs ++ x ∷ [])
+map_added f xs x start old new y before pushed made =
+    pushed ∙ ap (λ l. l ++ y ∷ []) before ∙ append_assoc start (map f xs) (y ∷ [])
+    ∙ ap (λ l. start ++ l) (map_pushed f xs x (map f xs) (map f xs ++ y ∷ []) y refl refl made)
+
+-- what is made of the things behind the end is what is made of none
+pub none_left : {A B : Type 0} (f : List A → B) (xs : List A) (i : ℕ) → length xs ≤ i → f [] ≡ f (drop i xs)
+none_left f xs i h = ap f (sym (drop_of_length-le xs h))

@@ -1,5 +1,5 @@
 -- The order of things by their keys.
-use Rattle.std.specs.Prelude.{Bool, false, List, [], ◌∷◌, if◌then◌else◌}
+use Rattle.std.specs.Prelude.{ℕ, Bool, false, List, [], ◌∷◌, map, if◌then◌else◌}
 use Rattle.std.specs.declared.cmp.Ordering.{Ordering}
 use Rattle.std.specs.Ordering.{is_eq, on}
 use Rattle.ix_base.specs.SortedLists.{text_cmp}
@@ -7,6 +7,10 @@ use Rattle.instance_lines.specs.declared.sort.Keyed.{Keyed}
 
 abbrev pub by_key : {T : Type 0} → Keyed T → Keyed T → Ordering
 by_key = on (λ k. k.key) text_cmp
+
+-- things with the texts by which they are put in order
+abbrev pub keyed_by : {T : Type 0} → (T → List ℕ) → List T → List (Keyed T)
+keyed_by key xs = map (λ x. record { key = key x; item = x }) xs
 
 -- whether the last of some things ties with this one
 abbrev pub ties_last : {X : Type 0} → (X → X → Ordering) → List X → X → Bool

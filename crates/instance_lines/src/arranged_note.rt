@@ -2,32 +2,17 @@
 ghost use Rattle.std.specs.Prelude.{◌≡◌, ℕ, List as Items, map, true, not, bytes_eq, if◌then◌else◌, IfOk, OnOk};
 ghost use Rattle.std.specs.BTreeSet.{contains_text};
 ghost use Rattle.std.specs.Ordering.{on};
-ghost use Rattle.ix_base.specs.Once.{in_order};
 ghost use Rattle.ix_base.specs.SortedLists.{sorted, text_cmp};
 ghost use Rattle.instance_lines.specs.Arrangement.{arranged_link, firsts};
-ghost use Rattle.instance_lines.specs.Canonical.{arc_line_cmp};
 ghost use Rattle.instance_lines.specs.Elements.{footnote_text};
 
-use crate::note::{arc_of, footnote_of};
-use crate::sort::{Keyed, by_keys, once, once_by_keys};
+use crate::keys::{ByElement, ById};
+use crate::note::footnote_of;
+use crate::sort::{Keyed, by_keys, once, put_by_keys, put_once_by_keys};
 use ix_base::{Arc, Footnote, List, NoMemory, NoteLink, Text};
 use std::alloc::Global;
 use std::collections::BTreeSet;
-
-/// Footnotes by id. Those with one id keep the order that they have.
-fn footnotes_by_id(alloc: Global, footnotes: List<Footnote>) -> Result<Vec<Footnote>, NoMemory>
-    ensures { IfOk result (λ v. v.items ≡ sorted (on (λ f. f.id) text_cmp) footnotes) }
-{
-    let mut keyed = Vec::new(alloc);
-    for footnote in footnotes.into_vec() {
-        let key = Text::of(alloc, footnote.id.as_str())?;
-        keyed.push(Keyed {
-            key,
-            item: footnote,
-        })?;
-    }
-    by_keys(alloc, keyed)
-}
+use std::mem;
 
 /// Notes the text of a footnote, and tells whether it is there for the first time.
 fn is_first(
@@ -61,39 +46,27 @@ fn first_footnotes(alloc: Global, footnotes: Vec<Footnote>) -> Result<Vec<Footno
     Ok(kept)
 }
 
-/// Arcs by their text, each once.
-fn arcs_in_order(alloc: Global, arcs: List<Arc>) -> Result<List<Arc>, NoMemory>
-    ensures { IfOk result (λ l. l ≡ in_order arc_line_cmp arcs) }
+/// Puts what a footnote link holds in order.
+fn put_link_in_order(alloc: Global, link: &mut NoteLink) -> Result<(), NoMemory>
+    ensures { OnOk result (link.new ≡ arranged_link link.old) }
 {
-    let mut keyed = Vec::new(alloc);
-    for arc in arcs.into_vec() {
-        let key = arc_of(alloc, &arc)?;
-        keyed.push(Keyed { key, item: arc })?;
-    }
-    let items = once_by_keys(alloc, keyed)?;
-    Ok(List::of(items))
+    let locs = once(alloc, link.locs.as_slice())?;
+    link.locs = List::of(locs);
+    put_by_keys::<ById, Footnote>(alloc, &mut link.footnotes)?;
+    let footnotes = mem::replace(&mut link.footnotes, List::new(alloc));
+    let footnotes = first_footnotes(alloc, footnotes.into_vec())?;
+    link.footnotes = List::of(footnotes);
+    put_once_by_keys::<ByElement, Arc>(alloc, &mut link.arcs)?;
+    Ok(())
 }
 
 /// A footnote link with what it holds in order.
 fn link_in_order(alloc: Global, link: NoteLink) -> Result<NoteLink, NoMemory>
     ensures { IfOk result (λ l. l ≡ arranged_link link) }
 {
-    let NoteLink {
-        role,
-        locs,
-        footnotes,
-        arcs,
-    } = link;
-    let locs = List::of(once(alloc, locs.as_slice())?);
-    let footnotes = footnotes_by_id(alloc, footnotes)?;
-    let footnotes = List::of(first_footnotes(alloc, footnotes)?);
-    let arcs = arcs_in_order(alloc, arcs)?;
-    Ok(NoteLink {
-        role,
-        locs,
-        footnotes,
-        arcs,
-    })
+    let mut link = link;
+    put_link_in_order(alloc, &mut link)?;
+    Ok(link)
 }
 
 /// Footnote links by role, each with what it holds in order. Those with one role keep the order that they have.

@@ -15,6 +15,7 @@ mod arranged_note;
 mod arrangement;
 mod context;
 mod fact;
+mod keys;
 mod lines;
 mod markup;
 mod moment;
@@ -53,10 +54,8 @@ pub fn arrange_with_lines(
     ensures content { IfOk result (λ p. p.0 ≡ arranged content) }
     ensures lines { IfOk result (λ p. p.1 ≡ lines_of_facts p.0) }
 {
-    let spaces = arrangement::owned_spaces(alloc, &content)?;
     let mut content = content;
-    arrangement::put_references_in_order(alloc, &mut content)?;
-    let lines = arrangement::put_rest_in_order(alloc, spaces.as_slice(), &mut content)?;
+    let lines = arrangement::put_all_in_order(alloc, &mut content)?;
     Ok((content, lines))
 }
 

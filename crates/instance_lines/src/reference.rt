@@ -6,8 +6,9 @@ ghost use Rattle.instance_lines.specs.Elements.{reference_markup};
 ghost use Rattle.instance_lines.specs.Tags.{attrs_of};
 ghost use Rattle.ix_base.specs.WrittenMarkup.{leaf, nothing};
 
+use crate::keys::{ByArcroleElement, ByElement};
 use crate::markup::{Valued, push_leaf};
-use crate::sort::once;
+use crate::sort::keys_once;
 use ix_base::{Linkbase, NoMemory, RoleRef, Text, shown};
 use std::alloc::Global;
 
@@ -46,12 +47,7 @@ pub fn schema_line(alloc: Global, href: &str) -> Result<Text, NoMemory>
 pub fn schema_lines(alloc: Global, hrefs: &[Text]) -> Result<Vec<Text>, NoMemory>
     ensures { IfOk result (λ v. v.items ≡ map line (in_order line_cmp (map schema_markup hrefs.now))) }
 {
-    let mut lines = Vec::new(alloc);
-    for href in hrefs {
-        let text = schema_line(alloc, href.as_str())?;
-        lines.push(text)?;
-    }
-    once(alloc, lines.as_slice())
+    keys_once::<ByElement, Text>(alloc, hrefs)
 }
 
 /// The line of a linkbase.
@@ -81,12 +77,7 @@ pub fn linkbase_line(alloc: Global, linkbase: &Linkbase) -> Result<Text, NoMemor
 pub fn linkbase_lines(alloc: Global, linkbases: &[Linkbase]) -> Result<Vec<Text>, NoMemory>
     ensures { IfOk result (λ v. v.items ≡ map line (in_order line_cmp (map linkbase_markup linkbases.now))) }
 {
-    let mut lines = Vec::new(alloc);
-    for linkbase in linkbases {
-        let text = linkbase_line(alloc, linkbase)?;
-        lines.push(text)?;
-    }
-    once(alloc, lines.as_slice())
+    keys_once::<ByElement, Linkbase>(alloc, linkbases)
 }
 
 /// The line of a role or an arcrole, in an element of this name with its URI in this attribute.
@@ -112,22 +103,12 @@ pub fn role_line(alloc: Global, name: &str, uri: &str, role: &RoleRef) -> Result
 pub fn role_lines(alloc: Global, roles: &[RoleRef]) -> Result<Vec<Text>, NoMemory>
     ensures { IfOk result (λ v. v.items ≡ map line (in_order line_cmp (map role_markup roles.now))) }
 {
-    let mut lines = Vec::new(alloc);
-    for role in roles {
-        let text = role_line(alloc, "link:roleRef", "roleURI", role)?;
-        lines.push(text)?;
-    }
-    once(alloc, lines.as_slice())
+    keys_once::<ByElement, RoleRef>(alloc, roles)
 }
 
 /// The lines of arcroles, in order, each once.
 pub fn arcrole_lines(alloc: Global, roles: &[RoleRef]) -> Result<Vec<Text>, NoMemory>
     ensures { IfOk result (λ v. v.items ≡ map line (in_order line_cmp (map arcrole_markup roles.now))) }
 {
-    let mut lines = Vec::new(alloc);
-    for role in roles {
-        let text = role_line(alloc, "link:arcroleRef", "arcroleURI", role)?;
-        lines.push(text)?;
-    }
-    once(alloc, lines.as_slice())
+    keys_once::<ByArcroleElement, RoleRef>(alloc, roles)
 }

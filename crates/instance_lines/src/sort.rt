@@ -1,19 +1,30 @@
 //! Texts in order, and things in the order of their keys.
-ghost use Rattle.std.specs.Prelude.{◌≡◌, map, OnOk, IfOk};
+ghost use Rattle.std.specs.Prelude.{◌≡◌, ◌++◌, ℕ, List as Items, map, OnOk, IfOk};
+ghost use Rattle.std.specs.Ordering.{on};
 ghost use Rattle.ix_base.specs.Once.{in_order};
 ghost use Rattle.ix_base.specs.SortedLists.{sorted, text_cmp};
-ghost use Rattle.instance_lines.specs.Keys.{by_key, lasts, ties_last, with_last};
+ghost use Rattle.instance_lines.specs.Keys.{by_key, keyed_by as things_keyed_by, lasts, ties_last, with_last};
 ghost use Rattle.instance_lines.specs.Tables.{values_of};
 
-use ix_base::{NoMemory, Text, each_once};
+use ix_base::{List, NoMemory, Text, each_once};
 use std::alloc::Global;
 use std::cmp::Ordering;
+use std::mem;
 
 /// Something that is put in order by a key.
 #[derive(Drop)]
 pub struct Keyed<T> {
     pub key: Text,
     pub item: T,
+}
+
+/// A way to put things in order: by a text that is made of each.
+pub trait KeyOf<T> {
+    ghost key: { T → Items ℕ };
+
+    /// The text by which a thing is put in order.
+    fn key_of(alloc: Global, item: &T) -> Result<Text, NoMemory>
+        ensures { IfOk result (λ t. t ≡ key item.now) };
 }
 
 /// How two texts compare by their bytes.
@@ -59,6 +70,23 @@ fn items_of<T: Drop>(alloc: Global, keyed: Vec<Keyed<T>>) -> Result<Vec<T>, NoMe
     Ok(items)
 }
 
+/// Adds keys, and the things without them, behind others.
+fn push_parts<T: Drop>(
+    keyed: Vec<Keyed<T>>,
+    keys: &mut Vec<Text>,
+    items: &mut Vec<T>,
+) -> Result<(), NoMemory>
+    ensures keys { OnOk result (keys.new.items ≡ keys.old.items ++ map (λ k. k.key) keyed.items) }
+    ensures items { OnOk result (items.new.items ≡ items.old.items ++ map (λ k. k.item) keyed.items) }
+{
+    for one in keyed {
+        let Keyed { key, item } = one;
+        keys.push(key)?;
+        items.push(item)?;
+    }
+    Ok(())
+}
+
 /// The keys, and the things without them.
 fn parts_of<T: Drop>(alloc: Global, keyed: Vec<Keyed<T>>) -> Result<(Vec<Text>, Vec<T>), NoMemory>
     ensures keys { IfOk result (λ p. p.0.items ≡ map (λ k. k.key) keyed.items) }
@@ -66,11 +94,7 @@ fn parts_of<T: Drop>(alloc: Global, keyed: Vec<Keyed<T>>) -> Result<(Vec<Text>, 
 {
     let mut keys = Vec::with_capacity(alloc, keyed.len())?;
     let mut items = Vec::with_capacity(alloc, keyed.len())?;
-    for one in keyed {
-        let Keyed { key, item } = one;
-        keys.push(key)?;
-        items.push(item)?;
-    }
+    push_parts(keyed, &mut keys, &mut items)?;
     Ok((keys, items))
 }
 
@@ -110,8 +134,6 @@ fn put_last<T: Drop>(kept: &mut Vec<Keyed<T>>, one: Keyed<T>) -> Result<(), NoMe
 {
     if ends_with_key(kept.as_slice(), &one) {
         kept.pop();
-        kept.push(one)?;
-        return Ok(());
     }
     kept.push(one)?;
     Ok(())
@@ -135,6 +157,43 @@ pub fn once_by_keys<T: Drop>(alloc: Global, mut keyed: Vec<Keyed<T>>) -> Result<
     sort_keyed(&mut keyed)?;
     let kept = last_of_each(alloc, keyed)?;
     items_of(alloc, kept)
+}
+
+/// Things with their keys.
+fn keyed_by<K: KeyOf<T>, T: Drop>(alloc: Global, items: List<T>) -> Result<Vec<Keyed<T>>, NoMemory>
+    ensures { IfOk result (λ v. v.items ≡ things_keyed_by K.key items) }
+{
+    let mut keyed = Vec::new(alloc);
+    for item in items.into_vec() {
+        let key = K::key_of(alloc, &item)?;
+        keyed.push(Keyed { key, item })?;
+    }
+    Ok(keyed)
+}
+
+/// Puts things in the order of their keys. Those with one key keep the order that they have.
+pub fn put_by_keys<K: KeyOf<T>, T: Drop>(alloc: Global, items: &mut List<T>) -> Result<(), NoMemory>
+    ensures { OnOk result (items.new ≡ sorted (on K.key text_cmp) items.old) }
+{
+    let taken = mem::replace(items, List::new(alloc));
+    let keyed = keyed_by::<K, T>(alloc, taken)?;
+    let ordered = by_keys(alloc, keyed)?;
+    *items = List::of(ordered);
+    Ok(())
+}
+
+/// Puts things in the order of their keys. Of those with one key the last stays.
+pub fn put_once_by_keys<K: KeyOf<T>, T: Drop>(
+    alloc: Global,
+    items: &mut List<T>,
+) -> Result<(), NoMemory>
+    ensures { OnOk result (items.new ≡ in_order (on K.key text_cmp) items.old) }
+{
+    let taken = mem::replace(items, List::new(alloc));
+    let keyed = keyed_by::<K, T>(alloc, taken)?;
+    let ordered = once_by_keys(alloc, keyed)?;
+    *items = List::of(ordered);
+    Ok(())
 }
 
 /// The texts, as they lie.
@@ -166,4 +225,16 @@ pub fn once(alloc: Global, texts: &[Text]) -> Result<Vec<Text>, NoMemory>
     let mut views = views_of(alloc, texts)?;
     each_once(&mut views);
     copies_of(alloc, views.as_slice())
+}
+
+/// The keys of things, in order, each once.
+pub fn keys_once<K: KeyOf<T>, T>(alloc: Global, items: &[T]) -> Result<Vec<Text>, NoMemory>
+    ensures { IfOk result (λ v. v.items ≡ in_order text_cmp (map K.key items.now)) }
+{
+    let mut keys = Vec::new(alloc);
+    for item in items {
+        let key = K::key_of(alloc, item)?;
+        keys.push(key)?;
+    }
+    once(alloc, keys.as_slice())
 }

@@ -1,7 +1,7 @@
 //! Writing units.
-ghost use Rattle.std.specs.Prelude.{◌≡◌, map, IfOk, OnOk};
+ghost use Rattle.std.specs.Prelude.{◌≡◌, [], map, IfOk, OnOk};
 ghost use Rattle.ix_base.specs.SortedLists.{sorted, text_cmp};
-ghost use Rattle.ix_base.specs.WrittenMarkup.{written};
+ghost use Rattle.ix_base.specs.WrittenMarkup.{node, nothing, written};
 ghost use Rattle.std.specs.Ordering.{on};
 ghost use Rattle.instance_lines.specs.Canonical.{line, measures_markup, ratio_markup, unit_markup};
 ghost use Rattle.instance_lines.specs.Gains.{Gains};
@@ -28,6 +28,22 @@ fn push_measures(
     Ok(())
 }
 
+/// Appends measures in an element of this name.
+fn push_measures_in(
+    alloc: Global,
+    prefixes: &Prefixes<'_>,
+    name: &str,
+    measures: &[OwnName],
+    out: &mut Text,
+) -> Result<(), NoMemory>
+    ensures { OnOk result (Gains out.old out.new (written (node name.now [] (measures_markup prefixes.now measures.now) nothing))) }
+{
+    push_start(name, &[], out)?;
+    push_measures(alloc, prefixes, measures, out)?;
+    push_close(name, out)?;
+    Ok(())
+}
+
 /// Appends the measures of a unit, those below under those above.
 fn push_ratio(
     alloc: Global,
@@ -46,12 +62,8 @@ fn push_ratio(
         }
         [_, ..] => {
             push_start("xbrli:divide", &[], out)?;
-            push_start("xbrli:unitNumerator", &[], out)?;
-            push_measures(alloc, prefixes, over, out)?;
-            push_close("xbrli:unitNumerator", out)?;
-            push_start("xbrli:unitDenominator", &[], out)?;
-            push_measures(alloc, prefixes, under, out)?;
-            push_close("xbrli:unitDenominator", out)?;
+            push_measures_in(alloc, prefixes, "xbrli:unitNumerator", over, out)?;
+            push_measures_in(alloc, prefixes, "xbrli:unitDenominator", under, out)?;
             push_close("xbrli:divide", out)?;
             Ok(())
         }

@@ -1,9 +1,7 @@
 -- Of what a tag declares, each prefix once leaves the scope that all leave one after another.
 use Rattle.std.proofs.Common.{◌≡◌, ℕ, Bool, true, false, if◌then◌else◌, List, [], ◌∷◌, ◌++◌, map, length, append_assoc, arith, Some, refl, sym, ap, ◌∙◌, bytes_eq}
-use Rattle.std.proofs.lemmas.List.{map-append}
 use Rattle.std.specs.Borrow.{Bor}
-use Rattle.ix_base.specs.declared.tree.Binding.{Binding}
-use Rattle.ix_base.specs.Bindings.{Bound, are_ordered, bound}
+use Rattle.ix_base.specs.Bindings.{Bound, are_ordered}
 use Rattle.ix_base.specs.Scope.{namespace_of, bound_as, bound_over, declared_over, scope_under}
 use Rattle.ix_base.proofs.UnderLemmas.{over, over-same, over-other, found-declared, found-under, ordered-over, ordered-under, one-scope}
 use Rattle.page_tree.specs.Orders.{bound_under, entered}
@@ -41,13 +39,12 @@ module _ (es : List (Bor (List ℕ) × Bor (List ℕ))) (bs : List Bound) (d : m
       (λ p. found-under (map entered es) s p ordered-once ∙ ap (λ cs. over p (namespace_of cs p) (namespace_of s p)) d ∙ sym (found-bound bs s [] s p refl))
 
 -- one more of the declarations is kept
-pub entered-more : (before more : List Binding) (b : Binding) (e : Bor (List ℕ) × Bor (List ℕ)) (left rest : List (Bor (List ℕ) × Bor (List ℕ))) (all : List Bound)
-    → more ≡ before ++ b ∷ [] → left ≡ e ∷ rest → bound b ≡ entered e → map bound before ++ map entered left ≡ all → map bound more ++ map entered rest ≡ all
-entered-more before more b e left rest all m l same h =
-    ap (λ xs. xs ++ map entered rest) (ap (map bound) m ∙ map-append bound before (b ∷ [])) ∙ append_assoc (map bound before) (bound b ∷ []) (map entered rest)
-    ∙ ap (λ x. map bound before ++ x ∷ map entered rest) same ∙ ap (λ es. map bound before ++ map entered es) (sym l) ∙ h
+pub entered-more : (before more : List Bound) (e : Bor (List ℕ) × Bor (List ℕ)) (left rest : List (Bor (List ℕ) × Bor (List ℕ))) (all : List Bound)
+    → more ≡ before ++ entered e ∷ [] → left ≡ e ∷ rest → before ++ map entered left ≡ all → more ++ map entered rest ≡ all
+entered-more before more e left rest all m l h =
+    ap (λ xs. xs ++ map entered rest) m ∙ append_assoc before (entered e ∷ []) (map entered rest) ∙ ap (λ es. before ++ map entered es) (sym l) ∙ h
 
 -- without declarations
-pub under-none : (s bs : List Bound) (es : List (Bor (List ℕ) × Bor (List ℕ))) → are_ordered s ≡ true → length es ≡ 0 → map entered es ≡ bound_under [] bs → s ≡ scope_under s bs
-under-none s bs [] h e d = under-once [] bs d s h
-under-none s bs (x ∷ es) h e d = absurd (omega arith)
+pub under-none : (s : List Bound) (es : List (Bor (List ℕ) × Bor (List ℕ))) → length es ≡ 0 → s ≡ scope_under s (map entered es)
+under-none s [] e = refl
+under-none s (x ∷ es) e = absurd (omega arith)

@@ -1,8 +1,8 @@
 -- What a tree builder has led to, when more bytes come.
-use Rattle.std.proofs.Common.{◌≡◌, ℕ, true, false, List, ◌++◌, Option, None, is_some, sym, ap, subst}
+use Rattle.std.proofs.Common.{◌≡◌, ℕ, Bool, true, false, List, ◌++◌, Option, Some, None, is_some, drop, sym, ap, subst}
 use Rattle.page_text.specs.Characters.{begun}
 use Rattle.page_tree.specs.MachineSteps.{Leads, Breaks}
-use Rattle.page_tree.specs.Buildings.{state_of}
+use Rattle.page_tree.specs.Buildings.{state_of, IsOnPage}
 use Rattle.page_constructs.specs.Constructs.{Byte, spread}
 use Rattle.page_tree.specs.Machine.{begin}
 use Rattle.page_tree.specs.Model.{HasLedTo}
@@ -11,6 +11,7 @@ use Rattle.page_tree.specs.declared.pending.Pending.{Pending}
 use Rattle.page_tree.specs.declared.setting.Setting.{Setting}
 use Rattle.page_tree.specs.declared.settle.Break.{Break}
 use Rattle.page_tree.specs.declared.tree.Building.{Building}
+use Rattle.page_tree.proofs.ActingLaws.{leads-on, breaks-on}
 use Rattle.page_tree.proofs.StandingLaws.{leads-read, breaks-text, breaks-read}
 
 module _ (s : Setting) (d : Building) (p : Pending) (broken : Option Break) (b c : List ℕ) where
@@ -62,3 +63,30 @@ led-behind s d p broken b piece some h = record {
   breaks = λ f q. breaks-read s.depth b piece (fault_at f) (h.breaks f q);
   on_page = h.on_page;
 }
+
+-- what waits is built in, from its front on
+module _ (s : Setting) (d e : Building) (p q : Pending) (broken : Option Break) (b : List ℕ) (none : broken ≡ None) (on : IsOnPage s.page d → IsOnPage s.page e) (h : HasLedTo s d p broken b) where
+  -- up to a place behind which the rest waits
+  pub led-settled : (k : ℕ) (first : Bool) → ((us : List Byte) → Waits p us → Leads false s.depth (state_of d) p.is_first us (state_of e) first (drop k us))
+      → ((us : List Byte) → Waits p us → Waits q (drop k us)) → q.is_first ≡ first → HasLedTo s e q broken b
+  led-settled k first leads waits same = record {
+    leads = λ n. let x = h.leads n in record {
+      left = drop k x.left;
+      waits = waits x.left x.waits;
+      leads = subst (λ f. Leads false s.depth begin true (spread (begun b)) (state_of e) f (drop k x.left)) (sym same)
+          (leads-on false s.depth begin (state_of d) (state_of e) true p.is_first first (spread (begun b)) x.left (drop k x.left) x.leads (leads x.left x.waits));
+    };
+    breaks = λ f q. absurd (cc);
+    on_page = on h.on_page;
+  }
+
+  -- up to a break
+  pub led-stopped : (x : Break) → ((us : List Byte) → Waits p us → Breaks false s.depth (state_of d) p.is_first us (fault_at x)) → HasLedTo s e q (Some x) b
+  led-stopped x breaks = record {
+    leads = λ n. absurd (cc);
+    breaks = λ f same.
+        let y = h.leads none in
+        subst (λ z. Breaks false s.depth begin true (spread (begun b)) (fault_at z)) (cc)
+        (breaks-on false s.depth begin (state_of d) true p.is_first (spread (begun b)) y.left (fault_at x) y.leads (breaks y.left y.waits));
+    on_page = on h.on_page;
+  }

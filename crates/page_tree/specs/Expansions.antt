@@ -1,10 +1,9 @@
 -- What the attributes of a tag stand for, each looked up once.
-use Rattle.std.specs.Prelude.{ℕ, Bool, false, true, ◌||◌, List, [], ◌∷◌, Option, Some, None, unwrap_or, if◌then◌else◌, bytes_eq, codes}
+use Rattle.std.specs.Prelude.{ℕ, Bool, false, true, ◌||◌, List, [], ◌∷◌, Option, Some, None, unwrap_or, if◌then◌else◌}
 use Rattle.std.specs.List.{list_any, filter_map}
 use Rattle.std.specs.Borrow.{Bor}
 use Rattle.ix_base.specs.Trees.{Bound, Named, Valued, named}
-use Rattle.ix_base.specs.Scope.{has_prefix, prefix_of, attribute_name}
-use Rattle.ix_base.specs.declared.tree.Name.{Name}
+use Rattle.ix_base.specs.Scope.{has_prefix, attribute_name}
 use Rattle.page_tree.specs.Tags.{declares, is_bound}
 use Rattle.page_constructs.specs.Tokens.{Attribute, Tag}
 use Rattle.page_tree.specs.declared.names.PrefixState.{PrefixState}
@@ -22,15 +21,6 @@ expansion e = record { valued = record { name = named e.name.now; value = e.valu
 
 abbrev pub prefix_in : List Bound → List ℕ → PrefixState
 prefix_in scope name = if has_prefix name then (if is_bound scope name then Known else Unknown) else Missing
-
--- the expanded name of an attribute that is no declaration, with its prefix
-abbrev pub expanded_in : List Bound → List ℕ → Option (Named × PrefixState)
-expanded_in scope name =
-    if bytes_eq name (codes "xmlns") || bytes_eq (prefix_of name) (codes "xmlns") then None
-    else Some (attribute_name scope name, prefix_in scope name)
-
-abbrev pub kept_prefix : Bor Name × PrefixState → Named × PrefixState
-kept_prefix p = (named p.0.now, p.1)
 
 -- what an attribute stands for that is no declaration
 abbrev pub expansion_of : List Bound → Attribute → Option Expansion

@@ -115,8 +115,7 @@ impl<'a> TreeBuilder<'a> {
             self.pending.clear();
             return Ok(());
         }
-        self.pending.drop_front(settled.taken, settled.sought)?;
-        Ok(())
+        self.pending.drop_front(settled.taken, settled.sought)
     }
 
     /// Sees to it that a text at this offset can be put behind what waits.
@@ -228,13 +227,9 @@ impl<'a> TreeBuilder<'a> {
         if self.broken.is_some() {
             return Ok(());
         }
-        match self.take_piece(piece) {
-            Ok(()) => Ok(()),
-            Err(NoMemory) => {
-                self.is_spent = true;
-                Err(NoMemory)
-            }
-        }
+        let taken = self.take_piece(piece);
+        self.is_spent = taken.is_err();
+        taken
     }
 
     /// How many characters wait for the end of their construct: those behind the last construct that stays cut as it is,

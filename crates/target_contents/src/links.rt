@@ -70,7 +70,12 @@ fn each_stands(index: &Index<'_>, kind: Kind, ids: &[&str]) -> bool
     requires { AreChosen index.now }
     ensures { result ≡ list_all (λ id. id_rules.stands_for kind (asked index.now) id.now) ids.now }
 {
-    ids.iter().all(|id| stands_for(index, kind, *id))
+    for id in ids {
+        if !stands_for(index, kind, *id) {
+            return false;
+        }
+    }
+    true
 }
 
 /// Whether each context and each unit that items name is there.

@@ -3,6 +3,7 @@ use Rattle.std.proofs.lemmas.List.{map-append}
 use Rattle.instance_lines.specs.Elements.{locator_text}
 use Rattle.instance_lines.specs.Tables.{values_of}
 use Rattle.instance_lines.proofs.Gathered.{values-more}
+use Rattle.instance_lines.proofs.Steps.{all_taken}
 use Rattle.instance_lines.proofs.note.locators_to.Goals as goal
 
 pub loop-id-preserved : goal.loop-id-preserved
@@ -14,3 +15,7 @@ loop-id-preserved c =
     c.in_ok-push.ensures.items ∙ ap (λ l. l ++ c.in_ok-text.text ∷ []) c.loop-id.invariant
     ∙ ap (λ r. map locator_text front ++ r ∷ []) c.in_ok-text.ensures
     ∙ sym (ap (map locator_text) (values-more xs i d c.loop-id-test.true) ∙ map-append locator_text front ((get_or xs i d).now ∷ []))
+
+pub returns : goal.returns
+returns c =
+    c.loop-id.invariant ∙ ap (λ l. map locator_text (values_of l)) (all_taken c.args.ids.now c.loop-id.id-index c.loop-id-test.false)

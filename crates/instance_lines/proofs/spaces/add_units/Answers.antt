@@ -1,7 +1,11 @@
-use Rattle.std.proofs.Common.{refl, append_assoc}
+use Rattle.std.proofs.Common.{refl, append_assoc, ◌∙◌, ◌++◌}
 use Rattle.std.specs.Prelude.{flat_map}
 use Rattle.instance_lines.specs.Canonical.{unit_names}
 use Rattle.instance_lines.proofs.SpaceLaws.{step-spaces}
+use Rattle.instance_lines.proofs.Steps.{none_left}
+use Rattle.instance_lines.specs.Tables.{values_of, own_spaces}
+use Rattle.ix_base.specs.Once.{in_order}
+use Rattle.ix_base.specs.SortedLists.{text_cmp}
 use Rattle.instance_lines.proofs.spaces.add_units.Goals as goal
 
 pub loop-unit-preserved : goal.loop-unit-preserved
@@ -10,3 +14,9 @@ loop-unit-preserved c more =
     c.loop-unit-test.true c.unit-item.is (λ ys. refl)
     (λ m. rw (c.in_ok-add_all-2.ensures, c.in_ok-add_all.ensures, c.as_slice.ensures, c.as_slice-in-loop-unit.ensures, append_assoc) refl)
     (c.loop-unit.invariant more)
+
+pub returns : goal.returns
+returns c more =
+    none_left (λ l. in_order text_cmp (values_of c.loop-unit.spaces.items ++ own_spaces (flat_map unit_names l ++ more))) c.args.units.now c.loop-unit.unit-index
+    c.loop-unit-test.false
+    ∙ c.loop-unit.invariant more

@@ -1,5 +1,6 @@
 use Rattle.std.proofs.Common.{is_some, sym, ap, ◌+◌, ◌∙◌, length, length-append}
 use Rattle.page_tree.proofs.LedLaws.{led-behind}
+use Rattle.page_tree.proofs.StandingLaws.{on-ok}
 use Rattle.page_tree.proofs.builder.TreeBuilder.feed.Goals as goal
 
 pub returns-then-is_some-clause-stands : goal.returns-then-is_some-clause-stands
@@ -18,10 +19,13 @@ returns-then-is_some-clause-stands c = λ b h.
       };
     }
 
-pub returns-in-Ok-clause-stands : goal.returns-in-Ok-clause-stands
-returns-in-Ok-clause-stands c = λ b h.
+pub returns-clause-stands : goal.returns-clause-stands
+returns-clause-stands c = λ b h.
     let r = h.built.read in
-    record {
-      counted = c.in-Ok.ensures.same.fed ∙ ap (λ n. n + length c.args.piece.now) h.counted ∙ sym (length-append b c.args.piece.now);
-      built = c.in-Ok.ensures.built b (record { read = record { reads = r.reads; led = r.led }; waits = h.built.waits });
-    }
+    on-ok c.take_piece-taken.result (λ f. record {
+      counted = c.take_piece-taken.ensures.same.fed ∙ ap (λ n. n + length c.args.piece.now) h.counted ∙ sym (length-append b c.args.piece.now);
+      built = let x = f b (record { read = record { reads = r.reads; led = r.led }; waits = h.built.waits }) in record {
+        read = record { reads = x.read.reads; led = x.read.led };
+        waits = x.waits;
+      };
+    }) c.take_piece-taken.ensures.built

@@ -1,9 +1,0 @@
-use Rattle.std.proofs.Common.{◌≡◌, map}
-use Rattle.ix_base.specs.declared.content.RoleRef.{RoleRef}
-use Rattle.instance_lines.specs.Canonical.{line, role_markup}
-use Rattle.instance_lines.specs.declared.sort.Keyed.{Keyed}
-use Rattle.instance_lines.proofs.arrangement.roles_in_order.Given as goal
-
-abbrev pub invariant-loop-role : goal.invariant-loop-role
-invariant-loop-role l =
-    l.keyed.items ≡ map {B = Keyed RoleRef} (λ (x : RoleRef). record { key = line (role_markup x); item = x }) l.yielded
